@@ -1,0 +1,6 @@
+-- The lemmas that all proofs share.
+pub mod Signed
+pub mod Lent
+pub mod Tables
+pub mod Tests
+pub mod Asked
