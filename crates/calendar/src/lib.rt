@@ -2,11 +2,13 @@
 // No loop: a year is taken to begin in March, so that a leap day is its last (Neri and Schneider's formulas).
 ghost use mathlib.Core.Path.{_≡_};
 ghost use Prim.Native.Nat.{ℕ, _+_, _-_, _*_, _≤_, _<_};
+ghost use mathlib.Core.Bool.{false};
 ghost use lib.IntN.{pos};
+ghost use lib.Signed.{ltZ};
 ghost use Rattle.laws.specs.Numbers.{up};
 ghost use Rattle.calendar.specs.Gregorian.{leapDay, monthLength, dayNumber, dateOf, Real};
 ghost use Rattle.calendar.specs.DateTimes.{dateFloor, dateCeil};
-ghost use Rattle.calendar.specs.Questions.{isDate, isDay, numberOf, dateAt};
+ghost use Rattle.calendar.specs.Questions.{isDate, isDay, belowZero, numberOf, dateAt};
 
 pub struct Date {
     pub year: u64,
@@ -112,13 +114,11 @@ pub fn date_ceil(t: DateTime) -> u64
     t.day
 }
 
-// n, or 0 where it is below 0.
+// A number that is not below 0, as a count.
 pub fn count(n: i64) -> u64
+    requires { ⌜ ltZ n (pos 0) ≡ false ⌝ }
     ensures { λ r. ⌜ r ≡ up n ⌝ }
 {
-    if n < 0 {
-        return 0;
-    }
     n as u64
 }
 
@@ -136,32 +136,44 @@ pub fn is_date(y: u64, m: u64, d: u64) -> bool
 }
 
 // Question 8 of a day number.
-pub fn is_day(n: u64) -> bool
-    ensures { λ r. ⌜ r ≡ isDay (pos n) ⌝ }
+pub fn is_day(n: i64) -> bool
+    ensures { λ r. ⌜ r ≡ isDay n ⌝ }
 {
     (1 <= n) & (n <= 3652059)
 }
 
-// The day number of any three numbers.
-pub fn number_of(t: Ymd) -> DayAnswer
-    ensures { λ r. ⌜ r ≡ numberOf t ⌝ }
+// The day number of any three counts.
+fn number_of_counts(y: u64, m: u64, d: u64) -> DayAnswer
+    ensures { λ r. ⌜ r ≡ numberOf (record { year = pos y; month = pos m; day = pos d }) ⌝ }
 {
-    let y = count(t.year);
-    let m = count(t.month);
-    let d = count(t.day);
     if !is_date(y, m, d) {
         return DayAnswer::Refused(8);
     }
     DayAnswer::Answered(day_number(y, m, d))
 }
 
+fn below_zero(t: Ymd) -> bool
+    ensures { λ r. ⌜ r ≡ belowZero t ⌝ }
+{
+    (t.year < 0) | (t.month < 0) | (t.day < 0)
+}
+
+// The day number of any three numbers. Signs are asked first: all else is then done on counts.
+pub fn number_of(t: Ymd) -> DayAnswer
+    ensures { λ r. ⌜ r ≡ numberOf t ⌝ }
+{
+    if below_zero(t) {
+        return DayAnswer::Refused(8);
+    }
+    number_of_counts(count(t.year), count(t.month), count(t.day))
+}
+
 // The date of any number.
 pub fn date_at(n: i64) -> DateAnswer
     ensures { λ r. ⌜ r ≡ dateAt n ⌝ }
 {
-    let k = count(n);
-    if !is_day(k) {
+    if !is_day(n) {
         return DateAnswer::Refused(8);
     }
-    DateAnswer::Answered(date_of(k))
+    DateAnswer::Answered(date_of(count(n)))
 }

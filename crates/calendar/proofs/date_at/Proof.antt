@@ -1,48 +1,46 @@
 -- `calendar::date_at` meets its contract. Assumes nothing.
 use borrow.Author.Needs.{needs}
-use mathlib.Core.Path.{_≡_, sym, _∙_, ap}
-use mathlib.Core.Bool.{Bool}
-use Prim.Native.Nat.{ℕ}
+use mathlib.Core.Path.{_≡_, sym, _∙_}
+use mathlib.Core.Bool.{true}
 use native.Mathlib.Omega.{arith}
-use lib.IntN.{pos}
-use mathlib.Core.Bool.{true, false}
+use borrow.Author.Tests.{not-true, not-false}
 use mir.Facts.{toZ-ofZ}
 use Rattle.laws.specs.Numbers.{up}
-use Rattle.laws.proofs.Tests.{not-true, not-false}
 use Rattle.calendar.specs.Questions.{isDay, dateAt}
-use Rattle.calendar.proofs.Questions.{day-counts, day-range}
+use Rattle.calendar.proofs.Questions.{day-count, day-range}
 use Rattle.calendar.proofs.date_at.Statement.{statement}
 use Rattle.calendar.proofs.date_at.Tie as tie
-use Rattle.calendar.proofs.date_at.Reads as reads
-use Rattle.calendar.proofs.date_at.Lts as lts
-use Rattle.calendar.proofs.count.Reads as count-reads
-use Rattle.calendar.proofs.is_day.Reads as is-day-reads
-use Rattle.calendar.proofs.date_of.Reads as date-of-reads
-
-count-requires : tie.Need-count-requires
-count-requires c κs = search needs
 
 is-day-requires : tie.Need-is-day-requires
 is-day-requires c κs = search needs
 
-counted : (c : tie.After-count) → c .count .result ≡ up (c .before .args .n)
-counted c = rw (toZ-ofZ (c .before .fits .n)) at (c .count .ensures)
-
-asked : (c : tie.After-is-day) → c .is-day .result ≡ isDay (c .before .before .args .n)
-asked c = c .is-day .ensures ∙ (ap (λ (k : ℕ). isDay (pos k)) (counted (c .before)) ∙ sym (day-counts (c .before .before .args .n)))
+asked : (c : tie.After-is-day) → c .is-day .result ≡ isDay (c .before .args .n)
+asked c = rw (toZ-ofZ (c .before .fits .n)) at (c .is-day .ensures)
 
 returns : tie.Need-returns
 unfolding dateAt
 returns c = simp (sym (asked (c .before)) ∙ not-true _ (c .if1 .taken))
 
+fine : (c : tie.Else1) → isDay (c .before .before .args .n) ≡ true
+fine c = sym (asked (c .before)) ∙ not-false _ (c .if1 .left)
+
+count-requires : tie.Need-count-requires
+count-requires c κs = rw (toZ-ofZ (c .before .before .fits .n)) (day-count (c .before .before .args .n) (fine c))
+
+counted : (c : tie.After-count) → c .count .result ≡ up (c .before .before .before .args .n)
+counted c = rw (toZ-ofZ (c .before .before .before .fits .n)) at (c .count .ensures)
+
 date-of-requires : tie.Need-date-of-requires
 date-of-requires c κs =
-    let (h, l) = day-range (c .before .before .count .result) (sym (c .before .is-day .ensures) ∙ not-false _ (c .if1 .left)) in (h, omega arith)
+    let (h, l) = day-range (c .before .before .before .args .n) (fine (c .before)) in
+    let k = counted c in
+    (omega arith, omega arith)
 
 returns-2 : tie.Need-returns-2
 unfolding dateAt
-returns-2 c = simp (sym (asked (c .before .before)) ∙ not-false _ (c .before .if1 .left), c .date-of .ensures, counted (c .before .before .before))
+returns-2 c = simp (fine (c .before .before), c .date-of .ensures, counted (c .before))
 
 pub date-at-spec : {M : Type 1} → statement M
 date-at-spec =
-    tie.close (tie.spec count-requires is-day-requires returns date-of-requires returns-2)
+    tie.close
+    (tie.spec is-day-requires returns count-requires date-of-requires returns-2)

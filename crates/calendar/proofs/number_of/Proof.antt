@@ -1,72 +1,69 @@
--- `calendar::number_of` meets its contract. Assumes nothing.
+-- `calendar::number_of` meets its contract: three numbers that are not below 0 are their counts. Assumes nothing.
 use borrow.Author.Needs.{needs}
 use mathlib.Core.Path.{_≡_, sym, _∙_, ap}
-use mathlib.Core.Bool.{Bool, true, false}
-use native.Mathlib.Omega.{arith}
-use lib.IntN.{pos}
+use mathlib.Core.Bool.{false}
+use Prim.Native.Nat.{ℕ}
+use lib.IntN.{ℤ, pos}
 use mir.Syntax.{w64}
+use lib.Signed.{ltZ}
+use mir.Val.{SFits, toZ, ofZ}
 use mir.Facts.{toZ-ofZ}
 use Rattle.laws.specs.Numbers.{up}
-use Rattle.laws.proofs.Tests.{not-true, not-false}
 use Rattle.calendar.specs.declared.Ymd.{Ymd}
-use Rattle.calendar.specs.Questions.{isDate, numberOf}
-use Rattle.calendar.proofs.Questions.{counted-date, is-real}
+use Rattle.calendar.specs.Questions.{numberOf}
+use Rattle.calendar.proofs.Questions.{no-date, Counts, counts, count-is}
 use Rattle.calendar.proofs.number_of.Statement.{statement}
 use Rattle.calendar.proofs.number_of.Tie as tie
-use Rattle.calendar.proofs.number_of.Reads as reads
-use Rattle.calendar.proofs.number_of.Lts as lts
 
-count-requires : tie.Need-count-requires
-count-requires c κs = search needs
-
-count-requires-2 : tie.Need-count-requires-2
-count-requires-2 c κs = search needs
-
-count-requires-3 : tie.Need-count-requires-3
-count-requires-3 c κs = search needs
-
-is-date-requires : tie.Need-is-date-requires
-is-date-requires c κs = search needs
-
--- the counts, and what was asked of them
-module _ (c : tie.After-is-date) where
-  abbrev t : Ymd
-  t = c .before .before .before .before .before .before .before .args .t
-
-  y-is : c .before .before .before .before .before .count .result ≡ up (t .year)
-  y-is = rw (toZ-ofZ {w = w64} {z = t .year} (search needs)) at (c .before .before .before .before .before .count .ensures)
-
-  m-is : c .before .before .before .count2 .result ≡ up (t .month)
-  m-is = rw (toZ-ofZ {w = w64} {z = t .month} (search needs)) at (c .before .before .before .count2 .ensures)
-
-  d-is : c .before .count3 .result ≡ up (t .day)
-  d-is = rw (toZ-ofZ {w = w64} {z = t .day} (search needs)) at (c .before .count3 .ensures)
-
-  asked : c .is-date .result ≡ isDate (t .year) (t .month) (t .day)
-  asked = c .is-date .ensures ∙ counted-date (t .year) (t .month) (t .day) _ _ _ y-is m-is d-is
+below-zero-requires : tie.Need-below-zero-requires
+below-zero-requires c κs = search needs
 
 returns : tie.Need-returns
 unfolding numberOf
-returns c = simp (sym (asked (c .before)) ∙ not-true _ (c .if1 .taken))
+returns c = simp (no-date (c .before .before .args .t) (sym (c .before .below-zero .ensures) ∙ c .if1 .taken))
 
-day-number-requires : tie.Need-day-number-requires
-day-number-requires c κs =
-    let (r, h) = is-real _ _ _ (sym (c .before .is-date .ensures) ∙ not-false _ (c .if1 .left)) in (r, omega arith)
+fine : (c : tie.Else1) → Counts (c .before .before .args .t)
+fine c = counts (c .before .before .args .t) (sym (c .before .below-zero .ensures) ∙ c .if1 .left)
+
+back : (z : ℤ) → SFits w64 z → ltZ z (pos 0) ≡ false → ltZ (toZ w64 (ofZ w64 z)) (pos 0) ≡ false
+back z f e = rw (toZ-ofZ f) e
+
+count-requires : tie.Need-count-requires
+count-requires c κs = back (c .before .before .before .args .t .year) (search needs) (fine (c .before) .year)
+
+count-requires-2 : tie.Need-count-requires-2
+count-requires-2 c κs = let e = c .before .before .before in back (e .before .before .args .t .month) (search needs) (fine e .month)
+
+count-requires-3 : tie.Need-count-requires-3
+count-requires-3 c κs = let e = c .before .before .before .before .before in back (e .before .before .args .t .day) (search needs) (fine e .day)
+
+number-of-counts-requires : tie.Need-number-of-counts-requires
+number-of-counts-requires c κs = search needs
+
+-- a count is the number that it was made of
+same : (z : ℤ) (n : ℕ) → SFits w64 z → ltZ z (pos 0) ≡ false → n ≡ up (toZ w64 (ofZ w64 z)) → pos n ≡ z
+same z n f e p = ap pos (p ∙ ap up (toZ-ofZ f)) ∙ count-is z e
 
 returns-2 : tie.Need-returns-2
-unfolding numberOf
 returns-2 c =
-    let q = c .before .before in
-    simp (sym (asked q) ∙ not-false _ (c .before .if1 .left), c .day-number .ensures, y-is q, m-is q, d-is q)
+    let d = c .before in
+    let m = d .before .before in
+    let y = m .before .before in
+    let k = fine (y .before .before) in
+    let t = y .before .before .before .before .args .t in
+    let p = same (t .year) _ (search needs) (k .year) (y .count .ensures) in
+    let q = same (t .month) _ (search needs) (k .month) (m .count2 .ensures) in
+    let r = same (t .day) _ (search needs) (k .day) (d .count3 .ensures) in
+    c .number-of-counts .ensures ∙ (λ i. numberOf (record { year = p i; month = q i; day = r i }))
 
 pub number-of-spec : {M : Type 1} → statement M
 number-of-spec =
     tie.close
     (tie.spec
+    below-zero-requires
+    returns
     count-requires
     count-requires-2
     count-requires-3
-    is-date-requires
-    returns
-    day-number-requires
+    number-of-counts-requires
     returns-2)
