@@ -184,6 +184,21 @@ monthLength-range y m h =
     let t = in-year usual 13 usuals y m (omega arith) in
     rw (length-like y m) (leb→le _ _ (and-l (leb 28 n) (leb n 31) t), leb→le _ _ (and-r (leb 28 n) (leb n 31) t))
 
+long : ℕ → ℕ → Bool
+long l m = eqb m 2 || leb 30 (monthLength (like l) m)
+
+longs : T (all (both long 13) 2)
+unfolding both long monthLength leapDay all
+longs = tt
+
+-- all but February have 30
+pub monthLength-long : (y m : ℕ) → m ≤ 12 → eqb m 2 ≡ false → 30 ≤ monthLength y m
+unfolding long
+monthLength-long y m h e =
+    let n = monthLength (like (leapDay y)) m in
+    let t = in-year long 13 longs y m (omega arith) in
+    rw (length-like y m) (leb→le 30 n (subst (λ (b : Bool). T (b || leb 30 n)) e t))
+
 pub monthLength-le : (y m : ℕ) → m ≤ 12 → monthLength y m ≤ 31
 monthLength-le y m h = monthLength-range y m h .1
 

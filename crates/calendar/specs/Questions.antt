@@ -1,10 +1,10 @@
 -- The calendar's operations on raw numbers: question 8 and the answers. Definitions only.
 -- A refusal carries the question's number.
-use mathlib.Core.Bool.{Bool, _&&_, _||_}
+use mathlib.Core.Bool.{Bool, _&&_}
 use mathlib.Core.List.{List, [], _∷_}
 use Prim.Native.Nat.{ℕ, zero, suc}
 use lib.IntN.{ℤ, pos}
-use lib.Signed.{ltZ}
+use lib.Signed.{leZ}
 use Rattle.laws.specs.Asking.{Question, ask, firstNo}
 use Rattle.laws.specs.Numbers.{within, up}
 use Rattle.calendar.specs.Gregorian.{monthLength, dayNumber, dateOf}
@@ -24,9 +24,9 @@ isDate y m d = within (pos 1) y (pos 9999) && (within (pos 1) m (pos 12) && with
 unfoldable pub isDay : ℤ → Bool
 isDay n = within (pos 1) n (pos 3652059)
 
--- some of the numbers is negative
-abbrev pub belowZero : Ymd → Bool
-belowZero t = (ltZ (t .year) (pos 0) || ltZ (t .month) (pos 0)) || ltZ (t .day) (pos 0)
+-- the same, but for the month's length
+unfoldable pub inRanges : Ymd → Bool
+inRanges t = (within (pos 1) (t .year) (pos 9999) && within (pos 1) (t .month) (pos 12)) && leZ (pos 1) (t .day)
 
 abbrev pub dateQuestions : ℤ → ℤ → ℤ → List Question
 dateQuestions y m d = ask 8 (isDate y m d) ∷ []

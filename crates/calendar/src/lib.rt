@@ -2,13 +2,14 @@
 // No loop: a year is taken to begin in March, so that a leap day is its last (Neri and Schneider's formulas).
 ghost use mathlib.Core.Path.{_≡_};
 ghost use Prim.Native.Nat.{ℕ, _+_, _-_, _*_, _≤_, _<_};
-ghost use mathlib.Core.Bool.{false};
+ghost use mathlib.Core.Bool.{true, false};
+ghost use lib.Dec.{leb};
 ghost use lib.IntN.{pos};
 ghost use lib.Signed.{ltZ};
 ghost use Rattle.laws.specs.Numbers.{up};
 ghost use Rattle.calendar.specs.Gregorian.{leapDay, monthLength, dayNumber, dateOf, Real};
 ghost use Rattle.calendar.specs.DateTimes.{dateFloor, dateCeil};
-ghost use Rattle.calendar.specs.Questions.{isDate, isDay, belowZero, numberOf, dateAt};
+ghost use Rattle.calendar.specs.Questions.{inRanges, isDay, numberOf, dateAt};
 
 pub struct Date {
     pub year: u64,
@@ -122,15 +123,13 @@ pub fn count(n: i64) -> u64
     n as u64
 }
 
-// Question 8 of a year, month and day. Only the last days of a month ask for its length.
-pub fn is_date(y: u64, m: u64, d: u64) -> bool
-    ensures { λ r. ⌜ r ≡ isDate (pos y) (pos m) (pos d) ⌝ }
+// Has the month a day d? Every month but February has 30, so only its last days and a 31st ask for the length.
+fn has_day(y: u64, m: u64, d: u64) -> bool
+    requires { ⌜ (1 ≤ m) × (m ≤ 12) ⌝ }
+    ensures { λ r. ⌜ r ≡ leb d (monthLength y m) ⌝ }
 {
-    if !((1 <= y) & (y <= 9999) & ((1 <= m) & (m <= 12))) {
-        return false;
-    }
-    if d <= 28 {
-        return 1 <= d;
+    if (d <= 28) | ((d <= 30) & (m != 2)) {
+        return true;
     }
     d <= month_length(y, m)
 }
@@ -142,30 +141,31 @@ pub fn is_day(n: i64) -> bool
     (1 <= n) & (n <= 3652059)
 }
 
-// The day number of any three counts.
-fn number_of_counts(y: u64, m: u64, d: u64) -> DayAnswer
+// Question 8 of three numbers, but for the month's length.
+fn in_ranges(t: Ymd) -> bool
+    ensures { λ r. ⌜ r ≡ inRanges t ⌝ }
+{
+    (1 <= t.year) & (t.year <= 9999) & ((1 <= t.month) & (t.month <= 12)) & (1 <= t.day)
+}
+
+fn number_in_ranges(y: u64, m: u64, d: u64) -> DayAnswer
+    requires { ⌜ inRanges (record { year = pos y; month = pos m; day = pos d }) ≡ true ⌝ }
     ensures { λ r. ⌜ r ≡ numberOf (record { year = pos y; month = pos m; day = pos d }) ⌝ }
 {
-    if !is_date(y, m, d) {
+    if !has_day(y, m, d) {
         return DayAnswer::Refused(8);
     }
     DayAnswer::Answered(day_number(y, m, d))
 }
 
-fn below_zero(t: Ymd) -> bool
-    ensures { λ r. ⌜ r ≡ belowZero t ⌝ }
-{
-    (t.year < 0) | (t.month < 0) | (t.day < 0)
-}
-
-// The day number of any three numbers. Signs are asked first: all else is then done on counts.
+// The day number of any three numbers.
 pub fn number_of(t: Ymd) -> DayAnswer
     ensures { λ r. ⌜ r ≡ numberOf t ⌝ }
 {
-    if below_zero(t) {
+    if !in_ranges(t) {
         return DayAnswer::Refused(8);
     }
-    number_of_counts(count(t.year), count(t.month), count(t.day))
+    number_in_ranges(count(t.year), count(t.month), count(t.day))
 }
 
 // The date of any number.

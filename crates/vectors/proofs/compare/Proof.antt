@@ -1,4 +1,4 @@
--- `vectors::compare` is safe and ends: at most one row is counted at each place. Assumes nothing.
+-- `vectors::compare` is safe and ends: each line counts for one at most. Assumes nothing.
 use Prim.Native.Nat.{_≤_, _-_}
 use native.Mathlib.Omega.{arith}
 use lib.ListN.{length}
@@ -6,22 +6,22 @@ use Rattle.vectors.proofs.compare.Statement.{statement}
 use Rattle.vectors.proofs.compare.Tie as tie
 
 abbrev Inv-loop : tie.InvT-loop
-Inv-loop text rows₀ differ₀ at₀ rows differ at = (at ≤ length text) × (rows ≤ at) × (differ ≤ at)
+Inv-loop text dates₀ days₀ differ₀ at₀ dates days differ at = (at ≤ length text) × (dates ≤ at) × (days ≤ at) × (differ ≤ at)
 
 abbrev μ-loop : tie.MeasureT-loop
-μ-loop text rows₀ differ₀ at₀ rows differ at = length text - at
+μ-loop text dates₀ days₀ differ₀ at₀ dates days differ at = length text - at
 
 loop-holds : tie.Need-loop-holds Inv-loop μ-loop
 loop-holds c = omega arith
 
-row-requires : tie.Need-row-requires Inv-loop μ-loop
-row-requires c κs = omega arith
+compare-line-requires : tie.Need-compare-line-requires Inv-loop μ-loop
+compare-line-requires c κs = omega arith
 
-add-rows : tie.Need-add-rows Inv-loop μ-loop
-add-rows c = omega arith
+add-dates : tie.Need-add-dates Inv-loop μ-loop
+add-dates c = omega arith
 
-differing-row-requires : tie.Need-differing-row-requires Inv-loop μ-loop
-differing-row-requires c κs = omega arith
+add-days : tie.Need-add-days Inv-loop μ-loop
+add-days c = omega arith
 
 add-differ : tie.Need-add-differ Inv-loop μ-loop
 add-differ c = omega arith
@@ -45,9 +45,9 @@ compare-spec =
     Inv-loop
     μ-loop
     loop-holds
-    row-requires
-    add-rows
-    differing-row-requires
+    compare-line-requires
+    add-dates
+    add-days
     add-differ
     line-end-requires
     loop-less
