@@ -1,13 +1,12 @@
 // Nanoseconds per call of the calendar's two exports beside libstdc++ and chrono, in one process on the same inputs.
-// The calls are independent of each other; each side's answers are summed, and the sums must be equal.
-#include <algorithm>
+// libstdc++ over its own types and over ours, with and without ok().
 #include <chrono>
 #include <cstdint>
 #include <cstdio>
-#include <functional>
 #include <random>
 #include <vector>
 
+#include "measure.h"
 #include "ordered.h"
 #include "sides.h"
 
@@ -21,43 +20,14 @@ struct Small {
     uint8_t month, day;
 };
 
-struct Side {
-    const char *name;
-    std::function<uint64_t()> pass;
-    double best = 1e9;
-    uint64_t sum = 0;
-};
-
 uint64_t packed(int64_t year, int64_t month, int64_t day) { return year * 512 + month * 32 + day; }
 
-// The loop is a template, so that each side's call stands in it directly.
-template <class Call, class Input> auto loop(const std::vector<Input> &inputs, int times, Call call) {
-    return [&inputs, times, call] {
-        uint64_t sum = 0;
-        for (int i = 0; i < times; i++)
-            for (const Input &input : inputs)
-                sum += call(input);
-        return sum;
-    };
-}
-
 bool measure(const char *what, int calls, std::vector<Side> sides) {
-    using clock = std::chrono::steady_clock;
-    // Round by round over all sides: a slow moment of the machine meets each of them.
-    for (int round = 0; round < ROUNDS; round++)
-        for (Side &side : sides) {
-            auto start = clock::now();
-            side.sum = side.pass();
-            std::chrono::duration<double, std::nano> spent = clock::now() - start;
-            side.best = std::min(side.best, spent.count() / calls);
-        }
+    bool same = run_rounds(ROUNDS, calls, sides);
     std::printf("\n%-40s %8s %12s   sum %llu\n", what, "ns/call", "ordered/it", (unsigned long long)sides[0].sum);
-    bool same = true;
-    for (const Side &side : sides) {
-        same = same && side.sum == sides[0].sum;
+    for (const Side &side : sides)
         std::printf("  %-38s %8.2f %12.2f%s\n", side.name, side.best, sides[0].best / side.best,
                     side.sum == sides[0].sum ? "" : "   ANOTHER SUM");
-    }
     return same;
 }
 

@@ -1,17 +1,28 @@
 // The C interface: takes numbers, calls, and turns the answer into numbers.
 // include/ordered.h declares the same functions for C.
+use axis::Axis;
+use axis::Limits;
 use calendar::DateAnswer;
 use calendar::DayAnswer;
 use calendar::Ymd;
+use mapping::Pixel;
+use values::Value;
 ghost use mathlib.Core.Path.{_≡_};
 ghost use Rattle.calendar.specs.Questions.{numberOf, dateAt};
-ghost use Rattle.ordered.specs.Replies.{dayReply, dateReply};
+ghost use Rattle.mapping.specs.Mapping.{mapped};
+ghost use Rattle.ordered.specs.Replies.{dayReply, dateReply, pixelReply};
 
 // A day number.
 #[repr(C)]
 pub struct OrderedNumber {
     pub status: i64,
     pub value: i64,
+}
+
+#[repr(C)]
+pub struct OrderedPixel {
+    pub status: i64,
+    pub pixel: i64,
 }
 
 #[repr(C)]
@@ -59,6 +70,47 @@ pub extern "C" fn ordered_date_of(day_number: i64) -> OrderedDate
             year: 0,
             month: 0,
             day: 0,
+        },
+    }
+}
+
+#[no_mangle]
+pub extern "C" fn ordered_map(
+    kind: i64,
+    start_head: i64,
+    start_tail: i64,
+    end_head: i64,
+    end_tail: i64,
+    low: i64,
+    high: i64,
+    head: i64,
+    tail: i64,
+) -> OrderedPixel
+    ensures { λ r. ⌜ r ≡ pixelReply (mapped (record { kind = kind; «start_head» = «start_head»; «start_tail» = «start_tail»; «end_head» = «end_head»; «end_tail» = «end_tail» }) (record { low = low; high = high }) (record { head = head; tail = tail })) ⌝ }
+{
+    let a = Axis {
+        kind: kind,
+        start_head: start_head,
+        start_tail: start_tail,
+        end_head: end_head,
+        end_tail: end_tail,
+    };
+    let l = Limits {
+        low: low,
+        high: high,
+    };
+    let v = Value {
+        head: head,
+        tail: tail,
+    };
+    match mapping::map(a, l, v) {
+        Pixel::At(p) => OrderedPixel {
+            status: 0,
+            pixel: p,
+        },
+        Pixel::Refused(q) => OrderedPixel {
+            status: q as i64,
+            pixel: 0,
         },
     }
 }

@@ -1,0 +1,4 @@
+-- What the crate's proofs share, and its callers' may cite.
+pub mod Axes
+pub mod Questions
+pub mod PixelRanges

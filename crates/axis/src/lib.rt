@@ -1,0 +1,271 @@
+// An axis, its limits and its hints by value, and the questions that come before an answer: one test for each, and the
+// first rows of them. Also the span of an axis and a value's offset on it.
+use values::Nanoseconds;
+use values::Value;
+ghost use mathlib.Core.Path.{_≡_};
+ghost use mathlib.Core.Bool.{true};
+ghost use lib.IntN.{pos};
+ghost use Rattle.laws.specs.Asking.{next, firstNo};
+ghost use Rattle.values.specs.Values.{isValue};
+ghost use Rattle.values.specs.Differences.{nanosecondsOf, wholeDays};
+ghost use Rattle.axis.specs.Axes.{start, end, spanOf, offsetOf};
+ghost use Rattle.axis.specs.Questions.{known, hasUnmap, hasIndex, hasPeriod, ends, inOrder, nearZero, nearOrLong};
+ghost use Rattle.axis.specs.Questions.{boldHint, lightHint, isPixel, pixels, differ, unmapPixels};
+ghost use Rattle.axis.specs.Questions.{valueOn, isIndex, mappable, fitsI32, hasRoom};
+ghost use Rattle.axis.specs.Questions.{plainQuestions, axisQuestions};
+
+pub struct Axis {
+    pub kind: i64,
+    pub start_head: i64,
+    pub start_tail: i64,
+    pub end_head: i64,
+    pub end_tail: i64,
+}
+
+// The pixels of start and of end.
+pub struct Limits {
+    pub low: i64,
+    pub high: i64,
+}
+
+// A bold hint: at most n ticks.
+pub struct BoldPoints {
+    pub n: i64,
+}
+
+// A light hint: the count of bold ticks, and at most n ticks.
+pub struct LightPoints {
+    pub bold: i64,
+    pub n: i64,
+}
+
+pub fn start(a: Axis) -> Value
+    ensures { λ r. ⌜ r ≡ start a ⌝ }
+{
+    Value {
+        head: a.start_head,
+        tail: a.start_tail,
+    }
+}
+
+pub fn end(a: Axis) -> Value
+    ensures { λ r. ⌜ r ≡ end a ⌝ }
+{
+    Value {
+        head: a.end_head,
+        tail: a.end_tail,
+    }
+}
+
+// One more question, where q is the refusal so far.
+pub fn ask(q: u8, number: u8, yes: bool) -> u8
+    ensures { λ r. ⌜ r ≡ next q number yes ⌝ }
+{
+    if q != 0 {
+        return q;
+    }
+    if yes {
+        return 0;
+    }
+    number
+}
+
+// Question 1.
+pub fn known(a: Axis) -> bool
+    ensures { λ r. ⌜ r ≡ known a ⌝ }
+{
+    (1 <= a.kind) & (a.kind <= 7)
+}
+
+// Question 2 of unmapping.
+pub fn has_unmap(a: Axis) -> bool
+    ensures { λ r. ⌜ r ≡ hasUnmap a ⌝ }
+{
+    (1 <= a.kind) & (a.kind <= 6)
+}
+
+// Question 2 of indices, size, next, previous, values and segments.
+pub fn has_index(a: Axis) -> bool
+    ensures { λ r. ⌜ r ≡ hasIndex a ⌝ }
+{
+    ((1 <= a.kind) & (a.kind <= 3)) | ((5 <= a.kind) & (a.kind <= 6))
+}
+
+// Question 2 of the period.
+pub fn has_period(a: Axis) -> bool
+    ensures { λ r. ⌜ r ≡ hasPeriod a ⌝ }
+{
+    ((4 <= a.kind) & (a.kind <= 4)) | ((7 <= a.kind) & (a.kind <= 7))
+}
+
+// Question 3.
+pub fn ends(a: Axis) -> bool
+    ensures { λ r. ⌜ r ≡ ends a ⌝ }
+{
+    values::is_value(a.kind, start(a)) & values::is_value(a.kind, end(a))
+}
+
+// Question 4.
+pub fn in_order(a: Axis) -> bool
+    ensures { λ r. ⌜ r ≡ inOrder a ⌝ }
+{
+    let s = start(a);
+    let e = end(a);
+    !values::earlier(e, s)
+}
+
+// From start to end, in nanoseconds.
+pub fn span(a: Axis) -> Nanoseconds
+    requires { ⌜ ends a ≡ true ⌝ }
+    ensures { λ r. ⌜ r ≡ nanosecondsOf (spanOf a) ⌝ }
+{
+    values::nanoseconds_between(a.kind, start(a), end(a))
+}
+
+// From start to end, in whole days.
+pub fn span_days(a: Axis) -> i64
+    requires { ⌜ ends a ≡ true ⌝ }
+    ensures { λ r. ⌜ r ≡ wholeDays (spanOf a) ⌝ }
+{
+    values::whole_days_between(a.kind, start(a), end(a))
+}
+
+// From start to v, in nanoseconds.
+pub fn offset(a: Axis, v: Value) -> Nanoseconds
+    requires { ⌜ (ends a ≡ true) × (valueOn a v ≡ true) ⌝ }
+    ensures { λ r. ⌜ r ≡ nanosecondsOf (offsetOf a v) ⌝ }
+{
+    values::nanoseconds_between(a.kind, start(a), v)
+}
+
+// From start to v, in whole days.
+pub fn offset_days(a: Axis, v: Value) -> i64
+    requires { ⌜ (ends a ≡ true) × (valueOn a v ≡ true) ⌝ }
+    ensures { λ r. ⌜ r ≡ wholeDays (offsetOf a v) ⌝ }
+{
+    values::whole_days_between(a.kind, start(a), v)
+}
+
+// Is a duration within 4 × 10^18 ns, that is 4 × 10^9 s, of zero?
+pub fn near_zero(v: Value) -> bool
+    requires { ⌜ isValue (pos 7) v ≡ true ⌝ }
+    ensures { λ r. ⌜ r ≡ nearZero v ⌝ }
+{
+    (-4000000000 <= v.head) & ((v.head < 4000000000) | ((v.head <= 4000000000) & (v.tail <= 0)))
+}
+
+// Question 5. The span of most axes is not needed for it.
+pub fn near_or_long(a: Axis) -> bool
+    requires { ⌜ (ends a ≡ true) × (inOrder a ≡ true) ⌝ }
+    ensures { λ r. ⌜ r ≡ nearOrLong a ⌝ }
+{
+    if !values::is_duration(a.kind) {
+        return true;
+    }
+    if near_zero(start(a)) & near_zero(end(a)) {
+        return true;
+    }
+    let s = span(a);
+    !s.fits
+}
+
+// Question 6 of a bold hint.
+pub fn bold_hint(a: Axis, h: BoldPoints) -> bool
+    ensures { λ r. ⌜ r ≡ boldHint a h ⌝ }
+{
+    ((0 <= h.n) & (h.n <= 4096)) & (!((4 <= a.kind) & (a.kind <= 7)) | (1 <= h.n))
+}
+
+// Question 6 of a light hint.
+pub fn light_hint(a: Axis, h: LightPoints) -> bool
+    ensures { λ r. ⌜ r ≡ lightHint a h ⌝ }
+{
+    ((0 <= h.bold) & (h.bold <= 4096))
+        & (((0 <= h.n) & (h.n <= 4096)) & (!((4 <= a.kind) & (a.kind <= 7)) | (1 <= h.n)))
+}
+
+// Question 7 of limits.
+pub fn pixels(l: Limits) -> bool
+    ensures { λ r. ⌜ r ≡ pixels l ⌝ }
+{
+    ((-32767 <= l.low) & (l.low <= 32767)) & ((-32767 <= l.high) & (l.high <= 32767))
+}
+
+// Question 7 of a pixel.
+pub fn is_pixel(p: i64) -> bool
+    ensures { λ r. ⌜ r ≡ isPixel p ⌝ }
+{
+    (-32767 <= p) & (p <= 32767)
+}
+
+// Question 7 of limits to unmap by: are they different?
+pub fn differ(l: Limits) -> bool
+    ensures { λ r. ⌜ r ≡ differ l ⌝ }
+{
+    (l.low < l.high) | (l.high < l.low)
+}
+
+// Question 7 of unmapping.
+pub fn unmap_pixels(l: Limits, p: i64) -> bool
+    ensures { λ r. ⌜ r ≡ unmapPixels l p ⌝ }
+{
+    pixels(l) & (is_pixel(p) & differ(l))
+}
+
+// Question 8 of a value.
+pub fn value_on(a: Axis, v: Value) -> bool
+    ensures { λ r. ⌜ r ≡ valueOn a v ⌝ }
+{
+    values::is_value(a.kind, v)
+}
+
+// Question 8 of an index.
+pub fn is_index(i: i64) -> bool
+    ensures { λ r. ⌜ r ≡ isIndex i ⌝ }
+{
+    (0 <= i) & (i <= 3652059)
+}
+
+// Question 9: is start before end, or v equal to start?
+pub fn mappable(a: Axis, v: Value) -> bool
+    ensures { λ r. ⌜ r ≡ mappable a v ⌝ }
+{
+    values::earlier(start(a), end(a))
+        | (((a.start_head <= v.head) & (v.head <= a.start_head))
+            & ((a.start_tail <= v.tail) & (v.tail <= a.start_tail)))
+}
+
+// Question 10 of a number.
+pub fn fits_i32(n: i64) -> bool
+    ensures { λ r. ⌜ r ≡ fitsI32 n ⌝ }
+{
+    (-2147483648 <= n) & (n <= 2147483647)
+}
+
+// Question 11. Half of the lent numbers: twice the ticks could be too many to count.
+pub fn has_room(lent: usize, ticks: u64) -> bool
+    ensures { λ r. ⌜ r ≡ hasRoom lent ticks ⌝ }
+{
+    ticks <= lent as u64 / 2
+}
+
+// The questions of an axis; has: the kind has the operation.
+pub fn plain_refusal(a: Axis, has: bool) -> u8
+    ensures { λ r. ⌜ r ≡ firstNo (plainQuestions has a) ⌝ }
+{
+    let q = ask(0, 1, known(a));
+    let q = ask(q, 2, has);
+    let q = ask(q, 3, ends(a));
+    ask(q, 4, in_order(a))
+}
+
+// The same, for operations that kind 7 has. Question 5 is asked of real values in order.
+pub fn axis_refusal(a: Axis, has: bool) -> u8
+    ensures { λ r. ⌜ r ≡ firstNo (axisQuestions has a) ⌝ }
+{
+    let q = plain_refusal(a, has);
+    if q != 0 {
+        return q;
+    }
+    ask(q, 5, near_or_long(a))
+}

@@ -1,0 +1,211 @@
+-- A float's whole part by its bit pattern, and the saturating casts by that whole part and the sign. A pattern has an
+-- exponent e and 52 digits t; where e is not 0, the number is (2 ^ 52 + t) * 2 ^ (e - 1075). Assumes nothing.
+use mathlib.Core.Path.{_≡_, refl, sym, ap, _∙_, subst}
+use mathlib.Core.Logic.{inl, inr}
+use mathlib.Core.Bool.{Bool, true, false, not, cond}
+use Prim.Native.Nat.{ℕ, zero, suc, _+_, _-_, _*_, _/_, _%_, _^_, _≤_, _<_, min, zero-le}
+use native.Mathlib.Nat.{le-trans, le-of-eq, lt-of-lt-of-le, mul-assoc, mul-le-mul, mul-one, div-eq-of-lt, mul-div-cancel, le-div-iff-mul-le, not-suc-le-zero, lt-of-le-of-lt, add-comm, div-le-self, mod-eq-of-lt, eq-or-lt-of-le, eq-zero-or-pos, zero-div}
+use native.Mathlib.Omega.{arith}
+use lib.Dec.{T, eqb, ltb, lit<, lit≤}
+use lib.IntN.{ℤ, pos, negℤ}
+use lib.Pow.{pow-add, pow-pos, pow-mono, shl-lt}
+use lib.Ieee.{Float, nan, inf, fin, binary64, up, down, lt, ne, eq, isNan, ofFields, ofBits, toSigned, toUnsigned}
+use lib.Ieee.Exact.{HasValue, odd-sign}
+use lib.Ieee.Nearest.{div-same}
+use lib.Ieee.Compare.{differs-from-itself}
+use lib.Ieee.Fits.{down-pos}
+use borrow.Author.Tests.{ne-eqb, le-ltb, ltb-false}
+use Rattle.floats.specs.Rounding.{absF}
+use Rattle.floats.proofs.Values.{unsigned-val}
+
+-- ---- the pattern's number
+digits-val : (s : Bool) (e t : ℕ) → 0 < e → e < 2047 → HasValue (ofFields binary64 s e t) s ((t + 2 ^ 52) * 2 ^ (e - 1)) (2 ^ 1074)
+unfolding ofFields
+digits-val s zero t p l = absurd (not-suc-le-zero p)
+digits-val s (suc k) t p l =
+    let d : eqb (suc k) 2047 ≡ false = ne-eqb (suc k) 2047 (λ (h : suc k ≡ 2047). omega arith) in
+    let b : suc k - 1 ≡ k = omega arith in
+    rw (d, b, add-comm t (2 ^ 52)) (odd-sign 53 s (2 ^ 52 + t) k 1074)
+
+abs-val : (x : Float) (s : Bool) (a c : ℕ) → HasValue x s a c → HasValue (absF x) false a c
+unfolding absF
+abs-val nan s a c h = h
+abs-val (inf t) s a c h = h
+abs-val (fin t m e) s a c h = (refl, h .1)
+
+whole-val : (x : Float) (s : Bool) (a c : ℕ) → 0 < c → HasValue x s a c → toUnsigned 64 (absF x) ≡ min (a / c) (2 ^ 64 - 1)
+whole-val x s a c C h = unsigned-val 64 (absF x) false a c C (abs-val x s a c h)
+
+-- without a leading digit it is below 1, and with all of the exponent's digits set it is infinite
+no-field : (s : Bool) (t : ℕ) → t < 2 ^ 52 → toUnsigned 64 (absF (ofFields binary64 s 0 t)) ≡ 0
+unfolding ofFields
+no-field s t h =
+    whole-val (ofFields binary64 s 0 t) s (t * 1) (2 ^ 1074) (pow-pos 1074) (odd-sign 53 s t 0 1074)
+    ∙ ap (λ (x : ℕ). min x (2 ^ 64 - 1)) (div-eq-of-lt (lt-of-le-of-lt (le-of-eq (mul-one t)) (lt-of-lt-of-le h (lit≤ tt))))
+
+all-set : (s : Bool) (t : ℕ) → T (not (isNan (ofFields binary64 s 2047 t))) → toUnsigned 64 (absF (ofFields binary64 s 2047 t)) ≡ 2 ^ 64 - 1
+unfolding ofFields toUnsigned absF isNan
+all-set s t = go (eqb t 0)
+  where
+    go : (b : Bool) → T (not (isNan (cond b (inf s) nan))) → toUnsigned 64 (absF (cond b (inf s) nan)) ≡ 2 ^ 64 - 1
+    go true u = refl
+    go false u = absurd u
+
+least : (q : ℕ) → q < 2 ^ 64 → min q (2 ^ 64 - 1) ≡ q
+least q h = omega arith
+
+module _ (s : Bool) (e t : ℕ) (T52 : t < 2 ^ 52) where
+  abbrev d : ℕ
+  d = t + 2 ^ 52
+
+  d-hi : d < 2 ^ 53
+  d-hi = omega arith
+
+  whole-is : (q : ℕ) → 0 < e → e < 2047 → d * 2 ^ (e - 1) / 2 ^ 1074 ≡ q → q < 2 ^ 64 → toUnsigned 64 (absF (ofFields binary64 s e t)) ≡ q
+  whole-is q p l h r = whole-val (ofFields binary64 s e t) s (d * 2 ^ (e - 1)) (2 ^ 1074) (pow-pos 1074) (digits-val s e t p l) ∙ ap (λ (x : ℕ). min x (2 ^ 64 - 1)) h ∙ least q r
+
+  -- below 1
+  pub small : e < 1023 → toUnsigned 64 (absF (ofFields binary64 s e t)) ≡ 0
+  small l = elim (eq-zero-or-pos e) [ inl z ↦ rw z (no-field s t T52) | inr p ↦ whole-is 0 p (omega arith) (div-eq-of-lt (lt-of-lt-of-le (shl-lt 53 (e - 1) d-hi) (pow-mono room))) (lit< tt) ]
+    where
+      room : 53 + (e - 1) ≤ 1074
+      room = omega arith
+
+  -- the digits below 1 are dropped
+  pub middle : 1023 ≤ e → e ≤ 1075 → toUnsigned 64 (absF (ofFields binary64 s e t)) ≡ (t + 2 ^ 52) / 2 ^ (1075 - e)
+  middle a b =
+      whole-is (d / 2 ^ (1075 - e)) (omega arith) (omega arith)
+      (div-same (d * 2 ^ (e - 1)) (2 ^ 1074) d (2 ^ (1075 - e)) (pow-pos 1074) (pow-pos (1075 - e))
+      (mul-assoc d (2 ^ (e - 1)) (2 ^ (1075 - e)) ∙ ap (λ (x : ℕ). d * x) (sym (pow-add 2 (e - 1) (1075 - e)) ∙ ap (λ (x : ℕ). 2 ^ x) places)))
+      (lt-of-le-of-lt (div-le-self d (2 ^ (1075 - e))) (lt-of-lt-of-le d-hi (lit≤ tt)))
+    where
+      places : e - 1 + (1075 - e) ≡ 1074
+      places = omega arith
+
+  -- and above 2 ^ 53 there are none
+  pub large : 1075 < e → e < 1087 → toUnsigned 64 (absF (ofFields binary64 s e t)) ≡ (t + 2 ^ 52) * 2 ^ (e - 1075) % 2 ^ 64
+  large a b =
+      whole-is (d * 2 ^ (e - 1075)) (omega arith) (omega arith)
+      (ap (λ (x : ℕ). x / 2 ^ 1074) (ap (λ (x : ℕ). d * 2 ^ x) places ∙ ap (λ (x : ℕ). d * x) (pow-add 2 (e - 1075) 1074) ∙ sym (mul-assoc d (2 ^ (e - 1075)) (2 ^ 1074))) ∙ mul-div-cancel (d * 2 ^ (e - 1075)) (pow-pos 1074))
+      under
+      ∙ sym (mod-eq-of-lt under)
+    where
+      places : e - 1 ≡ e - 1075 + 1074
+      places = omega arith
+
+      room : 53 + (e - 1075) ≤ 64
+      room = omega arith
+
+      under : d * 2 ^ (e - 1075) < 2 ^ 64
+      under = lt-of-lt-of-le (shl-lt 53 (e - 1075) d-hi) (pow-mono room)
+
+  -- from 2 ^ 64 on, an infinity too
+  pub beyond : 1087 ≤ e → e ≤ 2047 → T (not (isNan (ofFields binary64 s e t))) → toUnsigned 64 (absF (ofFields binary64 s e t)) ≡ 2 ^ 64 - 1
+  beyond a b n = elim (eq-or-lt-of-le b) [ inl z ↦ rw z (all-set s t (rw z at n)) | inr l ↦ finite l ]
+    where
+      room : 1086 ≤ e - 1
+      room = omega arith
+
+      most : (q : ℕ) → 2 ^ 64 ≤ q → min q (2 ^ 64 - 1) ≡ 2 ^ 64 - 1
+      most q h = omega arith
+
+      up52 : 2 ^ 52 ≤ d
+      up52 = omega arith
+
+      finite : e < 2047 → toUnsigned 64 (absF (ofFields binary64 s e t)) ≡ 2 ^ 64 - 1
+      finite l =
+          whole-val (ofFields binary64 s e t) s (d * 2 ^ (e - 1)) (2 ^ 1074) (pow-pos 1074) (digits-val s e t (omega arith) l)
+          ∙ most (d * 2 ^ (e - 1) / 2 ^ 1074) (le-div-iff-mul-le (pow-pos 1074) .1 (le-trans (le-of-eq (sym (pow-add 2 52 1086))) (mul-le-mul up52 (pow-mono room))))
+
+-- ---- the casts, by the sign and the whole part
+not-below : (a b : ℕ) → b ≡ 0 → ltb a b ≡ false
+not-below a b e = rw e (le-ltb a 0 zero-le)
+
+-- how a finite number stands to 0
+below-no : (m : ℕ) (e : ℤ) → lt (fin false m e) (fin false 0 (pos 0)) ≡ false
+unfolding lt
+below-no m e = not-below (m * up e * 1) (0 * 1 * down e) (omega arith)
+
+below-yes : (m : ℕ) (e : ℤ) → lt (fin true m e) (fin false 0 (pos 0)) ≡ ltb 0 (m * up e)
+unfolding lt
+below-yes m e = ap (ltb 0) (go (m * up e) (down e))
+  where
+    go : (a d : ℕ) → a * 1 + 0 * 1 * d ≡ a
+    go a d = omega arith
+
+abbrev limitedTo : ℕ → Bool → ℕ → ℤ
+limitedTo most s n = cond s (negℤ (pos (min n (suc most)))) (pos (min n most))
+
+-- nothing is lost by an end of the range at 2 ^ 64 - 1 first
+ends-most : (q k : ℕ) → k ≤ 2 ^ 63 → min q (k - 1) ≡ min (min q (2 ^ 64 - 1)) (k - 1)
+ends-most q k h = omega arith
+
+ends-least : (q k : ℕ) → 0 < k → k ≤ 2 ^ 63 → min q k ≡ min (min q (2 ^ 64 - 1)) (suc (k - 1))
+ends-least q k p h = omega arith
+
+-- -0 and what is cut to it
+minus-part : (a d k : ℕ) (b : Bool) → ltb 0 a ≡ b → 0 < d → 0 < k → k ≤ 2 ^ 63 → negℤ (pos (min (a / d) k)) ≡ limitedTo (k - 1) b (min (a / d) (2 ^ 64 - 1))
+minus-part a d k true t D K h = ap (λ (n : ℕ). negℤ (pos n)) (ends-least (a / d) k K h)
+minus-part a d k false t D K h =
+    let z : a ≡ 0 = omega (arith, ltb-false 0 a t) in
+    let q : a / d ≡ 0 = ap (λ (n : ℕ). n / d) z ∙ zero-div d in
+    let u : min (a / d) k ≡ 0 = omega arith in
+    let v : min (min (a / d) (2 ^ 64 - 1)) (k - 1) ≡ 0 = omega arith in
+    rw (u, v) refl
+
+signed-by : (k : ℕ) (x : Float) → 0 < 2 ^ k → 2 ^ k ≤ 2 ^ 63 → toSigned k x ≡ limitedTo (2 ^ k - 1) (lt x (fin false 0 (pos 0))) (toUnsigned 64 (absF x))
+unfolding toSigned toUnsigned absF lt
+signed-by k nan K h = ap pos (go (2 ^ k))
+  where
+    go : (m : ℕ) → 0 ≡ min 0 (m - 1)
+    go m = omega arith
+signed-by k (inf true) K h = ap (λ (n : ℕ). negℤ (pos n)) (go (2 ^ k) K h)
+  where
+    go : (m : ℕ) → 0 < m → m ≤ 2 ^ 63 → m ≡ min (2 ^ 64 - 1) (suc (m - 1))
+    go m p g = omega arith
+signed-by k (inf false) K h = ap pos (go (2 ^ k) h)
+  where
+    go : (m : ℕ) → m ≤ 2 ^ 63 → m - 1 ≡ min (2 ^ 64 - 1) (m - 1)
+    go m g = omega arith
+signed-by k (fin false m e) K h =
+    rw (below-no m e) (ap pos (ends-most (m * up e / down e) (2 ^ k) h))
+signed-by k (fin true m e) K h =
+    rw (below-yes m e) (minus-part (m * up e) (down e) (2 ^ k) (ltb 0 (m * up e)) refl (down-pos e) K h)
+
+-- THE LAW of the signed casts, of each width up to 64 bits
+pub signed-cast : (k : ℕ) → k ≤ 63 → (x : Float) → toSigned k x ≡ cond (lt x (ofBits binary64 0)) (negℤ (pos (min (toUnsigned 64 (absF x)) (suc (2 ^ k - 1))))) (pos (min (toUnsigned 64 (absF x)) (2 ^ k - 1)))
+unfolding ofBits
+signed-cast k K x = signed-by k x (pow-pos k) (pow-mono K)
+
+unsigned-by : (x : Float) → toUnsigned 64 x ≡ cond (lt x (fin false 0 (pos 0))) 0 (toUnsigned 64 (absF x))
+unfolding toUnsigned absF lt
+unsigned-by nan = refl
+unsigned-by (inf true) = refl
+unsigned-by (inf false) = refl
+unsigned-by (fin false m e) = rw (below-no m e) refl
+unsigned-by (fin true m e) = rw (below-yes m e) (go (m * up e) (ltb 0 (m * up e)) refl)
+  where
+    go : (a : ℕ) (b : Bool) → ltb 0 a ≡ b → 0 ≡ cond b 0 (min (a / down e) (2 ^ 64 - 1))
+    go a true t = refl
+    go a false t =
+        let z : a ≡ 0 = omega (arith, ltb-false 0 a t) in
+        let q : a / down e ≡ 0 = ap (λ (n : ℕ). n / down e) z ∙ zero-div (down e) in
+        omega arith
+
+pub unsigned-cast : (x : Float) → toUnsigned 64 x ≡ cond (lt x (ofBits binary64 0)) 0 (toUnsigned 64 (absF x))
+unfolding ofBits
+unsigned-cast x = unsigned-by x
+
+-- ---- a NaN, and what has the bits of x
+pub at-nan : (x : Float) → ne x x ≡ true → toUnsigned 64 (absF x) ≡ 0
+unfolding toUnsigned absF
+at-nan x h = rw (differs-from-itself x (subst T (sym h) tt)) refl
+
+not-nan : (x : Float) → T (not (ne x x)) → T (not (isNan x))
+unfolding isNan ne eq
+not-nan nan t = t
+not-nan (inf s) t = tt
+not-nan (fin s m e) t = tt
+
+pub no-nan : (x : Float) → ne x x ≡ false → T (not (isNan x))
+no-nan x h = not-nan x (subst (λ (b : Bool). T (not b)) (sym h) tt)

@@ -1,0 +1,9 @@
+-- Laws of one rounding: values, its error, order and growth; of bit patterns and casts; and of signs.
+pub mod Values
+pub mod Signs
+pub mod Error
+pub mod Bits
+pub mod Casts
+pub mod Order
+pub mod Quotients
+pub mod Growth

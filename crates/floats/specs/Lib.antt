@@ -1,0 +1,2 @@
+-- What the crate's contracts and laws cite.
+pub mod Rounding

@@ -1,0 +1,163 @@
+// Rust's casts between floats and whole numbers, on bits, and floor, ceil and round of a quotient in whole numbers.
+// Each statement is an equation with what IEEE 754 says (lib.Ieee).
+ghost use mathlib.Core.Path.{_≡_};
+ghost use mathlib.Core.Bool.{cond, not};
+ghost use Prim.Native.Nat.{suc, _^_, _≤_, _<_, min};
+ghost use lib.Dec.{T};
+ghost use lib.IntN.{pos, negℤ, natAbs};
+ghost use lib.Ieee.{binary32, binary64, ofInt, div, ofBits, nanBits, toSigned, toUnsigned};
+ghost use lib.Ieee.Nearest.{closest};
+ghost use Rattle.floats.specs.Rounding.{withSign, absF, floorF, ceilF, roundF};
+
+// The weight of the exponent in a float's bits, and of a leading 1 before its 52 digits: 2^52.
+const LEAD: u64 = 4503599627370496;
+
+// The weight of the sign: 2^63.
+const SIGN: u64 = 9223372036854775808;
+
+// How far x is from 0. The smallest i64 has no opposite, so the 1 comes back after the cast.
+pub fn size_of(x: i64) -> u64
+    ensures { λ r. ⌜ r ≡ natAbs x ⌝ }
+{
+    if x < 0 {
+        return (-1 - x) as u64 + 1;
+    }
+    x as u64
+}
+
+// n, or -n.
+pub fn signed(below: bool, n: u64) -> i64
+    requires { ⌜ n < 2 ^ 63 ⌝ }
+    ensures { λ r. ⌜ r ≡ withSign below n ⌝ }
+{
+    let z = n as i64;
+    if below {
+        return 0 - z;
+    }
+    z
+}
+
+// n / 2048 to the nearest whole number, a tie to the even one: up where twice the rest is more than 2048, or is that
+// and the quotient is odd.
+fn nearest_quotient(n: u64) -> u64
+    ensures { λ r. ⌜ r ≡ closest n 2048 ⌝ }
+{
+    let q = n / 2048;
+    let twice = n % 2048 * 2;
+    if twice + q % 2 > 2048 {
+        return q + 1;
+    }
+    q
+}
+
+// n as f64: the nearest, a tie to the even one. Below 2^53 every whole number is a float. From there on n is moved up
+// until it has 64 digits, and the first 53 are kept, rounded; where that gives 2^53, the sum carries it into the
+// exponent.
+pub fn from_u64(n: u64) -> f64
+    ensures { λ r. ⌜ r ≡ ofInt binary64 (pos n) ⌝ }
+{
+    if n < 9007199254740992 {
+        return n as f64;
+    }
+    let z = u64::leading_zeros(n) as u64;
+    f64::from_bits((1085 - z) * LEAD + nearest_quotient(n << z))
+}
+
+// n as f64.
+pub fn from_i64(n: i64) -> f64
+    ensures { λ r. ⌜ r ≡ ofInt binary64 n ⌝ }
+{
+    if n < 0 {
+        return -from_u64(size_of(n));
+    }
+    from_u64(n as u64)
+}
+
+// The whole part of the float that has these bits, without its sign; the largest u64 from 2^64 on. The bits are a sign,
+// an exponent e and 52 digits; with a leading 1 these are d, and the float is d * 2^(e - 1075).
+fn whole_of(bits: u64) -> u64
+    requires { ⌜ T (not (nanBits binary64 bits)) ⌝ }
+    ensures { λ r. ⌜ r ≡ toUnsigned 64 (absF (ofBits binary64 bits)) ⌝ }
+{
+    let e = bits % SIGN / LEAD;
+    let d = bits % LEAD + LEAD;
+    if e < 1023 {
+        return 0;
+    }
+    if e <= 1075 {
+        return d >> (1075 - e);
+    }
+    if e < 1087 {
+        return d << (e - 1075);
+    }
+    18446744073709551615
+}
+
+// The same of x, and 0 for a NaN.
+fn magnitude(x: f64) -> u64
+    ensures { λ r. ⌜ r ≡ toUnsigned 64 (absF x) ⌝ }
+{
+    if x != x { 0 } else { whole_of(f64::to_bits(x)) }
+}
+
+// n with a sign, or the end of a signed type's range that it is beyond. The type has one number more below 0.
+fn limited(below: bool, n: u64, most: u64) -> i64
+    requires { ⌜ most < 2 ^ 63 ⌝ }
+    ensures { λ r. ⌜ r ≡ cond below (negℤ (pos (min n (suc most)))) (pos (min n most)) ⌝ }
+{
+    if n <= most {
+        return signed(below, n);
+    }
+    if below {
+        return -1 - (most as i64);
+    }
+    most as i64
+}
+
+// x as i32: cut toward zero, an end of the range beyond it, and 0 for a NaN.
+pub fn to_i32(x: f64) -> i32
+    ensures { λ r. ⌜ r ≡ toSigned 31 x ⌝ }
+{
+    limited(x < 0.0, magnitude(x), 2147483647) as i32
+}
+
+// x as i64, in the same way.
+pub fn to_i64(x: f64) -> i64
+    ensures { λ r. ⌜ r ≡ toSigned 63 x ⌝ }
+{
+    limited(x < 0.0, magnitude(x), 9223372036854775807)
+}
+
+// x as usize, which has 64 bits: in the same way, and 0 below 0.
+pub fn to_usize(x: f64) -> u64
+    ensures { λ r. ⌜ r ≡ toUnsigned 64 x ⌝ }
+{
+    if x < 0.0 {
+        return 0;
+    }
+    magnitude(x)
+}
+
+// (n as f64 / d as f64).floor() as usize.
+pub fn floor_quotient(n: u64, d: u64) -> u64
+    requires { ⌜ (n < 2 ^ 53) × (0 < d) × (d ≤ 2 ^ 53) ⌝ }
+    ensures { λ r. ⌜ r ≡ toUnsigned 64 (floorF binary64 (div binary64 (ofInt binary64 (pos n)) (ofInt binary64 (pos d)))) ⌝ }
+{
+    n / d
+}
+
+// (n as f64 / d as f64).ceil() as usize.
+pub fn ceil_quotient(n: u64, d: u64) -> u64
+    requires { ⌜ (n < 2 ^ 53) × (0 < d) × (d ≤ 2 ^ 53) ⌝ }
+    ensures { λ r. ⌜ r ≡ toUnsigned 64 (ceilF binary64 (div binary64 (ofInt binary64 (pos n)) (ofInt binary64 (pos d)))) ⌝ }
+{
+    (n + (d - 1)) / d
+}
+
+// (n as f32 / d as f32).round() as usize: a half goes up.
+pub fn half_up(n: u64, d: u64) -> u64
+    requires { ⌜ (n < 2 ^ 23) × (0 < d) × (d ≤ 2 ^ 24) ⌝ }
+    ensures { λ r. ⌜ r ≡ toUnsigned 64 (roundF binary32 (div binary32 (ofInt binary32 (pos n)) (ofInt binary32 (pos d)))) ⌝ }
+{
+    (2 * n + d) / (2 * d)
+}

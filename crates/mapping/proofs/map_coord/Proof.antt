@@ -1,0 +1,70 @@
+-- `mapping::map_coord` meets its contract: each branch is one of the definition's. Assumes nothing.
+use borrow.Author.Needs.{needs}
+use mathlib.Core.Path.{_≡_, _∙_, ap}
+use lib.IntN.{ℤ, _+ℤ_}
+use lib.Ieee.{Float}
+use mir.Syntax.{w64}
+use mir.Val.{SFits, toZ, ofZ}
+use mir.Facts.{toZ-ofZ}
+use Rattle.values.specs.Differences.{wholeDays}
+use Rattle.axis.specs.Axes.{offsetOf}
+use Rattle.mapping.specs.Mapping.{cut, positionOf}
+use Rattle.mapping.proofs.Placing.{coord-near, coord-far}
+use Rattle.mapping.proofs.map_coord.Statement.{statement}
+use Rattle.mapping.proofs.map_coord.Tie as tie
+
+offset-requires : tie.Need-offset-requires
+offset-requires c κs = search needs
+
+position-requires : tie.Need-position-requires
+position-requires c κs = search needs
+
+from-low-requires : tie.Need-from-low-requires
+from-low-requires c κs = search needs
+
+offset-days-requires : tie.Need-offset-days-requires
+offset-days-requires c κs = search needs
+
+position-requires-2 : tie.Need-position-requires-2
+position-requires-2 c κs = search needs
+
+from-low-requires-2 : tie.Need-from-low-requires-2
+from-low-requires-2 c κs = search needs
+
+returns : tie.Need-returns
+returns c =
+    let p = c .before in
+    let o = p .before .before .before .before .before in
+    let x = o .before .args in
+    let v-fits : SFits w64 (o .offset .result .value) = search needs in
+    let at = p .position .ensures ∙ ap (λ (z : ℤ). positionOf (x .s .width) z (x .s .total)) (toZ-ofZ v-fits) in
+    toZ-ofZ {w = w64} {z = c .from-low .result} (search needs)
+    ∙ (c .from-low .ensures
+    ∙ (ap (λ (f : Float). x .s .low +ℤ cut f) at
+    ∙ coord-near (offsetOf (x .a) (x .v)) (o .offset .result) (o .offset .ensures) (x .s) (p .before .before .if1 .taken)))
+
+returns-2 : tie.Need-returns-2
+returns-2 c =
+    let p = c .before in
+    let d = p .before in
+    let o = d .before .before .before .before in
+    let x = o .before .args in
+    let days = toZ-ofZ {w = w64} {z = d .offset-days .result} (search needs) ∙ d .offset-days .ensures in
+    let at = p .position2 .ensures ∙ ap (λ (z : ℤ). positionOf (x .s .width) z (x .s .days)) days in
+    toZ-ofZ {w = w64} {z = c .from-low2 .result} (search needs)
+    ∙ (c .from-low2 .ensures
+    ∙ (ap (λ (f : Float). x .s .low +ℤ cut f) at
+    ∙ coord-far (offsetOf (x .a) (x .v)) (o .offset .result) (o .offset .ensures) (x .s) (d .before .if1 .left)))
+
+pub map-coord-spec : {M : Type 1} → statement M
+map-coord-spec =
+    tie.close
+    (tie.spec
+    offset-requires
+    position-requires
+    from-low-requires
+    returns
+    offset-days-requires
+    position-requires-2
+    from-low-requires-2
+    returns-2)

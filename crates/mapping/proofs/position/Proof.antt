@@ -1,0 +1,21 @@
+-- `mapping::position` meets its contract: it is the definition. Assumes nothing.
+use borrow.Author.Needs.{needs}
+use mathlib.Core.Path.{_∙_, ap}
+use lib.Ieee.{Float, binary64, ofInt, mul, div}
+use mir.Facts.{toZ-ofZ}
+use Rattle.mapping.specs.Mapping.{positionOf}
+use Rattle.mapping.proofs.position.Statement.{statement}
+use Rattle.mapping.proofs.position.Tie as tie
+
+from-i64-requires : tie.Need-from-i64-requires
+from-i64-requires c κs = search needs
+
+returns : tie.Need-returns
+unfolding positionOf
+returns c =
+    let s = c .before in
+    ap (λ (f : Float). div binary64 (mul binary64 (s .args .width) f) (s .args .total))
+    (c .from-i64 .ensures ∙ ap (ofInt binary64) (toZ-ofZ (s .fits .offset)))
+
+pub position-spec : {M : Type 1} → statement M
+position-spec = tie.close (tie.spec from-i64-requires returns)

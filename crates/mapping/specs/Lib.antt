@@ -1,0 +1,3 @@
+-- What the crate's contracts and promises cite.
+pub mod Mapping
+pub mod Days

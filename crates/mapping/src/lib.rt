@@ -1,0 +1,125 @@
+// The pixel of a value between two limits, as plotters' map_coord and the duration's own map.
+// Floats where the Rust computes in floats, each step rounded as IEEE 754 says.
+use axis::Axis;
+use axis::Limits;
+use values::Value;
+ghost use mathlib.Core.Path.{_≡_};
+ghost use mathlib.Core.Bool.{true};
+ghost use lib.IntN.{_+ℤ_};
+ghost use Rattle.laws.specs.Asking.{firstNo};
+ghost use Rattle.axis.specs.Axes.{offsetOf};
+ghost use Rattle.axis.specs.Questions.{ends, pixels, valueOn};
+ghost use Rattle.mapping.specs.Mapping.{scaleOf, LowOnPage, positionOf, cut, mapCoord, mapDuration, placed, valueQuestions, mapped};
+
+// What all values on an axis share: the width and the total as floats, worked out once for an axis and its limits. The
+// total is there in nanoseconds, where it fits, and in whole days, for a span or a value beyond that.
+pub struct Scale {
+    pub low: i64,
+    pub high: i64,
+    pub width: f64,
+    pub fits: bool,
+    pub total: f64,
+    pub days: f64,
+}
+
+pub enum Pixel {
+    Refused(u8),
+    At(i64),
+}
+
+pub fn scale_of(a: Axis, l: Limits) -> Scale
+    requires { ⌜ (ends a ≡ true) × (pixels l ≡ true) ⌝ }
+    ensures { λ r. ⌜ r ≡ scaleOf a l ⌝ }
+{
+    let span = axis::span(a);
+    Scale {
+        low: l.low,
+        high: l.high,
+        width: floats::from_i64(l.high - l.low),
+        fits: span.fits,
+        total: floats::from_i64(span.value),
+        days: floats::from_i64(axis::span_days(a)),
+    }
+}
+
+// width × offset ÷ total.
+fn position(width: f64, offset: i64, total: f64) -> f64
+    ensures { λ r. ⌜ r ≡ positionOf width offset total ⌝ }
+{
+    width * floats::from_i64(offset) / total
+}
+
+// The low limit and a position, cut toward zero.
+fn from_low(s: Scale, x: f64) -> i64
+    requires { ⌜ LowOnPage s ⌝ }
+    ensures { λ r. ⌜ r ≡ s .low +ℤ cut x ⌝ }
+{
+    s.low + floats::to_i32(x) as i64
+}
+
+// Kinds 1 to 6, as TimeValue::map_coord: nanoseconds if the span and the offset fit, else whole days.
+pub fn map_coord(s: Scale, a: Axis, v: Value) -> i64
+    requires { ⌜ LowOnPage s × (ends a ≡ true) × (valueOn a v ≡ true) ⌝ }
+    ensures { λ r. ⌜ r ≡ mapCoord s (offsetOf a v) ⌝ }
+{
+    let o = axis::offset(a, v);
+    if s.fits & o.fits {
+        return from_low(s, position(s.width, o.value, s.total));
+    }
+    from_low(s, position(s.width, axis::offset_days(a, v), s.days))
+}
+
+// Kind 7, as RangedDuration::map: 1e-10 is added before the cut, and where the span fits nanoseconds and the offset does
+// not, the answer is the high limit.
+pub fn map_duration(s: Scale, a: Axis, v: Value) -> i64
+    requires { ⌜ LowOnPage s × (ends a ≡ true) × (valueOn a v ≡ true) ⌝ }
+    ensures { λ r. ⌜ r ≡ mapDuration s (offsetOf a v) ⌝ }
+{
+    if !s.fits {
+        return from_low(
+            s,
+            position(s.width, axis::offset_days(a, v), s.days) + 0.0000000001,
+        );
+    }
+    let o = axis::offset(a, v);
+    if !o.fits {
+        return s.high;
+    }
+    from_low(s, position(s.width, o.value, s.total) + 0.0000000001)
+}
+
+fn refusal(a: Axis, l: Limits, v: Value) -> u8
+    ensures { λ r. ⌜ r ≡ firstNo (valueQuestions a l v) ⌝ }
+{
+    let q = axis::axis_refusal(a, true);
+    let q = axis::ask(q, 7, axis::pixels(l));
+    let q = axis::ask(q, 8, axis::value_on(a, v));
+    axis::ask(q, 9, axis::mappable(a, v))
+}
+
+// The pixel of a value, by its kind's mapping.
+fn pixel_of(a: Axis, l: Limits, v: Value) -> i64
+    requires { ⌜ (ends a ≡ true) × (pixels l ≡ true) × (valueOn a v ≡ true) ⌝ }
+    ensures { λ r. ⌜ r ≡ placed a l v ⌝ }
+{
+    let s = scale_of(a, l);
+    if (7 <= a.kind) & (a.kind <= 7) {
+        return map_duration(s, a, v);
+    }
+    map_coord(s, a, v)
+}
+
+// The pixel of any numbers.
+pub fn map(a: Axis, l: Limits, v: Value) -> Pixel
+    ensures { λ r. ⌜ r ≡ mapped a l v ⌝ }
+{
+    let q = refusal(a, l, v);
+    if q != 0 {
+        return Pixel::Refused(q);
+    }
+    let p = pixel_of(a, l, v);
+    if axis::fits_i32(p) {
+        return Pixel::At(p);
+    }
+    Pixel::Refused(10)
+}

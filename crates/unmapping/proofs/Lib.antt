@@ -1,0 +1,3 @@
+-- Laws of unmapping.
+pub mod DateTimes
+pub mod Moves

@@ -1,0 +1,79 @@
+-- `unmapping::by_days` meets its contract: the days in floats, cut, then a sign and a size. Assumes nothing.
+use mathlib.Core.Path.{_≡_, sym, _∙_, ap}
+use Prim.Native.Nat.{ℕ, _*_}
+use lib.IntN.{ℤ, pos, natAbs, _+ℤ_, _*ℤ_}
+use lib.Signed.{ltZ}
+use lib.Ieee.{binary64, ofInt, mul, div, toSigned}
+use mir.Syntax.{w64}
+use mir.Val.{SFits, toZ, ofZ}
+use mir.Facts.{toZ-ofZ}
+use Rattle.floats.specs.Rounding.{withSign}
+use Rattle.unmapping.specs.Unmapping.{daysBy, dateTimeAnswer}
+use Rattle.unmapping.proofs.DateTimes.{instant}
+use Rattle.unmapping.proofs.Moves.{days-is}
+use borrow.Author.Needs.{needs}
+use Rattle.unmapping.proofs.by_days.Statement.{statement}
+use Rattle.unmapping.proofs.by_days.Tie as tie
+
+from-i64-requires : tie.Need-from-i64-requires
+from-i64-requires c κs = search needs
+
+from-i64-requires-2 : tie.Need-from-i64-requires-2
+from-i64-requires-2 c κs = search needs
+
+from-i64-requires-3 : tie.Need-from-i64-requires-3
+from-i64-requires-3 c κs = search needs
+
+to-i64-requires : tie.Need-to-i64-requires
+to-i64-requires c κs = search needs
+
+size-of-requires : tie.Need-size-of-requires
+size-of-requires c κs = search needs
+
+days-away-requires : tie.Need-days-away-requires
+days-away-requires c κs = search needs
+
+pixels-fit : (c : tie.Start) → SFits w64 (c .args .o .pixels)
+pixels-fit c = search needs
+
+width-fits : (c : tie.Start) → SFits w64 (c .args .o .width)
+width-fits c = search needs
+
+-- the days, as the code has them
+moved : (c : tie.After-to-i64) → let x = c .before .before .before .before .before .before .args in c .to-i64 .result ≡ daysBy (x .span) (x .o .width) (x .o .pixels)
+moved c =
+    let w = c .before in
+    let n = w .before .before in
+    let p = n .before in
+    let s = p .before .before in
+    let P = p .from-i64 .ensures ∙ ap (ofInt binary64) (toZ-ofZ (pixels-fit s)) in
+    let N = n .from-i642 .ensures ∙ ap (ofInt binary64) (toZ-ofZ (s .fits .span)) in
+    let W = w .from-i643 .ensures ∙ ap (ofInt binary64) (toZ-ofZ (width-fits s)) in
+    c .to-i64 .ensures ∙ (λ i. toSigned 63 (div binary64 (mul binary64 (P i) (N i)) (W i)))
+
+returns : tie.Need-returns
+returns c =
+    let z = c .before in
+    let t = z .before in
+    let x = t .before .before .before .before .before .before .args in
+    let at = instant (x .day) (x .nano) in
+    let n = t .to-i64 .result in
+    let back = toZ-ofZ {w = w64} {z = n} (search needs) in
+    let size = z .size-of .ensures ∙ ap natAbs back in
+    c .days-away .ensures
+    ∙ (ap (λ (y : ℤ). dateTimeAnswer (pos at +ℤ withSign (ltZ y (pos 0)) (z .size-of .result * 86400000000000))) back
+    ∙ (ap (λ (k : ℕ). dateTimeAnswer (pos at +ℤ withSign (ltZ n (pos 0)) (k * 86400000000000))) size
+    ∙ (ap (λ (y : ℤ). dateTimeAnswer (pos at +ℤ y)) (days-is n 86400000000000)
+    ∙ ap (λ (y : ℤ). dateTimeAnswer (pos at +ℤ y *ℤ pos 86400000000000)) (moved t))))
+
+pub by-days-spec : {M : Type 1} → statement M
+by-days-spec =
+    tie.close
+    (tie.spec
+    from-i64-requires
+    from-i64-requires-2
+    from-i64-requires-3
+    to-i64-requires
+    size-of-requires
+    days-away-requires
+    returns)

@@ -1,0 +1,58 @@
+-- A number of nanoseconds that fits a signed 64-bit number, or does not. Assumes nothing.
+use mathlib.Core.Path.{_≡_, refl, sym, _∙_, ap}
+use mathlib.Core.Bool.{Bool, true, false, cond}
+use Prim.Native.Nat.{_+_, _≤_, _<_}
+use native.Mathlib.Omega.{arith}
+use lib.IntN.{ℤ, pos, negsuc}
+use lib.Signed.{leZ}
+use mir.Syntax.{w64}
+use mir.Val.{SFits}
+use Rattle.laws.specs.Numbers.{up, dn}
+use Rattle.laws.proofs.Signed.{up-fits, dn-fits}
+use Rattle.laws.proofs.Tests.{and-false}
+use Rattle.values.specs.declared.Nanoseconds.{Nanoseconds}
+use Rattle.values.specs.Differences.{fitsI64, nanosecondsOf}
+use Rattle.values.proofs.Numbers.{is-le, is-gt, within-true, bounded}
+
+-- ---- by where the number lies
+pub fits-yes : (x : ℤ) → up x ≤ 9223372036854775807 → dn x ≤ 9223372036854775808 → fitsI64 x ≡ true
+fits-yes x h l = rw (is-le (negsuc 9223372036854775807) x (omega arith), is-le x (pos 9223372036854775807) (omega arith))
+
+above : (x : ℤ) → 9223372036854775807 + dn x < up x → fitsI64 x ≡ false
+above x h = rw (is-gt x (pos 9223372036854775807) (omega arith), and-false (leZ (negsuc 9223372036854775807) x))
+
+below : (x : ℤ) → 9223372036854775808 + up x < dn x → fitsI64 x ≡ false
+below x h = rw (is-gt (negsuc 9223372036854775807) x (omega arith))
+
+answer : (x n : ℤ) (f : Bool) → fitsI64 x ≡ f → cond f x (pos 0) ≡ n → record { fits = f; value = n } ≡ nanosecondsOf x
+unfolding nanosecondsOf
+answer x n f a b = sym (λ i. record { fits = a i; value = (ap (λ (t : Bool). cond t x (pos 0)) a ∙ b) i })
+
+pub yes : (x : ℤ) → SFits w64 x → record { fits = true; value = x } ≡ nanosecondsOf x
+yes x f = answer x x true (fits-yes x (omega (arith, up-fits x f)) (dn-fits x f)) refl
+
+pub too-high : (x : ℤ) → 9223372036854775807 + dn x < up x → record { fits = false; value = pos 0 } ≡ nanosecondsOf x
+too-high x h = answer x (pos 0) false (above x h) refl
+
+pub too-low : (x : ℤ) → 9223372036854775808 + up x < dn x → record { fits = false; value = pos 0 } ≡ nanosecondsOf x
+too-low x h = answer x (pos 0) false (below x h) refl
+
+-- ---- what a caller reads
+pub fits-range : (x : ℤ) → fitsI64 x ≡ true → (dn x ≤ 9223372036854775808) × (up x ≤ 9223372036854775807)
+fits-range x e = let (a, b) = within-true (negsuc 9223372036854775807) x (pos 9223372036854775807) e in bounded x 9223372036854775808 9223372036854775807 (omega arith) (omega arith)
+
+pub fits-is : (x : ℤ) → nanosecondsOf x .fits ≡ fitsI64 x
+unfolding nanosecondsOf
+fits-is x = refl
+
+pub value-is : (x : ℤ) → fitsI64 x ≡ true → nanosecondsOf x .value ≡ x
+unfolding nanosecondsOf
+value-is x e = rw e
+
+-- ---- what an answer says of the number
+module _ (d : ℤ) (n : Nanoseconds) (e : n ≡ nanosecondsOf d) where
+  pub answer-fits : n .fits ≡ fitsI64 d
+  answer-fits = ap (λ (x : Nanoseconds). x .fits) e ∙ fits-is d
+
+  pub answer-value : n .fits ≡ true → n .value ≡ d
+  answer-value f = ap (λ (x : Nanoseconds). x .value) e ∙ value-is d (sym answer-fits ∙ f)

@@ -1,0 +1,42 @@
+-- Values of the seven kinds (question 3, and question 8 of a value) and their order. Definitions only.
+-- Kinds 1 to 3 are over dates, 4 to 6 over date-times, 7 over durations.
+use mathlib.Core.Path.{_≡_}
+use mathlib.Core.Bool.{Bool, true, _&&_, _||_}
+use lib.IntN.{ℤ, pos, negsuc}
+use lib.Signed.{ltZ, leZ}
+use Rattle.laws.specs.Numbers.{within}
+use Rattle.values.specs.declared.Value.{Value}
+
+abbrev pub isDuration : ℤ → Bool
+isDuration kind = within (pos 7) kind (pos 7)
+
+-- 0001-01-01 to 9999-12-31
+abbrev pub isDay : ℤ → Bool
+isDay n = within (pos 1) n (pos 3652059)
+
+-- a day and no time of it
+abbrev pub aDate : Value → Bool
+aDate v = isDay (v .head) && within (pos 0) (v .tail) (pos 0)
+
+-- a day and a nanosecond of it
+abbrev pub aDateTime : Value → Bool
+aDateTime v = isDay (v .head) && within (pos 0) (v .tail) (pos 86399999999999)
+
+-- seconds, rounded down, and nanoseconds
+abbrev pub aDuration : Value → Bool
+aDuration v = within (negsuc 315575999999) (v .head) (pos 315576000000) && within (pos 0) (v .tail) (pos 999999999)
+
+unfoldable pub isValue : ℤ → Value → Bool
+isValue kind v =
+    (within (pos 1) kind (pos 3) && aDate v)
+    || ((within (pos 4) kind (pos 6) && aDateTime v)
+    || (isDuration kind && aDuration v))
+
+-- two values of one kind
+pub record Both (kind : ℤ) (a b : Value) : Type 0 where
+  pub first : isValue kind a ≡ true
+  pub second : isValue kind b ≡ true
+
+-- by the head, then by the tail
+unfoldable pub earlier : Value → Value → Bool
+earlier a b = ltZ (a .head) (b .head) || (leZ (a .head) (b .head) && ltZ (a .tail) (b .tail))

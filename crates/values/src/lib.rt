@@ -1,0 +1,186 @@
+// Values of an axis: which numbers are a value of a kind, the order of values, and how far apart two of them are.
+// Whether a difference fits a signed 64-bit number of nanoseconds is decided on heads and tails, before any product.
+ghost use mathlib.Core.Path.{_≡_};
+ghost use mathlib.Core.Bool.{true};
+ghost use lib.IntN.{negℤ};
+ghost use lib.Signed.{leZ, quotZ};
+ghost use Rattle.values.specs.Values.{isDuration, isValue, earlier, Both};
+ghost use Rattle.values.specs.Differences.{difference, nanosecondsOf, wholeDays};
+ghost use Rattle.values.specs.Parts.{Sound, Of, sum};
+
+// Date: day number and 0. Date-time: day number and nanosecond of the day. Duration: seconds and nanoseconds.
+pub struct Value {
+    pub head: i64,
+    pub tail: i64,
+}
+
+// A number of nanoseconds; value is 0 where it does not fit.
+pub struct Nanoseconds {
+    pub fits: bool,
+    pub value: i64,
+}
+
+// A difference as heads and tails. A head is unit nanoseconds, and most is the largest number of heads below 2^63 ns.
+struct Parts {
+    heads: i64,
+    tails: i64,
+    unit: i64,
+    most: i64,
+}
+
+// Is the kind over durations?
+pub fn is_duration(kind: i64) -> bool
+    ensures { λ r. ⌜ r ≡ isDuration kind ⌝ }
+{
+    (7 <= kind) & (kind <= 7)
+}
+
+// Is v a value of the kind? Dates, date-times and durations are told apart first, so that one row of tests is asked.
+pub fn is_value(kind: i64, v: Value) -> bool
+    ensures { λ r. ⌜ r ≡ isValue kind v ⌝ }
+{
+    if kind <= 3 {
+        return (1 <= kind)
+            & ((1 <= v.head) & (v.head <= 3652059) & ((0 <= v.tail) & (v.tail <= 0)));
+    }
+    if kind <= 6 {
+        return (1 <= v.head) & (v.head <= 3652059) & ((0 <= v.tail) & (v.tail <= 86399999999999));
+    }
+    (kind <= 7)
+        & ((-315576000000 <= v.head)
+            & (v.head <= 315576000000)
+            & ((0 <= v.tail) & (v.tail <= 999999999)))
+}
+
+// Is a before b?
+pub fn earlier(a: Value, b: Value) -> bool
+    ensures { λ r. ⌜ r ≡ earlier a b ⌝ }
+{
+    (a.head < b.head) | ((a.head <= b.head) & (a.tail < b.tail))
+}
+
+// The parts of the difference from a to b.
+fn split(kind: i64, a: Value, b: Value) -> Parts
+    requires { ⌜ Both kind a b ⌝ }
+    ensures { λ r. ⌜ Of kind a b r ⌝ }
+{
+    let heads = b.head - a.head;
+    let tails = b.tail - a.tail;
+    if is_duration(kind) {
+        return Parts {
+            heads: heads,
+            tails: tails,
+            unit: 1000000000,
+            most: 9223372036,
+        };
+    }
+    Parts {
+        heads: heads,
+        tails: tails,
+        unit: 86400000000000,
+        most: 106751,
+    }
+}
+
+// At least most heads: one of them goes to the tails, so that the product fits.
+fn far_above(p: Parts) -> Nanoseconds
+    requires { ⌜ Sound p × (leZ (p .most) (p .heads) ≡ true) ⌝ }
+    ensures { λ r. ⌜ r ≡ nanosecondsOf (sum p) ⌝ }
+{
+    let heads = p.heads - 1;
+    if p.most < heads {
+        return Nanoseconds {
+            fits: false,
+            value: 0,
+        };
+    }
+    let n = heads * p.unit;
+    let rest = p.tails + p.unit;
+    if 9223372036854775807 - n < rest {
+        return Nanoseconds {
+            fits: false,
+            value: 0,
+        };
+    }
+    Nanoseconds {
+        fits: true,
+        value: n + rest,
+    }
+}
+
+// The same below zero, where one number more fits.
+fn far_below(p: Parts) -> Nanoseconds
+    requires { ⌜ Sound p × (leZ (p .heads) (negℤ (p .most)) ≡ true) ⌝ }
+    ensures { λ r. ⌜ r ≡ nanosecondsOf (sum p) ⌝ }
+{
+    let heads = p.heads + 1;
+    if heads < 0 - p.most {
+        return Nanoseconds {
+            fits: false,
+            value: 0,
+        };
+    }
+    let n = heads * p.unit;
+    let rest = p.tails - p.unit;
+    if rest < -9223372036854775808 - n {
+        return Nanoseconds {
+            fits: false,
+            value: 0,
+        };
+    }
+    Nanoseconds {
+        fits: true,
+        value: n + rest,
+    }
+}
+
+// The parts as one number. Fewer heads than most fit with any tails.
+fn joined(p: Parts) -> Nanoseconds
+    requires { ⌜ Sound p ⌝ }
+    ensures { λ r. ⌜ r ≡ nanosecondsOf (sum p) ⌝ }
+{
+    if p.most <= p.heads {
+        return far_above(p);
+    }
+    if p.heads <= 0 - p.most {
+        return far_below(p);
+    }
+    Nanoseconds {
+        fits: true,
+        value: p.heads * p.unit + p.tails,
+    }
+}
+
+// The whole heads, cut toward zero: one less where the tails go the other way.
+fn whole(p: Parts) -> i64
+    requires { ⌜ Sound p ⌝ }
+    ensures { λ r. ⌜ r ≡ quotZ (sum p) (p .unit) ⌝ }
+{
+    if (0 < p.heads) & (p.tails < 0) {
+        return p.heads - 1;
+    }
+    if (p.heads < 0) & (0 < p.tails) {
+        return p.heads + 1;
+    }
+    p.heads
+}
+
+// From a to b, in nanoseconds.
+pub fn nanoseconds_between(kind: i64, a: Value, b: Value) -> Nanoseconds
+    requires { ⌜ Both kind a b ⌝ }
+    ensures { λ r. ⌜ r ≡ nanosecondsOf (difference kind a b) ⌝ }
+{
+    joined(split(kind, a, b))
+}
+
+// From a to b, in whole days cut toward zero.
+pub fn whole_days_between(kind: i64, a: Value, b: Value) -> i64
+    requires { ⌜ Both kind a b ⌝ }
+    ensures { λ r. ⌜ r ≡ wholeDays (difference kind a b) ⌝ }
+{
+    let n = whole(split(kind, a, b));
+    if is_duration(kind) {
+        return n / 86400;
+    }
+    n
+}

@@ -1,0 +1,73 @@
+/* Document 01's questions, written for the clients from its text: one function for each operation gives the number of
+   the first question that says no, 0 if none does. Question 10 is not asked here: where it says no, the Rust panics. */
+#ifndef QUESTIONS_H
+#define QUESTIONS_H
+
+#include <stdbool.h>
+#include <stdint.h>
+
+static inline bool in_range(int64_t low, int64_t x, int64_t high) {
+    return low <= x && x <= high;
+}
+
+/* A date's tail is 0. */
+static inline bool value_of_kind(int64_t kind, int64_t head, int64_t tail) {
+    if (kind == 7)
+        return in_range(-INT64_C(315576000000), head, INT64_C(315576000000)) && in_range(0, tail, 999999999);
+    return in_range(1, head, 3652059) && in_range(0, tail, kind <= 3 ? 0 : INT64_C(86399999999999));
+}
+
+/* From the value 0 0, in 128 bits: spans reach 6 x 10^20. */
+static inline __int128 nanoseconds(int64_t kind, int64_t head, int64_t tail) {
+    return (__int128)head * (kind == 7 ? INT64_C(1000000000) : INT64_C(86400000000000)) + tail;
+}
+
+/* The kinds that have an operation, a bit for each: bit 1 is kind 1. */
+enum { ALL_KINDS = 0xfe };
+
+/* Questions 1 to 5, about kind, start and end. */
+static inline int64_t refuse_axis(const int64_t axis[5], unsigned kinds) {
+    int64_t kind = axis[0];
+    if (!in_range(1, kind, 7))
+        return 1;
+    if (!(kinds >> kind & 1))
+        return 2;
+    if (!value_of_kind(kind, axis[1], axis[2]) || !value_of_kind(kind, axis[3], axis[4]))
+        return 3;
+    __int128 start = nanoseconds(kind, axis[1], axis[2]), end = nanoseconds(kind, axis[3], axis[4]);
+    if (start > end)
+        return 4;
+    __int128 most = INT64_C(4000000000000000000);
+    if (kind == 7 && (start < -most || end > most) && end - start <= INT64_MAX)
+        return 5;
+    return 0;
+}
+
+/* Question 7 of one limit or pixel. */
+static inline bool pixel_in_range(int64_t pixel) {
+    return in_range(-32767, pixel, 32767);
+}
+
+/* in: kind, start, end, low, high, value */
+static inline int64_t refuse_map(const int64_t *in) {
+    int64_t number = refuse_axis(in, ALL_KINDS);
+    if (number)
+        return number;
+    if (!pixel_in_range(in[5]) || !pixel_in_range(in[6]))
+        return 7;
+    if (!value_of_kind(in[0], in[7], in[8]))
+        return 8;
+    bool empty = in[1] == in[3] && in[2] == in[4], at_start = in[7] == in[1] && in[8] == in[2];
+    return empty && !at_start ? 9 : 0;
+}
+
+/* in: year, month, day. On which day a month ends is left to the oracle; it has years before 1 and after 9999 too. */
+static inline int64_t refuse_day_number(const int64_t *in) {
+    return in_range(1, in[0], 9999) && in_range(1, in[1], 12) && in_range(1, in[2], 31) ? 0 : 8;
+}
+
+static inline int64_t refuse_date_of(const int64_t *in) {
+    return in_range(1, in[0], 3652059) ? 0 : 8;
+}
+
+#endif

@@ -1,0 +1,302 @@
+/* Hand-checked calls: for each question one that it refuses, for each two questions one that both refuse (the first
+   number wins), and beside each bound the last number that is accepted. Exits 1 on a difference. */
+#include <inttypes.h>
+#include <stdbool.h>
+#include <stdio.h>
+
+#include "ordered.h"
+
+enum { QUESTIONS = 11 };
+
+/* The numbers as ordered_map takes them: kind, start, end, low, high, value. `also`: the next question that says no. */
+static const struct mapping {
+    int64_t in[9], status, also, pixel;
+    const char *why;
+} mappings[] = {
+    /* 1: the kind. Day 2 of 1 to 11, second 2 of 1 to 11: a tenth of the way. */
+    {{1, 1, 0, 11, 0, 0, 100, 2, 0}, 0, 0, 10, "kind 1"},
+    {{2, 1, 0, 11, 0, 0, 100, 2, 0}, 0, 0, 10, "kind 2"},
+    {{3, 1, 0, 11, 0, 0, 100, 2, 0}, 0, 0, 10, "kind 3"},
+    {{4, 1, 0, 11, 0, 0, 100, 2, 0}, 0, 0, 10, "kind 4"},
+    {{5, 1, 0, 11, 0, 0, 100, 2, 0}, 0, 0, 10, "kind 5"},
+    {{6, 1, 0, 11, 0, 0, 100, 2, 0}, 0, 0, 10, "kind 6"},
+    {{7, 1, 0, 11, 0, 0, 100, 2, 0}, 0, 0, 10, "kind 7"},
+    {{0, 1, 0, 11, 0, 0, 100, 2, 0}, 1, 0, 0, "kind 0"},
+    {{8, 1, 0, 11, 0, 0, 100, 2, 0}, 1, 0, 0, "kind 8"},
+    {{-1, 1, 0, 11, 0, 0, 100, 2, 0}, 1, 0, 0, "kind -1"},
+    {{257, 1, 0, 11, 0, 0, 100, 2, 0}, 1, 0, 0, "kind 1 in the low 8 bits"},
+    {{4294967297, 1, 0, 11, 0, 0, 100, 2, 0}, 1, 0, 0, "kind 1 in the low 32 bits"},
+    {{INT64_MIN, 1, 0, 11, 0, 0, 100, 2, 0}, 1, 0, 0, "the least kind"},
+    {{INT64_MAX, 1, 0, 11, 0, 0, 100, 2, 0}, 1, 0, 0, "the largest kind"},
+
+    /* 3: start and end. */
+    {{1, 1, 0, 3652059, 0, 0, 100, 1, 0}, 0, 0, 0, "the first day as start"},
+    {{1, 1, 0, 3652059, 0, 0, 100, 3652059, 0}, 0, 0, 100, "the last day as end"},
+    {{1, 0, 0, 11, 0, 0, 100, 2, 0}, 3, 0, 0, "day 0 as start"},
+    {{1, -1, 0, 11, 0, 0, 100, 2, 0}, 3, 0, 0, "day -1 as start"},
+    {{1, INT64_MIN, 0, 11, 0, 0, 100, 2, 0}, 3, 0, 0, "the least number as start"},
+    {{1, 1, 0, 3652060, 0, 0, 100, 2, 0}, 3, 0, 0, "10000-01-01 as end"},
+    {{1, 1, 0, INT64_MAX, 0, 0, 100, 2, 0}, 3, 0, 0, "the largest number as end"},
+    {{1, 1, 0, 4294967307, 0, 0, 100, 2, 0}, 3, 0, 0, "day 11 in the low 32 bits"},
+    {{1, 1, 1, 11, 0, 0, 100, 2, 0}, 3, 0, 0, "a date with a tail, kind 1"},
+    {{2, 1, 0, 11, 1, 0, 100, 2, 0}, 3, 0, 0, "a date with a tail, kind 2"},
+    {{3, 1, -1, 11, 0, 0, 100, 2, 0}, 3, 0, 0, "a date with a tail below 0, kind 3"},
+    {{4, 1, 0, 3652059, 86399999999999, 0, 100, 3652059, 86399999999999}, 0, 0, 100, "the last nanosecond, kind 4"},
+    {{5, 1, 0, 3652059, 86399999999999, 0, 100, 3652059, 86399999999999}, 0, 0, 100, "the last nanosecond, kind 5"},
+    {{6, 1, 0, 3652059, 86399999999999, 0, 100, 3652059, 86399999999999}, 0, 0, 100, "the last nanosecond, kind 6"},
+    {{4, 1, 86400000000000, 11, 0, 0, 100, 3, 0}, 3, 0, 0, "24:00 as start, kind 4"},
+    {{5, 1, 0, 11, 86400000000000, 0, 100, 2, 0}, 3, 0, 0, "24:00 as end, kind 5"},
+    {{6, 1, -1, 11, 0, 0, 100, 2, 0}, 3, 0, 0, "a time below 0, kind 6"},
+    {{4, 0, 86399999999999, 11, 0, 0, 100, 2, 0}, 3, 0, 0, "1 ns before the first day"},
+    {{4, 1, 0, 3652060, 0, 0, 100, 2, 0}, 3, 0, 0, "1 ns after the last day"},
+    {{7, -315576000000, 0, 315576000000, 999999999, 0, 100, 315576000000, 999999999}, 0, 0, 100, "the longest span"},
+    {{7, -315576000000, 0, 315576000000, 999999999, 0, 100, -315576000000, 0}, 0, 0, 0, "the least duration"},
+    {{7, -315576000001, 999999999, 0, 0, 0, 100, 0, 0}, 3, 0, 0, "1 ns below the least duration"},
+    {{7, 0, 0, 315576000001, 0, 0, 100, 0, 0}, 3, 0, 0, "1 ns above the largest duration"},
+    {{7, 1, 1000000000, 11, 0, 0, 100, 3, 0}, 3, 0, 0, "a whole second as a duration's tail"},
+    {{7, 1, 0, 11, -1, 0, 100, 2, 0}, 3, 0, 0, "a duration's tail below 0"},
+
+    /* 4: the order. The value is the start, or 9 would say no too. */
+    {{1, 5, 0, 5, 0, 0, 100, 5, 0}, 0, 0, 0, "start and end equal"},
+    {{1, 6, 0, 5, 0, 0, 100, 6, 0}, 4, 0, 0, "start a day later"},
+    {{2, 3652059, 0, 1, 0, 0, 100, 3652059, 0}, 4, 0, 0, "the last day to the first"},
+    {{4, 5, 1, 5, 0, 0, 100, 5, 1}, 4, 0, 0, "start 1 ns later"},
+    {{4, 6, 0, 5, 86399999999999, 0, 100, 6, 0}, 4, 0, 0, "the head decides before the tail"},
+    {{4, 5, 86399999999999, 6, 0, 0, 100, 6, 0}, 0, 0, 100, "1 ns over midnight"},
+    {{7, -1, 999999999, 0, 0, 0, 100, 0, 0}, 0, 0, 100, "-1 ns to 0"},
+    {{7, 0, 0, -1, 999999999, 0, 100, 0, 0}, 4, 0, 0, "0 to -1 ns"},
+    {{7, -1, 0, -2, 999999999, 0, 100, -1, 0}, 4, 0, 0, "-1 s to 1 ns before it"},
+
+    /* 5: the ends of a duration axis: each within 4 x 10^18 ns, or a span above i64 nanoseconds. */
+    {{7, -4000000000, 0, 4000000000, 0, 0, 100, 0, 0}, 0, 0, 50, "both ends at the bound"},
+    {{7, 0, 0, 4000000000, 1, 0, 100, 0, 0}, 5, 0, 0, "the end 1 ns past it"},
+    {{7, -4000000001, 999999999, 0, 0, 0, 100, 0, 0}, 5, 0, 0, "the start 1 ns past it"},
+    {{7, -4000000001, 999999999, 4000000000, 1, 0, 100, 0, 0}, 5, 0, 0, "both 1 ns past it"},
+    {{7, 4000000001, 0, 4000000002, 0, 0, 100, 4000000001, 0}, 5, 0, 0, "both ends past it on one side"},
+    {{7, -4000000002, 0, -4000000001, 0, 0, 100, -4000000002, 0}, 5, 0, 0, "both ends past it on the other"},
+    {{7, 4000000001, 0, 4000000001, 0, 0, 100, 4000000001, 0}, 5, 0, 0, "an empty axis past it"},
+    {{7, -5000000000, 0, 4223372036, 854775807, 0, 100, 0, 0}, 5, 0, 0, "past it, a span of 2^63 - 1 ns"},
+    {{7, -5000000000, 0, 4223372036, 854775808, 0, 100, -5000000000, 0}, 0, 0, 0, "past it, a span of 2^63 ns"},
+    {{7, -5000000000, 0, 4223372036, 854775808, 0, 100, 4223372036, 854775808}, 0, 0, 100, "its end, by whole days"},
+    {{4, 1, 0, 3652059, 0, 0, 100, 3652059, 0}, 0, 0, 100, "5 is not asked of date-times"},
+
+    /* 7: the limits. */
+    {{1, 1, 0, 11, 0, 32767, -32767, 1, 0}, 0, 0, 32767, "the largest low, the least high"},
+    {{1, 1, 0, 11, 0, -32767, 32767, 1, 0}, 0, 0, -32767, "the least low, the largest high"},
+    {{1, 1, 0, 11, 0, 5, 5, 2, 0}, 0, 0, 5, "equal limits"},
+    {{1, 1, 0, 11, 0, 100, 0, 2, 0}, 0, 0, 90, "swapped limits"},
+    {{1, 1, 0, 11, 0, 32768, 0, 1, 0}, 7, 0, 0, "low one more"},
+    {{1, 1, 0, 11, 0, -32768, 0, 1, 0}, 7, 0, 0, "low one less"},
+    {{1, 1, 0, 11, 0, 0, 32768, 1, 0}, 7, 0, 0, "high one more"},
+    {{1, 1, 0, 11, 0, 0, -32768, 1, 0}, 7, 0, 0, "high one less"},
+    {{1, 1, 0, 11, 0, 4294967296, 100, 1, 0}, 7, 10, 0, "low 0 in its low 32 bits"},
+    {{1, 1, 0, 11, 0, 0, 4294967396, 1, 0}, 7, 0, 0, "high 100 in its low 32 bits"},
+    {{4, 1, 0, 11, 0, INT64_MIN, INT64_MAX, 1, 0}, 7, 10, 0, "limits whose width does not fit"},
+    {{7, 1, 0, 11, 0, INT64_MAX, INT64_MIN, 1, 0}, 7, 10, 0, "the same, swapped"},
+
+    /* 8: the value. It may lie far outside the axis. */
+    {{1, 2, 0, 3, 0, 0, 100, 1, 0}, 0, 0, -100, "the first day"},
+    {{1, 3652057, 0, 3652058, 0, 0, 100, 3652059, 0}, 0, 0, 200, "the last day"},
+    {{1, 2, 0, 3, 0, 0, 100, 0, 0}, 8, 0, 0, "day 0"},
+    {{1, 2, 0, 3, 0, 0, 100, 3652060, 0}, 8, 0, 0, "10000-01-01"},
+    {{1, 1, 0, 11, 0, 0, 100, 4294967298, 0}, 8, 0, 0, "day 2 in the low 32 bits"},
+    {{1, 1, 0, 11, 0, 0, 100, INT64_MIN, 0}, 8, 0, 0, "the least number"},
+    {{1, 1, 0, 11, 0, 0, 100, 2, 1}, 8, 0, 0, "a date with a tail, kind 1"},
+    {{2, 1, 0, 11, 0, 0, 100, 2, 1}, 8, 0, 0, "a date with a tail, kind 2"},
+    {{3, 1, 0, 11, 0, 0, 100, 2, -1}, 8, 0, 0, "a date with a tail below 0, kind 3"},
+    {{4, 1, 0, 2, 0, 0, 100, 1, 86399999999999}, 0, 0, 99, "the last nanosecond of a day"},
+    {{4, 1, 0, 2, 0, 0, 100, 1, 86400000000000}, 8, 0, 0, "24:00"},
+    {{5, 1, 0, 2, 0, 0, 100, 2, -1}, 8, 0, 0, "a time below 0"},
+    {{6, 1, 0, 2, 0, 0, 100, 1, INT64_MAX}, 8, 0, 0, "the largest tail"},
+    {{7, 0, 0, 1, 0, 0, 100, 315576000000, 999999999}, 0, 0, 100, "the largest duration"},
+    {{7, 0, 0, 1, 0, 0, 100, -315576000000, 0}, 0, 0, 100, "the least duration"},
+    {{7, 0, 0, 1, 0, 0, 100, 315576000001, 0}, 8, 0, 0, "1 ns above the largest duration"},
+    {{7, 0, 0, 1, 0, 0, 100, -315576000001, 999999999}, 8, 0, 0, "1 ns below the least duration"},
+    {{7, 0, 0, 1, 0, 0, 100, 0, 1000000000}, 8, 0, 0, "a whole second as tail"},
+    {{7, 0, 0, 1, 0, 0, 100, 0, -1}, 8, 0, 0, "a tail below 0"},
+
+    /* 9: an empty axis has the pixel of its start only, and that is low. */
+    {{1, 5, 0, 5, 0, 7, 9, 5, 0}, 0, 0, 7, "the start of an empty axis, kind 1"},
+    {{4, 5, 1, 5, 1, 7, 9, 5, 1}, 0, 0, 7, "the start of an empty axis, kind 4"},
+    {{7, 5, 1, 5, 1, 7, 9, 5, 1}, 0, 0, 7, "the start of an empty axis, kind 7"},
+    {{1, 5, 0, 5, 0, 0, 9, 6, 0}, 9, 0, 0, "a day later, kind 1"},
+    {{2, 5, 0, 5, 0, 0, 9, 4, 0}, 9, 0, 0, "a day earlier, kind 2"},
+    {{3, 5, 0, 5, 0, 7, 7, 6, 0}, 9, 0, 0, "equal limits do not help, kind 3"},
+    {{4, 5, 1, 5, 1, 0, 9, 5, 2}, 9, 0, 0, "1 ns later, kind 4"},
+    {{5, 5, 1, 5, 1, 0, 9, 5, 0}, 9, 0, 0, "1 ns earlier, kind 5"},
+    {{6, 5, 0, 5, 0, 0, 9, 3652059, 0}, 9, 0, 0, "far away, kind 6"},
+    {{7, 5, 1, 5, 1, 0, 9, 5, 2}, 9, 0, 0, "1 ns later, kind 7"},
+    {{7, 5, 1, 5, 1, 0, 9, 315576000000, 0}, 9, 0, 0, "beyond i64 nanoseconds, kind 7"},
+    {{4, 5, 1, 5, 2, 7, 9, 5, 1}, 0, 0, 7, "an axis of 1 ns has its start"},
+    {{4, 5, 1, 5, 2, 7, 9, 5, 3}, 0, 0, 11, "and others"},
+
+    /* 10: the saturated cast plus low. */
+    {{4, 1, 0, 1, 1, 0, 1, 1, 2147483648}, 0, 0, 2147483647, "the cast saturates, low 0"},
+    {{4, 1, 0, 1, 1, 1, 2, 1, 2147483648}, 10, 0, 0, "the same, low 1"},
+    {{4, 1, 0, 1, 1, 1, 2, 1, 2147483646}, 0, 0, 2147483647, "the largest sum"},
+    {{4, 1, 0, 1, 1, 1, 2, 1, 2147483647}, 10, 0, 0, "one more"},
+    {{4, 1, 0, 1, 1, -1, 0, 1, 86399999999999}, 0, 0, 2147483646, "saturated, low -1"},
+    {{4, 2, 0, 2, 1, 0, 1, 1, 0}, 0, 0, -2147483648, "the cast saturates below, low 0"},
+    {{4, 2, 0, 2, 1, -1, 0, 1, 0}, 10, 0, 0, "the same, low -1"},
+    {{4, 2, 0, 2, 1, -1, 0, 1, 86397852516353}, 0, 0, -2147483648, "the least sum: 2147483647 ns before the start"},
+    {{4, 2, 0, 2, 1, -1, 0, 1, 86397852516352}, 10, 0, 0, "one less"},
+    {{4, 1, 0, 1, 1, 1, 0, 1, 2147483648}, 0, 0, -2147483647, "swapped limits, low 1"},
+    {{4, 1, 0, 1, 1, -1, -2, 1, 2147483648}, 10, 0, 0, "swapped limits, low -1"},
+    {{4, 1, 0, 1, 1, 0, 1, 200000, 0}, 0, 0, 2147483647, "by whole days, of which the span has none"},
+    {{4, 1, 0, 1, 1, 1, 2, 200000, 0}, 10, 0, 0, "the same, low 1, kind 4"},
+    {{5, 1, 0, 1, 1, 1, 2, 200000, 0}, 10, 0, 0, "kind 5"},
+    {{6, 200000, 0, 200000, 1, -2, -1, 1, 0}, 10, 0, 0, "kind 6, below"},
+    {{4, 1, 0, 1, 1, 5, 5, 200000, 0}, 0, 0, 5, "zero by zero is 0 after the cast"},
+    {{1, 1, 0, 2, 0, 0, 32767, 3652059, 0}, 0, 0, 2147483647, "dates saturate, low 0"},
+    {{1, 1, 0, 2, 0, 1, 32767, 3652059, 0}, 10, 0, 0, "kind 1, low 1"},
+    {{2, 1, 0, 2, 0, 1, 32767, 3652059, 0}, 10, 0, 0, "kind 2"},
+    {{3, 3652058, 0, 3652059, 0, -1, 32767, 1, 0}, 10, 0, 0, "kind 3, below"},
+    {{7, 0, 0, 0, 1, 0, 1, 2, 147483648}, 0, 0, 2147483647, "kind 7 saturates, low 0"},
+    {{7, 0, 0, 0, 1, 1, 2, 2, 147483648}, 10, 0, 0, "kind 7, low 1"},
+    {{7, 0, 0, 0, 1, 1, 2, 2, 147483646}, 0, 0, 2147483647, "kind 7, the largest sum"},
+    {{7, 0, 0, 0, 1, 1, 2, 9223372036, 854775807}, 10, 0, 0, "kind 7, the last offset of i64 nanoseconds"},
+    {{7, 0, 0, 0, 1, 1, 2, 9223372036, 854775808}, 0, 0, 2, "1 ns more: the high limit"},
+    {{7, 0, 0, 0, 1, 0, 1, -9223372037, 145224192}, 0, 0, -2147483648, "kind 7, the first offset of i64 nanoseconds"},
+    {{7, 0, 0, 0, 1, -1, 0, -9223372037, 145224192}, 10, 0, 0, "the same, low -1"},
+    {{7, 0, 0, 0, 1, -1, 0, -9223372037, 145224191}, 0, 0, 0, "1 ns less: the high limit"},
+
+    /* Two at once, each two that can fail together; 5 is asked of kind 7 only, so never with 1. */
+    {{8, 1, 0, 315576000001, 0, 0, 100, 1, 0}, 1, 3, 0, "no kind, an end of no kind"},
+    {{8, 2, 0, 1, 0, 0, 100, 2, 0}, 1, 4, 0, "no kind, start later"},
+    {{8, 1, 0, 2, 0, 0, 32768, 1, 0}, 1, 7, 0, "no kind, high too large"},
+    {{8, 1, 0, 2, 0, 0, 100, 1, -1}, 1, 8, 0, "no kind, a value of no kind"},
+    {{8, 1, 0, 1, 0, 0, 100, 2, 0}, 1, 9, 0, "no kind, empty"},
+    {{8, 1, 0, 1, 1, 1, 2, 1, 2147483648}, 1, 10, 0, "no kind, the pixel would not fit"},
+    {{1, 2, 0, 0, 0, 0, 100, 2, 0}, 3, 4, 0, "end day 0, start later"},
+    {{7, 0, 0, 4000000000, 1000000000, 0, 100, 0, 0}, 3, 5, 0, "the end's tail too large, the end too far"},
+    {{1, 0, 0, 2, 0, 0, 32768, 1, 0}, 3, 7, 0, "start day 0, high too large"},
+    {{1, 0, 0, 2, 0, 0, 100, 0, 0}, 3, 8, 0, "start day 0, value day 0"},
+    {{1, 0, 0, 0, 0, 0, 100, 1, 0}, 3, 9, 0, "day 0 to day 0, value day 1"},
+    {{4, 0, 0, 0, 1, 1, 2, 1, 0}, 3, 10, 0, "1 ns of day 0, value day 1"},
+    {{7, 4000000002, 0, 4000000001, 0, 0, 100, 4000000002, 0}, 4, 5, 0, "start later, both too far"},
+    {{1, 2, 0, 1, 0, -32768, 0, 2, 0}, 4, 7, 0, "start later, low too small"},
+    {{1, 2, 0, 1, 0, 0, 100, 0, 0}, 4, 8, 0, "start later, value day 0"},
+    {{1, 2, 0, 1, 0, 0, 100, 1, 0}, 4, 9, 0, "start later, the value not the start"},
+    {{4, 2, 1, 2, 0, 1, 2, 1, 0}, 4, 10, 0, "start later, the pixel would not fit"},
+    {{7, 0, 0, 4000000000, 1, 0, 32768, 0, 0}, 5, 7, 0, "end too far, high too large"},
+    {{7, 0, 0, 4000000000, 1, 0, 100, 0, -1}, 5, 8, 0, "end too far, the value's tail below 0"},
+    {{7, 4000000001, 0, 4000000001, 0, 0, 100, 4000000002, 0}, 5, 9, 0, "too far and empty"},
+    {{7, 4000000001, 0, 4000000001, 1, 1, 2, 4000000005, 0}, 5, 10, 0, "too far, the pixel would not fit"},
+    {{1, 1, 0, 2, 0, 32768, 0, 0, 0}, 7, 8, 0, "low too large, value day 0"},
+    {{1, 1, 0, 1, 0, 0, 32768, 2, 0}, 7, 9, 0, "high too large, empty"},
+    {{4, 1, 0, 1, 1, 32768, 32769, 1, 2147483648}, 7, 10, 0, "limits too large, the pixel would not fit"},
+    {{1, 1, 0, 1, 0, 0, 100, 0, 0}, 8, 9, 0, "value day 0, empty"},
+    {{4, 1, 0, 1, 1, 1, 2, 1, 86400000000000}, 8, 10, 0, "value 24:00, the pixel would not fit"},
+    {{4, 1, 0, 1, 0, 1, 2, 1, 1}, 9, 10, 0, "empty, and the Rust's quotient by zero saturates"},
+
+    /* All at once, then mended one by one. */
+    {{8, 4000000005, -1, 4000000005, -2, 32768, 32769, 4000000000, -1}, 1, 3, 0, "all but 5"},
+    {{7, 4000000005, -1, 4000000005, -2, 32768, 32769, 4000000000, -1}, 3, 4, 0, "all but 1"},
+    {{7, 4000000005, 1, 4000000005, 0, 32768, 32769, 4000000000, -1}, 4, 5, 0, "3 mended"},
+    {{7, 4000000005, 0, 4000000005, 0, 32768, 32769, 4000000009, -1}, 5, 7, 0, "4 mended"},
+    {{7, 0, 0, 0, 0, 32768, 32769, 9, -1}, 7, 8, 0, "5 mended"},
+    {{7, 0, 0, 0, 0, 1, 2, 9, -1}, 8, 9, 0, "7 mended"},
+    {{7, 0, 0, 0, 0, 1, 2, 9, 0}, 9, 10, 0, "8 mended"},
+    {{7, 0, 0, 0, 1, 1, 2, 9, 0}, 10, 0, 0, "9 mended"},
+    {{7, 0, 0, 0, 1, 0, 1, 9, 0}, 0, 0, 2147483647, "10 mended"},
+};
+
+static const struct numbering {
+    int64_t in[3], status, number;
+    const char *why;
+} numberings[] = {
+    {{1, 1, 1}, 0, 1, "the first date"},
+    {{9999, 12, 31}, 0, 3652059, "the last date"},
+    {{1970, 1, 1}, 0, 719163, "1970-01-01"},
+    {{0, 1, 1}, 8, 0, "year 0"},
+    {{10000, 1, 1}, 8, 0, "year 10000"},
+    {{-1, 1, 1}, 8, 0, "year -1"},
+    {{4294967297, 1, 1}, 8, 0, "year 1 in the low 32 bits"},
+    {{2021, 0, 1}, 8, 0, "month 0"},
+    {{2021, 13, 1}, 8, 0, "month 13"},
+    {{2021, 12, 1}, 0, 738125, "month 12"},
+    {{2021, 1, 0}, 8, 0, "day 0"},
+    {{2021, 1, 31}, 0, 737821, "January 31"},
+    {{2021, 1, 32}, 8, 0, "January 32"},
+    {{2021, 4, 30}, 0, 737910, "April 30"},
+    {{2021, 4, 31}, 8, 0, "April 31"},
+    {{2021, 2, 29}, 8, 0, "a common year"},
+    {{2024, 2, 29}, 0, 738945, "a leap year"},
+    {{2024, 2, 30}, 8, 0, "February 30"},
+    {{1900, 2, 29}, 8, 0, "a century that is no leap year"},
+    {{2000, 2, 29}, 0, 730179, "a leap century"},
+    {{INT64_MIN, INT64_MIN, INT64_MIN}, 8, 0, "the least numbers"},
+    {{INT64_MAX, INT64_MAX, INT64_MAX}, 8, 0, "the largest numbers"},
+};
+
+static const struct dating {
+    int64_t number, status, year, month, day;
+    const char *why;
+} datings[] = {
+    {1, 0, 1, 1, 1, "the first day"},
+    {3652059, 0, 9999, 12, 31, "the last day"},
+    {730179, 0, 2000, 2, 29, "a leap day"},
+    {0, 8, 0, 0, 0, "day 0"},
+    {-1, 8, 0, 0, 0, "day -1"},
+    {3652060, 8, 0, 0, 0, "10000-01-01"},
+    {4294967297, 8, 0, 0, 0, "day 1 in the low 32 bits"},
+    {INT64_MIN, 8, 0, 0, 0, "the least number"},
+    {INT64_MAX, 8, 0, 0, 0, "the largest number"},
+};
+
+#define COUNT(table) ((int)(sizeof(table) / sizeof(table)[0]))
+
+static int differences;
+
+static void expect(bool same, const char *call, const char *why) {
+    if (!same) {
+        differences++;
+        printf("  %s, %s: another answer\n", call, why);
+    }
+}
+
+/* The table above must have a row for each question of a mapping and for each two of them. */
+static void expect_all_covered(void) {
+    static const int asked[] = {1, 3, 4, 5, 7, 8, 9, 10};
+    bool seen[QUESTIONS][QUESTIONS] = {{false}};
+    for (int i = 0; i < COUNT(mappings); i++)
+        seen[mappings[i].status][mappings[i].also] = true;
+    for (int i = 0; i < COUNT(asked); i++) {
+        bool all = seen[asked[i]][0];
+        for (int j = i + 1; j < COUNT(asked); j++)
+            all = all && (seen[asked[i]][asked[j]] || (asked[i] == 1 && asked[j] == 5));
+        if (!all) {
+            differences++;
+            printf("  ordered_map: question %d lacks a row, alone or before another\n", asked[i]);
+        }
+    }
+}
+
+int main(void) {
+    setvbuf(stdout, NULL, _IOLBF, 0); /* what was printed stays if a sanitizer ends the run */
+    for (int i = 0; i < COUNT(mappings); i++) {
+        const struct mapping *row = &mappings[i];
+        const int64_t *in = row->in;
+        ordered_pixel r = ordered_map(in[0], in[1], in[2], in[3], in[4], in[5], in[6], in[7], in[8]);
+        if (r.status != row->status || r.pixel != row->pixel) {
+            differences++;
+            printf("  ordered_map, row %d, %s: expected %" PRId64 " %" PRId64 ", got %" PRId64 " %" PRId64 "\n", i + 1,
+                   row->why, row->status, row->pixel, r.status, r.pixel);
+        }
+    }
+    expect_all_covered();
+    for (int i = 0; i < COUNT(numberings); i++) {
+        const struct numbering *row = &numberings[i];
+        ordered_number r = ordered_day_number(row->in[0], row->in[1], row->in[2]);
+        expect(r.status == row->status && r.value == row->number, "ordered_day_number", row->why);
+    }
+    for (int i = 0; i < COUNT(datings); i++) {
+        const struct dating *row = &datings[i];
+        ordered_date r = ordered_date_of(row->number);
+        bool same = r.status == row->status && r.year == row->year && r.month == row->month && r.day == row->day;
+        expect(same, "ordered_date_of", row->why);
+    }
+    printf("refusals: %d mappings, %d dates, %d day numbers, %d differences\n", COUNT(mappings), COUNT(numberings),
+           COUNT(datings), differences);
+    return differences > 0;
+}
