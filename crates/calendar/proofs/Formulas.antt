@@ -1,10 +1,10 @@
 -- The calendar's definitions in closed form, and the formulas of the code, by years that begin in March.
 -- Month rules are one computed test over a common year and a leap year. Assumes nothing.
-use mathlib.Core.Path.{_≡_, refl, sym, ap, subst}
+use mathlib.Core.Path.{_≡_, refl, ap, subst}
 use mathlib.Core.Logic.{inl, inr}
 use mathlib.Core.Bool.{Bool, true, false, not, _&&_, _||_, cond}
 use Prim.Native.Nat.{ℕ, zero, suc, _+_, _-_, _*_, _/_, _%_, _≤_, _<_, zero-le}
-use native.Mathlib.Nat.{eq-or-lt-of-le, le-of-suc-le-suc, not-suc-le-zero, add-zero}
+use native.Mathlib.Nat.{eq-or-lt-of-le, not-suc-le-zero, add-zero}
 use native.Mathlib.Numerals.{add-one, sub-one}
 use native.Mathlib.Omega.{arith}
 use lib.ListN.{getD}

@@ -2,11 +2,11 @@
 -- And the ranges of the answers. Assumes nothing.
 use mathlib.Core.Path.{_≡_, refl, sym, _∙_, ap, subst}
 use mathlib.Core.Bool.{Bool, true, false, cond, not, _&&_, _||_}
-use Prim.Native.Nat.{ℕ, _+_, _≤_, _<_}
+use Prim.Native.Nat.{ℕ, _≤_}
 use native.Mathlib.Omega.{arith}
 use lib.IntN.{ℤ, pos, negsuc}
 use lib.Dec.{eqb, leb}
-use borrow.Author.Tests.{leb-true, leb-false, le-leb, not-true}
+use borrow.Author.Tests.{leb-true, le-leb, not-true}
 use lib.Signed.{ltZ, leZ}
 use Rattle.laws.specs.Numbers.{within, up}
 use Rattle.laws.proofs.Tests.{both-true}

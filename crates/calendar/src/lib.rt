@@ -1,7 +1,7 @@
 // The proleptic Gregorian calendar: a date's day number, the date of a day number, and the days of a date-time.
 // No loop: a year is taken to begin in March, so that a leap day is its last (Neri and Schneider's formulas).
 ghost use mathlib.Core.Path.{_≡_};
-ghost use Prim.Native.Nat.{ℕ, _+_, _-_, _*_, _≤_, _<_};
+ghost use Prim.Native.Nat.{_+_, _-_, _*_, _≤_, _<_};
 ghost use mathlib.Core.Bool.{true, false};
 ghost use lib.Dec.{leb};
 ghost use lib.IntN.{pos};

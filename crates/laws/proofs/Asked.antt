@@ -1,11 +1,11 @@
 -- What a row of questions tells where none refuses: each test, by its question's number. Assumes nothing.
-use mathlib.Core.Path.{_≡_, refl, sym, _∙_, ap, subst}
-use mathlib.Core.Bool.{Bool, true, false, cond, _&&_}
-use mathlib.Core.List.{List, [], _∷_, _++_}
+use mathlib.Core.Path.{_≡_, refl}
+use mathlib.Core.Bool.{Bool, true, false, cond}
+use mathlib.Core.List.{List, [], _∷_}
 use Prim.Native.Nat.{ℕ, zero, suc, _<_}
 use native.Mathlib.Omega.{arith}
 use lib.Dec.{T, eqb, ltb, ltb→lt}
-use Rattle.laws.specs.Asking.{Question, ask, next, askedFrom, firstNo}
+use Rattle.laws.specs.Asking.{Question, next, askedFrom, firstNo}
 
 -- the test of question n, true where it is not in the row
 abbrev pub testOf : ℕ → List Question → Bool

@@ -1,20 +1,20 @@
 -- Signed numbers for `omega`: a ℤ z is `up z - dn z`, two naturals of which one is 0. Each law says one operation or test
 -- in sums of these, which `omega` reads: hand it the law at its arguments. Assumes nothing.
-use mathlib.Core.Path.{_≡_, refl, sym, _∙_, ap, subst}
-use mathlib.Core.Bool.{Bool, true, false, cond, not}
+use mathlib.Core.Path.{_≡_, refl, sym, _∙_, ap}
+use mathlib.Core.Bool.{Bool, true, false, cond}
 use mathlib.Core.Logic.{_⊎_, inl, inr}
 use Prim.Native.Nat.{ℕ, zero, suc, _+_, _*_, _-_, _/_, _%_, _^_, _<_, _≤_}
 use native.Mathlib.Nat.{zero-mul, zero-div, zero-mod, div-le-self}
 use native.Mathlib.Omega.{arith}
-use lib.Dec.{T, ltb, leb}
-use lib.IntN.{ℤ, pos, negsuc, negℤ, natAbs, subℕ, _+ℤ_, _-ℤ_, _*ℤ_}
+use lib.Dec.{T, ltb}
+use lib.IntN.{ℤ, pos, negsuc, negℤ, _+ℤ_, _-ℤ_, _*ℤ_}
 use lib.Signed.{mag, mag-rem, ltZ, leZ, nonNeg, quotZ, remZ}
 use mir.Syntax.{w64}
 use mir.Val.{SFits, ofZ, toZ}
 use mir.Facts.{toZ-ofZ}
 use mir.ValLaws.{sfits-le, toZ-pos}
 use Rattle.laws.specs.Numbers.{up, dn}
-use borrow.Author.Tests.{ltb-true, ltb-false, leb-true, leb-false, lt-ltb, le-ltb, le-leb, lt-leb}
+use borrow.Author.Tests.{ltb-true, ltb-false, leb-true, leb-false, lt-ltb, le-ltb}
 
 -- ---- tests
 pub lt-true : (a b : ℤ) → ltZ a b ≡ true → up a + dn b < up b + dn a

@@ -2,7 +2,7 @@
 use mathlib.Core.Path.{_≡_, sym, _∙_, ap}
 use mathlib.Core.Bool.{Bool, true, false, cond, _&&_}
 use lib.IntN.{ℤ, _+ℤ_}
-use lib.Ieee.{Float, binary64, add}
+use lib.Ieee.{binary64, add}
 use Rattle.laws.proofs.Tests.{both-true}
 use Rattle.values.specs.declared.Nanoseconds.{Nanoseconds}
 use Rattle.values.specs.Differences.{fitsI64, nanosecondsOf, wholeDays}

@@ -6,7 +6,7 @@ use native.Mathlib.Nat.{lt-of-lt-of-le}
 use native.Mathlib.Omega.{arith}
 use lib.Dec.{lit≤}
 use lib.IntN.{ℤ, pos, negsuc, _+ℤ_}
-use lib.Ieee.{Float, toSigned}
+use lib.Ieee.{Float}
 use lib.Ieee.Casts.{toSigned-in}
 use mir.Syntax.{w32, w64}
 use mir.Val.{SFits}

@@ -1,7 +1,7 @@
 -- The pixel of a value on an axis between two limits: map_coord of the kinds 1 to 6, the duration's own map, and what
 -- mapping answers, refused calls too. Definitions only.
 use mathlib.Core.Path.{_≡_}
-use mathlib.Core.Bool.{Bool, true, cond, _&&_}
+use mathlib.Core.Bool.{true, cond, _&&_}
 use mathlib.Core.List.{List, [], _∷_, _++_}
 use Prim.Native.Nat.{ℕ, zero, suc}
 use lib.IntN.{ℤ, _+ℤ_, _-ℤ_}

@@ -1,19 +1,16 @@
 -- Date-times as numbers of nanoseconds: which numbers are one, its parts, and sums and differences. Assumes nothing.
 use mathlib.Core.Path.{_≡_, refl, sym, _∙_, ap}
 use mathlib.Core.Bool.{Bool, true, false, cond, _&&_}
-use Prim.Native.Nat.{ℕ, suc, _+_, _*_, _-_, _/_, _%_, _≤_, _<_}
+use Prim.Native.Nat.{ℕ, _+_, _*_, _/_, _%_, _≤_, _<_}
 use native.Mathlib.Omega.{arith}
-use lib.IntN.{ℤ, pos, negℤ, _+ℤ_, _-ℤ_}
+use lib.IntN.{ℤ, pos, _-ℤ_}
 use lib.Dec.{leb}
 use lib.Signed.{leZ}
 use borrow.Author.Tests.{leb-false}
-use Rattle.laws.specs.Numbers.{within, up, dn}
-use Rattle.laws.proofs.Signed.{add, sub, neg-up, neg-dn, same}
+use Rattle.laws.specs.Numbers.{up, dn}
+use Rattle.laws.proofs.Signed.{sub, same}
 use Rattle.laws.proofs.Tests.{and-false}
-use Rattle.floats.specs.Rounding.{withSign}
-use Rattle.values.specs.declared.Value.{Value}
 use Rattle.values.proofs.Numbers.{is-le, is-gt}
-use Rattle.unmapping.specs.declared.Unmapped.{Unmapped}
 use Rattle.unmapping.specs.declared.Unmapped.the-variants.{Refused, At}
 use Rattle.unmapping.specs.Unmapping.{isDateTime, dateTime, dateTimeAnswer}
 

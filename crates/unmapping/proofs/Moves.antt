@@ -1,16 +1,16 @@
 -- Unmapping by nanoseconds on sizes: the sign of the move, the Rust's test of the product, and that all sums fit.
 -- Assumes nothing.
-use mathlib.Core.Path.{_≡_, refl, sym, _∙_, ap, subst}
+use mathlib.Core.Path.{_≡_, refl, sym, _∙_, ap}
 use mathlib.Core.Bool.{Bool, true, false, cond, not, _&&_, _||_}
 use Prim.Native.Nat.{ℕ, zero, suc, _+_, _*_, _/_, _%_, _≤_, _<_}
-use native.Mathlib.Nat.{zero-div, zero-mul, mul-zero, mul-le-mul, le-trans, le-of-lt, mul-comm, div-mul-le-self, mul-le-mul-right, mod-lt, le-div-iff-mul-le, div-le-self, div-le-of-le-mul}
+use native.Mathlib.Nat.{zero-div, mul-zero, le-trans, le-of-lt, div-mul-le-self, mul-le-mul-right, mod-lt, le-div-iff-mul-le, div-le-self, div-le-of-le-mul}
 use native.Mathlib.Omega.{arith}
 use lib.Dec.{eqb, ltb, leb}
 use lib.IntN.{ℤ, pos, negsuc, negℤ, natAbs, _+ℤ_, _*ℤ_}
 use lib.Signed.{ltZ, leZ, quotZ, remZ}
 use lib.Ieee.{unlike}
-use borrow.Author.Tests.{eqb-true, eqb-false, ltb-true, leb-true, eq-eqb, ne-eqb, le-leb, lt-leb, not-true}
-use Rattle.laws.specs.Numbers.{within, up, dn}
+use borrow.Author.Tests.{eqb-true, eqb-false, ltb-true, leb-true, ne-eqb, le-leb, lt-leb}
+use Rattle.laws.specs.Numbers.{up, dn}
 use Rattle.laws.proofs.Signed.{add, mul-up, mul-dn, neg-up, neg-dn, same, is-ge}
 use Rattle.laws.proofs.Tests.{both-true, and-false}
 use Rattle.floats.specs.Rounding.{withSign}

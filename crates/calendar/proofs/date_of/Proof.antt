@@ -1,6 +1,5 @@
 -- `calendar::date_of` meets its contract, by the laws of the March year and of its months. Assumes nothing.
 use borrow.Author.Needs.{needs}
-use Prim.Native.Nat.{_≤_}
 use native.Mathlib.Omega.{arith}
 use lib.Dec.{leb}
 use Rattle.calendar.proofs.Formulas.{flag-le, day-at, month-fits, date-is}

@@ -1,7 +1,5 @@
 -- `calendar::day_number` meets its contract, by the law of the days since March. Assumes nothing.
 use borrow.Author.Needs.{needs}
-use Prim.Native.Nat.{_≤_}
-use mathlib.Core.Path.{_≡_}
 use native.Mathlib.Omega.{arith}
 use lib.Dec.{ltb}
 use Rattle.calendar.proofs.Formulas.{flag-le, number-is, monthLength-le}

@@ -4,7 +4,7 @@ use borrow.Author.Needs.{needs}
 use borrow.Author.Tests.{ne-eqb}
 use native.Mathlib.Nat.{add-zero}
 use native.Mathlib.Omega.{arith}
-use Rattle.calendar.specs.Gregorian.{leapDay, monthLength}
+use Rattle.calendar.specs.Gregorian.{monthLength}
 use Rattle.calendar.proofs.Formulas.{leapDay-le, lengths-le}
 use Rattle.calendar.proofs.month_length.Statement.{statement}
 use Rattle.calendar.proofs.month_length.Tie as tie

@@ -10,7 +10,6 @@ use lib.Signed.{ltZ}
 use mir.Val.{SFits, toZ, ofZ}
 use mir.Facts.{toZ-ofZ}
 use Rattle.laws.specs.Numbers.{up}
-use Rattle.calendar.specs.declared.Ymd.{Ymd}
 use Rattle.calendar.specs.Questions.{inRanges, numberOf}
 use Rattle.calendar.proofs.Questions.{out-of-ranges, Ranges, ranges}
 use Rattle.calendar.proofs.number_of.Statement.{statement}

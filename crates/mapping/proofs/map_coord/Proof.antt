@@ -1,12 +1,11 @@
 -- `mapping::map_coord` meets its contract: each branch is one of the definition's. Assumes nothing.
 use borrow.Author.Needs.{needs}
-use mathlib.Core.Path.{_≡_, _∙_, ap}
+use mathlib.Core.Path.{_∙_, ap}
 use lib.IntN.{ℤ, _+ℤ_}
 use lib.Ieee.{Float}
 use mir.Syntax.{w64}
-use mir.Val.{SFits, toZ, ofZ}
+use mir.Val.{SFits}
 use mir.Facts.{toZ-ofZ}
-use Rattle.values.specs.Differences.{wholeDays}
 use Rattle.axis.specs.Axes.{offsetOf}
 use Rattle.mapping.specs.Mapping.{cut, positionOf}
 use Rattle.mapping.proofs.Placing.{coord-near, coord-far}

@@ -1,11 +1,11 @@
 -- `mapping::map_duration` meets its contract: each branch is one of the definition's. Assumes nothing.
 use borrow.Author.Needs.{needs}
 use borrow.Author.Tests.{not-true, not-false}
-use mathlib.Core.Path.{_≡_, _∙_, ap}
+use mathlib.Core.Path.{_∙_, ap}
 use lib.IntN.{ℤ, _+ℤ_}
 use lib.Ieee.{Float, binary64, add}
 use mir.Syntax.{w64}
-use mir.Val.{SFits, toZ, ofZ}
+use mir.Val.{SFits}
 use mir.Facts.{toZ-ofZ}
 use Rattle.axis.specs.Axes.{offsetOf}
 use Rattle.mapping.specs.Mapping.{cut, nudge, positionOf}

@@ -1,7 +1,7 @@
 -- `mapping::scale_of` meets its contract. Assumes nothing.
 use borrow.Author.Needs.{needs}
-use mathlib.Core.Path.{_≡_, sym, ap, _∙_}
-use lib.IntN.{ℤ, pos, _-ℤ_}
+use mathlib.Core.Path.{_≡_, ap, _∙_}
+use lib.IntN.{_-ℤ_}
 use lib.Ieee.{binary64, ofInt}
 use mir.Syntax.{w64}
 use mir.Val.{SFits, toZ, ofZ}

@@ -6,7 +6,6 @@ use lib.IntN.{ℤ, pos}
 use mir.Facts.{toZ-ofZ}
 use Rattle.laws.proofs.Signed.{count-fits, read-count}
 use Rattle.calendar.specs.Questions.{dateAt}
-use Rattle.calendar.specs.declared.Date.{Date}
 use Rattle.calendar.proofs.Questions.{InRange, date-range}
 use Rattle.ordered.specs.Replies.{dateReply}
 use Rattle.ordered.proofs.ordered_date_of.Statement.{statement}

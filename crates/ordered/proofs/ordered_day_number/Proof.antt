@@ -10,7 +10,6 @@ use Rattle.calendar.specs.Questions.{numberOf}
 use Rattle.calendar.specs.declared.DayAnswer.{DayAnswer}
 use Rattle.calendar.proofs.Questions.{number-range}
 use Rattle.ordered.specs.Replies.{dayReply}
-use Rattle.ordered.specs.declared.OrderedNumber.{OrderedNumber}
 use Rattle.ordered.proofs.ordered_day_number.Statement.{statement}
 use Rattle.ordered.proofs.ordered_day_number.Tie as tie
 

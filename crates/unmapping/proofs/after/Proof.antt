@@ -1,6 +1,6 @@
 -- `unmapping::after` meets its contract: one day more where the nanoseconds make one. Assumes nothing.
 use mathlib.Core.Path.{_≡_, _∙_, ap}
-use Prim.Native.Nat.{ℕ, _+_, _-_, _*_}
+use Prim.Native.Nat.{ℕ, _+_, _-_}
 use native.Mathlib.Omega.{arith}
 use lib.IntN.{pos}
 use Rattle.unmapping.specs.Unmapping.{dateTimeAnswer}

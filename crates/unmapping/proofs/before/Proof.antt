@@ -1,6 +1,6 @@
 -- `unmapping::before` meets its contract: one day less where the nanoseconds do not suffice. Assumes nothing.
-use mathlib.Core.Path.{_≡_, _∙_, ap}
-use Prim.Native.Nat.{ℕ, _+_, _-_, _*_}
+use mathlib.Core.Path.{_∙_, ap}
+use Prim.Native.Nat.{_+_, _-_}
 use native.Mathlib.Omega.{arith}
 use lib.IntN.{pos, _-ℤ_}
 use Rattle.unmapping.specs.Unmapping.{dateTimeAnswer}

@@ -1,11 +1,11 @@
 -- `unmapping::by_days` meets its contract: the days in floats, cut, then a sign and a size. Assumes nothing.
-use mathlib.Core.Path.{_≡_, sym, _∙_, ap}
+use mathlib.Core.Path.{_≡_, _∙_, ap}
 use Prim.Native.Nat.{ℕ, _*_}
 use lib.IntN.{ℤ, pos, natAbs, _+ℤ_, _*ℤ_}
 use lib.Signed.{ltZ}
 use lib.Ieee.{binary64, ofInt, mul, div, toSigned}
 use mir.Syntax.{w64}
-use mir.Val.{SFits, toZ, ofZ}
+use mir.Val.{SFits}
 use mir.Facts.{toZ-ofZ}
 use Rattle.floats.specs.Rounding.{withSign}
 use Rattle.unmapping.specs.Unmapping.{daysBy, dateTimeAnswer}

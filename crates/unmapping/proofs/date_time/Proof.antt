@@ -1,5 +1,5 @@
 -- `unmapping::date_time` meets its contract. Assumes nothing.
-use mathlib.Core.Path.{_≡_, _∙_, ap}
+use mathlib.Core.Path.{_∙_}
 use Prim.Native.Nat.{_≤_}
 use native.Mathlib.Omega.{arith}
 use lib.Dec.{leb}

@@ -6,7 +6,7 @@ use Prim.Native.Nat.{_≤_}
 use native.Mathlib.Omega.{arith}
 use lib.IntN.{ℤ, pos, natAbs, _+ℤ_, _*ℤ_}
 use mir.Syntax.{w64}
-use mir.Val.{SFits, toZ, ofZ}
+use mir.Val.{SFits}
 use mir.Facts.{toZ-ofZ}
 use Rattle.laws.specs.Numbers.{up, dn}
 use Rattle.laws.proofs.Signed.{up-fits}

@@ -1,5 +1,5 @@
 -- `unmapping::size_moved` meets its contract: the products fit. Assumes nothing.
-use Prim.Native.Nat.{_*_, _/_, _%_, _≤_}
+use Prim.Native.Nat.{_*_, _%_, _≤_}
 use native.Mathlib.Nat.{mul-le-mul, le-trans, le-of-lt, mod-lt}
 use native.Mathlib.Omega.{arith}
 use Rattle.unmapping.proofs.Moves.{rest-most}

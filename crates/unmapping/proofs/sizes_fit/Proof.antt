@@ -1,5 +1,4 @@
 -- `unmapping::sizes_fit` meets its contract: it is the definition. Assumes nothing.
-use mathlib.Core.Path.{sym}
 use borrow.Author.Tests.{eq-eqb, ne-eqb}
 use borrow.Author.Needs.{needs}
 use Rattle.unmapping.proofs.sizes_fit.Statement.{statement}
