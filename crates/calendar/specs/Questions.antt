@@ -20,13 +20,13 @@ unfoldable pub isDate : ℤ → ℤ → ℤ → Bool
 unfolding monthLength
 isDate y m d = within (pos 1) y (pos 9999) && (within (pos 1) m (pos 12) && within (pos 1) d (pos (monthLength (up y) (up m))))
 
--- a day of these years
-unfoldable pub isDay : ℤ → Bool
-isDay n = within (pos 1) n (pos 3652059)
-
 -- the same, but for the month's length
 unfoldable pub inRanges : Ymd → Bool
 inRanges t = (within (pos 1) (t .year) (pos 9999) && within (pos 1) (t .month) (pos 12)) && leZ (pos 1) (t .day)
+
+-- a day of these years
+unfoldable pub isDay : ℤ → Bool
+isDay n = within (pos 1) n (pos 3652059)
 
 abbrev pub dateQuestions : ℤ → ℤ → ℤ → List Question
 dateQuestions y m d = ask 8 (isDate y m d) ∷ []

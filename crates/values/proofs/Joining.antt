@@ -14,7 +14,7 @@ use Rattle.laws.specs.Numbers.{up, dn}
 use Rattle.laws.proofs.Signed.{lt-true, lt-false, le-true, le-false, add, sub, mul-up, mul-dn, quot-up, quot-dn, up-fits, fits, same, count-fits}
 use Rattle.laws.proofs.Tests.{both-true}
 use Rattle.values.specs.declared.Parts.{Parts}
-use Rattle.values.specs.Parts.{Unit, day, second, Sound, sum}
+use Rattle.values.specs.Parts.{Unit, day, second, Sound}
 use Rattle.values.proofs.Numbers.{not-below, not-above}
 
 -- ---- what the parts are, as the machine reads them

@@ -1,0 +1,83 @@
+-- A list of pairs: its length, the tick that is read at each place, and how a lent slice comes to hold it, two stores for
+-- each tick. Assumes nothing.
+use mathlib.Core.Path.{_≡_, refl, sym, _∙_}
+use mathlib.Core.Logic.{inl, inr}
+use mathlib.Core.List.{List, [], _∷_, _++_}
+use Prim.Native.Nat.{ℕ, zero, suc, _+_, _*_, _≤_, _<_}
+use native.Mathlib.Nat.{eq-or-lt-of-le, not-suc-le-zero}
+use native.Mathlib.Numerals.{add-one}
+use native.Mathlib.Omega.{arith}
+use lib.IntN.{ℤ, pos}
+use lib.ListN.{length, getD, set, drop, length-append, length-set, List·getD-append}
+use lib.Seq.{getD-at}
+use Rattle.laws.proofs.Lent.{length-push, push-two}
+use Rattle.steps.specs.declared.Steps.{Steps}
+use Rattle.steps.specs.declared.Tick.{Tick}
+use Rattle.steps.specs.Progression.{tickOf}
+use Rattle.steps.specs.Listing.{pairs, ticks}
+use Rattle.steps.specs.Promise.{nth}
+
+module _ (f : ℕ → Tick) where
+  pub length-pairs : (n : ℕ) → length (pairs f n) ≡ 2 * n
+  length-pairs zero = refl
+  length-pairs (suc n) = simp length-append (omega (arith, length-pairs n))
+
+  head-at : (n i : ℕ) → i < n → getD (pairs f n) (2 * i) (pos 0) ≡ f i .head
+  head-at zero i h = absurd (not-suc-le-zero h)
+  head-at (suc n) i h =
+      let l = length-pairs n in
+      let a : 2 * i < length (pairs f n ++ (f n .head ∷ [])) = omega (arith, length-push (pairs f n) (2 * n) (f n .head) l) in
+      List·getD-append (pairs f n ++ (f n .head ∷ [])) (f n .tail ∷ []) (pos 0) (2 * i) a
+      ∙ elim (eq-or-lt-of-le h) [
+        | inl p ↦ let e : n ≡ i = omega arith in rw (← e) (getD-at (pairs f n) (f n .head) [] (pos 0) (2 * n) l)
+        | inr q ↦
+            let b : 2 * i < length (pairs f n) = omega arith in
+            List·getD-append (pairs f n) (f n .head ∷ []) (pos 0) (2 * i) b ∙ head-at n i (omega arith)
+      ]
+
+  tail-at : (n i : ℕ) → i < n → getD (pairs f n) (2 * i + 1) (pos 0) ≡ f i .tail
+  tail-at zero i h = absurd (not-suc-le-zero h)
+  tail-at (suc n) i h =
+      let l = length-pairs n in
+      let m = length-push (pairs f n) (2 * n) (f n .head) l in
+      elim (eq-or-lt-of-le h) [
+        | inl p ↦ let e : n ≡ i = omega arith in rw (← e) (getD-at (pairs f n ++ (f n .head ∷ [])) (f n .tail) [] (pos 0) (2 * n + 1) m)
+        | inr q ↦
+            let a : 2 * i + 1 < length (pairs f n ++ (f n .head ∷ [])) = omega arith in
+            let b : 2 * i + 1 < length (pairs f n) = omega arith in
+            List·getD-append (pairs f n ++ (f n .head ∷ [])) (f n .tail ∷ []) (pos 0) (2 * i + 1) a
+            ∙ List·getD-append (pairs f n) (f n .head ∷ []) (pos 0) (2 * i + 1) b ∙ tail-at n i (omega arith)
+      ]
+
+  -- the tick that is read at place i is the one that was listed there
+  pub nth-pairs : (n i : ℕ) → i < n → nth (pairs f n) i ≡ f i
+  nth-pairs n i h = λ k. record { head = head-at n i h k; tail = tail-at n i h k }
+
+-- ---- d with the ticks before place i written at its front
+pub record Written (s : Steps) (d l : List ℤ) (i at : ℕ) : Type 0 where
+  pub turns : i ≤ s .count
+  pub at-is : at ≡ 2 * i
+  pub length-is : length l ≡ length d
+  pub list-is : l ≡ pairs (tickOf s) i ++ drop at d
+
+pub none-written : (s : Steps) (d : List ℤ) → Written s d d 0 0
+none-written s d = record { turns = omega arith; at-is = refl; length-is = refl; list-is = refl }
+
+module _ {s : Steps} {d l : List ℤ} {i at : ℕ} (w : Written s d l i at) where
+  -- two stores are one tick more
+  pub one-more : {v : Tick} → i < s .count → 2 * s .count ≤ length d → v ≡ tickOf s i
+      → Written s d (set (set l at (v .head)) (at + 1) (v .tail)) (i + 1) (at + 2)
+  one-more {v} h room e =
+      let next : at + 1 < length d = omega (arith, w .at-is) in
+      record {
+        turns = omega arith;
+        at-is = omega (arith, w .at-is);
+        length-is = simp length-set (w .length-is);
+        list-is = rw (add-one i, e) (push-two l (pairs (tickOf s) i) d at (tickOf s i .head) (tickOf s i .tail) (w .list-is) (length-pairs (tickOf s) i ∙ sym (w .at-is)) next);
+      }
+
+  pub all-written : s .count ≤ i → l ≡ ticks s ++ drop (2 * s .count) d
+  all-written h =
+      let i≡ : i ≡ s .count = omega (arith, w .turns) in
+      let at≡ : at ≡ 2 * s .count = omega (arith, w .at-is) in
+      rw (← at≡, ← i≡) (w .list-is)

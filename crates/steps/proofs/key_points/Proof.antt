@@ -1,0 +1,46 @@
+-- `steps::key_points` meets its contract: what `list` left, up to its count. Assumes nothing.
+use mathlib.Core.Path.{_≡_, refl, sym, ap, _∙_}
+use Prim.Native.Nat.{ℕ, _*_, _≤_}
+use native.Mathlib.Omega.{arith}
+use lib.ListN.{length, take}
+use lib.Seq.{length-take-le}
+use borrow.Author.Needs.{needs}
+use Rattle.steps.specs.Listing.{listedOf, countOf}
+use Rattle.steps.proofs.Fronts.{within-lent, front-is}
+use Rattle.steps.proofs.key_points.Statement.{statement}
+use Rattle.steps.proofs.key_points.Tie as tie
+
+list-requires : tie.Need-list-requires
+list-requires c κs = search needs
+
+count-of-requires : tie.Need-count-of-requires
+count-of-requires c κs = search needs
+
+counted : (c : tie.After-count-of) → let x = c .before .before .before .before in c .count-of .result ≡ countOf (listedOf (x .args .s) (length (x .args .lent .now)))
+counted c = c .count-of .ensures ∙ ap countOf (c .before .before .list .ensures .0)
+
+fits : (c : tie.After-count-of) → 2 * c .count-of .result ≤ length (c .before .before .before .before .args .lent .now)
+fits c = let x = c .before .before .before .before in rw (counted c) (within-lent (x .args .s) (x .args .lent .now))
+
+mul-k : tie.Need-mul-k
+mul-k c = omega (arith, fits c)
+
+slice-aggregate-result : tie.Need-slice-aggregate-result
+slice-aggregate-result c =
+    let f = c .before .before .before .list in
+    let h : 2 * c .before .count-of .result ≤ length (f .last .1 .0) = omega (arith, f .kept .1 .0, fits (c .before)) in
+    sym (length-take-le (2 * c .before .count-of .result) (f .last .1 .0) h)
+
+returns : tie.Need-returns
+returns c =
+    let x = c .before .before .before .before .before in
+    let f = c .before .before .before .list in (
+      ap (λ (n : ℕ). take (2 * n) (f .last .1 .0)) (counted (c .before))
+          ∙ ap (take (2 * countOf (listedOf (x .args .s) (length (x .args .lent .now))))) (f .ensures .1)
+          ∙ front-is (x .args .s) (x .args .lent .now),
+      refl,
+    )
+
+pub key-points-spec : {M : Type 1} → statement M
+key-points-spec =
+    tie.close (tie.spec list-requires count-of-requires mul-k slice-aggregate-result returns)

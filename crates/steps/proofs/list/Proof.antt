@@ -1,0 +1,49 @@
+-- `steps::list` meets its contract: it asks question 11, and one of the two loops does the rest. Assumes nothing.
+use mathlib.Core.Path.{_≡_, sym, _∙_}
+use mathlib.Core.Bool.{true}
+use lib.ListN.{length}
+use borrow.Author.Needs.{needs}
+use borrow.Author.Tests.{leb-true, not-true, not-false}
+use Rattle.steps.specs.Listing.{hasRoom}
+use Rattle.steps.proofs.list.Statement.{statement}
+use Rattle.steps.proofs.list.Tie as tie
+
+has-room-requires : tie.Need-has-room-requires
+has-room-requires c κs = search needs
+
+returns : tie.Need-returns
+returns c = let e = sym (c .before .has-room .ensures) ∙ not-true _ (c .if1 .taken) in (rw e, rw e)
+
+room : (c : tie.Else1) → hasRoom (c .before .before .args .s) (length (c .before .before .args .lent .now)) ≡ true
+room c = sym (c .before .has-room .ensures) ∙ not-false _ (c .if1 .left)
+
+list-months-requires : tie.Need-list-months-requires
+list-months-requires c κs = ((c .before .before .before .before .pre, c .before .if2 .taken), leb-true _ _ (room (c .before .before)))
+
+same-length : tie.Need-same-length
+same-length c = search needs
+
+returns-2 : tie.Need-returns-2
+returns-2 c = let e = room (c .before .before .before .before) in (rw e, rw e (c .before .list-months .ensures))
+
+list-even-requires : tie.Need-list-even-requires
+list-even-requires c κs = ((c .before .before .before .before .pre, c .before .if2 .left), leb-true _ _ (room (c .before .before)))
+
+same-length-2 : tie.Need-same-length-2
+same-length-2 c = search needs
+
+returns-3 : tie.Need-returns-3
+returns-3 c = let e = room (c .before .before .before .before) in (rw e, rw e (c .before .list-even .ensures))
+
+pub list-spec : {M : Type 1} → statement M
+list-spec =
+    tie.close
+    (tie.spec
+    has-room-requires
+    returns
+    list-months-requires
+    same-length
+    returns-2
+    list-even-requires
+    same-length-2
+    returns-3)
