@@ -1,5 +1,6 @@
-// Nanoseconds per call of ordered_map beside plotters' map, for each kind, in one process on the same inputs:
-// axes as charts have them, values inside, all accepted. Raw: numbers come in. Ready: chrono's values and coords do.
+// Nanoseconds per call of our mapping beside plotters' map, for each kind, in one process on the same inputs: axes as
+// charts have them, values inside, all accepted. Raw: numbers come in. Ready: chrono's values and coords do, and on our
+// side an axis with its scale.
 #include <cstdint>
 #include <cstdio>
 #include <random>
@@ -8,6 +9,7 @@
 #include "measure.h"
 #include "ordered.h"
 #include "plotters.h"
+#include "ready.h"
 
 namespace {
 
@@ -23,6 +25,12 @@ struct Ready {
     Coord coord;
     Value value;
     int32_t low, high;
+};
+
+struct Scaled {
+    ready_scale scale;
+    ready_axis axis;
+    ready_value value;
 };
 
 std::mt19937_64 generator(20260101);
@@ -63,7 +71,7 @@ struct Ratio {
 void print_names(const std::vector<Side> &sides, const std::vector<Ratio> &ratios) {
     std::printf("%-20s", "kind");
     for (const Side &side : sides)
-        std::printf(" %16s", side.name);
+        std::printf(" %17s", side.name);
     for (Ratio r : ratios)
         std::printf("  %c/%c ", 'a' + r.of, 'a' + r.to);
     std::printf("  sum\n");
@@ -73,17 +81,24 @@ ordered_pixel mapped(int kind, const Raw &r) {
     return ordered_map(kind, r.start_head, r.start_tail, r.end_head, r.end_tail, r.low, r.high, r.head, r.tail);
 }
 
-template <auto Map, auto MakeCoord, auto MakeValue, auto MapReady> bool measure(int kind, const char *name) {
+template <auto Map, auto MakeCoord, auto MakeValue, auto MapReady, auto MapScaled>
+bool measure(int kind, const char *name) {
     std::vector<Raw> raw(INPUTS);
     std::vector<Ready> ready(INPUTS);
+    std::vector<Scaled> scaled(INPUTS);
     for (int i = 0; i < INPUTS; i++) {
         const Raw &r = raw[i] = input(kind);
+        if (mapped(kind, r).status) {
+            std::printf("%d %s: an input is refused\n", kind, name);
+            return false;
+        }
         MakeCoord(r.start_head, r.start_tail, r.end_head, r.end_tail, &ready[i].coord);
         MakeValue(r.head, r.tail, &ready[i].value);
         ready[i].low = (int32_t)r.low, ready[i].high = (int32_t)r.high;
+        const ready_axis axis = {kind, r.start_head, r.start_tail, r.end_head, r.end_tail};
+        scaled[i] = {ready_scale_of(axis, {r.low, r.high}), axis, {r.head, r.tail}};
     }
 
-    // A further side is one row here, and one ratio below: ours with a ready scale beside plotters with ready values.
     std::vector<Side> sides = {
         {"a ordered, raw", loop(raw, TIMES, [kind](const Raw &r) { return mapped(kind, r).pixel; })},
         {"b plotters, raw", loop(raw, TIMES, [](const Raw &r) {
@@ -92,20 +107,16 @@ template <auto Map, auto MakeCoord, auto MakeValue, auto MapReady> bool measure(
         {"c plotters, ready", loop(ready, TIMES, [](const Ready &r) {
             return MapReady(&r.coord, &r.value, r.low, r.high);
         })},
+        {"d ordered, ready", loop(scaled, TIMES, [](const Scaled &r) { return MapScaled(r.scale, r.axis, r.value); })},
     };
-    const std::vector<Ratio> ratios = {{0, 1}, {0, 2}};
+    const std::vector<Ratio> ratios = {{0, 1}, {0, 2}, {3, 2}};
 
-    for (const Raw &r : raw)
-        if (mapped(kind, r).status) {
-            std::printf("%d %s: an input is refused\n", kind, name);
-            return false;
-        }
     bool same = run_rounds(ROUNDS, INPUTS * TIMES, sides);
     if (kind == 1)
         print_names(sides, ratios);
     std::printf("%d %-18s", kind, name);
     for (const Side &side : sides)
-        std::printf(" %16.2f", side.best);
+        std::printf(" %17.2f", side.best);
     for (Ratio r : ratios)
         std::printf(" %5.2f", sides[r.of].best / sides[r.to].best);
     std::printf("  %llu%s\n", (unsigned long long)sides[0].sum, same ? "" : "  ANOTHER SUM ON A SIDE");
@@ -115,10 +126,13 @@ template <auto Map, auto MakeCoord, auto MakeValue, auto MapReady> bool measure(
 } // namespace
 
 int main() {
-    std::printf("best of %d rounds, ns per call; raw: all from the numbers in each call; ready: made before\n", ROUNDS);
+    std::printf("best of %d rounds, ns per call; raw: all from the numbers in each call; ready: plotters' values and "
+                "coords, our scale made before\n",
+                ROUNDS);
     bool same = true;
-#define KIND(N, NAME) \
-    same &= measure<plotters_map_##N, plotters_coord_##N, plotters_value_##N, plotters_ready_##N>(N, NAME)
+#define KIND(N, NAME)                                                                                              \
+    same &= measure<plotters_map_##N, plotters_coord_##N, plotters_value_##N, plotters_ready_##N,                  \
+                    (N == 7 ? ready_map_duration : ready_map_coord)>(N, NAME)
     KIND(1, "date");
     KIND(2, "month, dates");
     KIND(3, "year, dates");
