@@ -28,9 +28,10 @@ struct Ready {
 };
 
 struct Scaled {
-    ready_scale scale;
-    ready_axis axis;
-    ready_value value;
+    int64_t limits[2];
+    double floats[3];
+    bool fits;
+    int64_t axis[5], value[2];
 };
 
 std::mt19937_64 generator(20260101);
@@ -81,6 +82,15 @@ ordered_pixel mapped(int kind, const Raw &r) {
     return ordered_map(kind, r.start_head, r.start_tail, r.end_head, r.end_tail, r.low, r.high, r.head, r.tail);
 }
 
+Scaled scaled_of(int kind, const Raw &r) {
+    ready_scale s = ready_scale_of({kind, r.start_head, r.start_tail, r.end_head, r.end_tail}, {r.low, r.high});
+    return {{s.low, s.high},
+            {s.width, s.total, s.days},
+            s.fits,
+            {kind, r.start_head, r.start_tail, r.end_head, r.end_tail},
+            {r.head, r.tail}};
+}
+
 template <auto Map, auto MakeCoord, auto MakeValue, auto MapReady, auto MapScaled>
 bool measure(int kind, const char *name) {
     std::vector<Raw> raw(INPUTS);
@@ -95,8 +105,7 @@ bool measure(int kind, const char *name) {
         MakeCoord(r.start_head, r.start_tail, r.end_head, r.end_tail, &ready[i].coord);
         MakeValue(r.head, r.tail, &ready[i].value);
         ready[i].low = (int32_t)r.low, ready[i].high = (int32_t)r.high;
-        const ready_axis axis = {kind, r.start_head, r.start_tail, r.end_head, r.end_tail};
-        scaled[i] = {ready_scale_of(axis, {r.low, r.high}), axis, {r.head, r.tail}};
+        scaled[i] = scaled_of(kind, r);
     }
 
     std::vector<Side> sides = {
@@ -107,7 +116,9 @@ bool measure(int kind, const char *name) {
         {"c plotters, ready", loop(ready, TIMES, [](const Ready &r) {
             return MapReady(&r.coord, &r.value, r.low, r.high);
         })},
-        {"d ordered, ready", loop(scaled, TIMES, [](const Scaled &r) { return MapScaled(r.scale, r.axis, r.value); })},
+        {"d ordered, ready", loop(scaled, TIMES, [](const Scaled &r) {
+            return MapScaled(r.limits, r.floats, r.fits, r.axis, r.value);
+        })},
     };
     const std::vector<Ratio> ratios = {{0, 1}, {0, 2}, {3, 2}};
 
@@ -126,8 +137,8 @@ bool measure(int kind, const char *name) {
 } // namespace
 
 int main() {
-    std::printf("best of %d rounds, ns per call; raw: all from the numbers in each call; ready: plotters' values and "
-                "coords, our scale made before\n",
+    std::printf("best of %d rounds, ns per call; raw: all from the numbers in each call; ready: coord and value, or "
+                "on our side the scale, made before\n",
                 ROUNDS);
     bool same = true;
 #define KIND(N, NAME)                                                                                              \

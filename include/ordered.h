@@ -1,7 +1,8 @@
 /* Ordered: the date axes of printed charts, proved. The C interface of libordered.a.
-   Every parameter is an int64_t, every answer a struct of int64_t by value.
+   Every parameter is an int64_t, a lent slice a pointer and its length, every answer a struct of int64_t by value.
 
-   status: 0 answered, else the number of the question that refused the call. All other fields are 0 unless answered.
+   status: 0 answered, -1 none (no refusal), else the number of the question that refused the call. All other fields are 0
+   unless answered; a refused call writes nothing.
    Any numbers may be handed in: no call traps, wraps or runs without end.
 
    A kind is 1 date, 2 monthly and 3 yearly over dates, 4 date-time, 5 monthly and 6 yearly over date-times, 7 duration. A
@@ -10,16 +11,20 @@
 
    Questions are asked in this order, where they apply; the first no gives its number:
    1   the kind is 1 to 7
+   2   the kind has this operation
    3   start and end are values of the kind: days 1 to 3652059, durations within 315576000000 seconds
    4   start is no later than end
    5   kind 7: both ends are within 4 * 10^18 ns of zero, or the span is above 2^63 - 1 ns
+   6   a hint's numbers are 0 to 4096, and N is at least 1 on the kinds 4 to 7
    7   each limit is -32767 to 32767
    8   the value is one of the kind; the year, month and day are a date of the years 1 to 9999; the day number is 1 to 3652059
    9   to map: start is before end, or the value is start
-   10  the answer fits 32 bits */
+   10  the answer fits 32 bits
+   11  the lent slice has two numbers for each tick */
 #ifndef ORDERED_H
 #define ORDERED_H
 
+#include <stddef.h>
 #include <stdint.h>
 
 #ifdef __cplusplus
@@ -28,8 +33,9 @@ extern "C" {
 
 #define ORDERED_AXIS int64_t kind, int64_t start_head, int64_t start_tail, int64_t end_head, int64_t end_tail
 
-typedef struct { int64_t status, value; } ordered_number; /* a day number */
+typedef struct { int64_t status, value; } ordered_number; /* a day number, a count of ticks */
 typedef struct { int64_t status, pixel; } ordered_pixel;
+typedef struct { int64_t status, nanoseconds; } ordered_period;
 typedef struct { int64_t status, year, month, day; } ordered_date;
 
 /* The day number of a date of ISO 8601's calendar; 0001-01-01 is 1, 9999-12-31 is 3652059. */
@@ -40,6 +46,22 @@ ordered_date ordered_date_of(int64_t day_number);
 
 /* The pixel of a value on an axis. */
 ordered_pixel ordered_map(ORDERED_AXIS, int64_t low, int64_t high, int64_t head, int64_t tail);
+
+/* The step between ticks of the kinds 4 and 7, for at most n + 1 of them. None where whole days are listed: on kind 4 from
+   10^14 ns for each of the n on, on both kinds where the span is above 2^63 - 1 ns. */
+ordered_period ordered_period_per_point(ORDERED_AXIS, int64_t n);
+
+/* The ticks of an axis for a bold hint of n, at most n + 1: their count. Head and tail of each stand at the front of the lent
+   numbers, in order; the numbers behind them are unchanged. */
+ordered_number ordered_ticks_bold(ORDERED_AXIS, int64_t n, int64_t *lent, size_t lent_len);
+
+/* The same for a light hint, a bold count and a limit n: the ticks of the finer axis where the size is at most twice the
+   bold count, from years to months, from months to days or times. */
+ordered_number ordered_ticks_light(ORDERED_AXIS, int64_t bold, int64_t n, int64_t *lent, size_t lent_len);
+
+/* The answers of the two above for a lent slice of that length, with nothing lent. */
+ordered_number ordered_count_bold(ORDERED_AXIS, int64_t n, size_t lent_len);
+ordered_number ordered_count_light(ORDERED_AXIS, int64_t bold, int64_t n, size_t lent_len);
 
 #ifdef __cplusplus
 }

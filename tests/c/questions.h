@@ -1,5 +1,6 @@
 /* Document 01's questions, written for the clients from its text: one function for each operation gives the number of
-   the first question that says no, 0 if none does. Question 10 is not asked here: where it says no, the Rust panics. */
+   the first question that says no, 0 if none does. Not asked here: question 10, where it says no the Rust panics, and
+   question 11, which needs the list. */
 #ifndef QUESTIONS_H
 #define QUESTIONS_H
 
@@ -23,7 +24,7 @@ static inline __int128 nanoseconds(int64_t kind, int64_t head, int64_t tail) {
 }
 
 /* The kinds that have an operation, a bit for each: bit 1 is kind 1. */
-enum { ALL_KINDS = 0xfe };
+enum { ALL_KINDS = 0xfe, PERIOD_KINDS = 1 << 4 | 1 << 7 };
 
 /* Questions 1 to 5, about kind, start and end. */
 static inline int64_t refuse_axis(const int64_t axis[5], unsigned kinds) {
@@ -59,6 +60,29 @@ static inline int64_t refuse_map(const int64_t *in) {
         return 8;
     bool empty = in[1] == in[3] && in[2] == in[4], at_start = in[7] == in[1] && in[8] == in[2];
     return empty && !at_start ? 9 : 0;
+}
+
+/* Question 6 of a hint, bold count and N. */
+static inline bool hint_in_range(int64_t kind, int64_t bold, int64_t n) {
+    return in_range(0, bold, 4096) && in_range(kind >= 4, n, 4096);
+}
+
+/* in: kind, start, end, N */
+static inline int64_t refuse_ticks_bold(const int64_t *in) {
+    int64_t number = refuse_axis(in, ALL_KINDS);
+    return number ? number : hint_in_range(in[0], 0, in[5]) ? 0 : 6;
+}
+
+/* in: kind, start, end, bold count, N */
+static inline int64_t refuse_ticks_light(const int64_t *in) {
+    int64_t number = refuse_axis(in, ALL_KINDS);
+    return number ? number : hint_in_range(in[0], in[5], in[6]) ? 0 : 6;
+}
+
+/* in: kind, start, end, N */
+static inline int64_t refuse_period(const int64_t *in) {
+    int64_t number = refuse_axis(in, PERIOD_KINDS);
+    return number ? number : hint_in_range(in[0], 0, in[5]) ? 0 : 6;
 }
 
 /* in: year, month, day. On which day a month ends is left to the oracle; it has years before 1 and after 9999 too. */

@@ -1,12 +1,14 @@
 /* Hand-checked calls: for each question one that it refuses, for each two questions one that both refuse (the first
-   number wins), and beside each bound the last number that is accepted. Exits 1 on a difference. */
+   number wins), and beside each bound the last number that is accepted. Lists and counts also see what was lent. Exits 1
+   on a difference. */
 #include <inttypes.h>
 #include <stdbool.h>
 #include <stdio.h>
+#include <string.h>
 
 #include "ordered.h"
 
-enum { QUESTIONS = 11 };
+enum { QUESTIONS = 12, LENT = 20 };
 
 /* The numbers as ordered_map takes them: kind, start, end, low, high, value. `also`: the next question that says no. */
 static const struct mapping {
@@ -201,6 +203,170 @@ static const struct mapping {
     {{7, 0, 0, 0, 1, 0, 1, 9, 0}, 0, 0, 2147483647, "10 mended"},
 };
 
+/* A tick list by its hint, bold count (-1: none, a bold hint) and N, and the length of the lent slice. An accepted one has its
+   first ticks beside it, up to three. Day 32 is 0001-02-01, 60 March 1, 738155 is 2021-12-31. */
+static const struct listing {
+    int64_t in[5], bold, n;
+    size_t lent;
+    int64_t status, also, count, ticks[6];
+    const char *why;
+} listings[] = {
+    /* 1: the kind. */
+    {{1, 1, 0, 3, 0}, -1, 2, 6, 0, 0, 3, {1, 0, 2, 0, 3, 0}, "kind 1: the end is included"},
+    {{2, 1, 0, 60, 0}, -1, 2, 6, 0, 0, 3, {1, 0, 32, 0, 60, 0}, "kind 2: three firsts"},
+    {{3, 1, 0, 731, 0}, -1, 4, 6, 0, 0, 3, {1, 0, 366, 0, 731, 0}, "kind 3: three years"},
+    {{4, 1, 0, 1, 3}, -1, 3, 6, 0, 0, 3, {1, 0, 1, 1, 1, 2}, "kind 4: the end is not included"},
+    {{5, 1, 0, 60, 0}, -1, 2, 6, 0, 0, 3, {1, 0, 32, 0, 60, 0}, "kind 5"},
+    {{6, 1, 0, 731, 0}, -1, 4, 6, 0, 0, 3, {1, 0, 366, 0, 731, 0}, "kind 6"},
+    {{7, 0, 0, 3, 0}, -1, 3, 6, 0, 0, 3, {0, 0, 1, 0, 2, 0}, "kind 7: the end is not included"},
+    {{0, 1, 0, 3, 0}, -1, 2, 16, 1, 0, 0, {0}, "kind 0"},
+    {{8, 1, 0, 3, 0}, -1, 2, 16, 1, 0, 0, {0}, "kind 8"},
+    {{257, 1, 0, 3, 0}, -1, 2, 16, 1, 0, 0, {0}, "kind 1 in the low 8 bits"},
+    {{4294967297, 1, 0, 3, 0}, 2, 2, 16, 1, 0, 0, {0}, "kind 1 in the low 32 bits, light"},
+    {{INT64_MIN, 1, 0, 3, 0}, -1, 2, 16, 1, 0, 0, {0}, "the least kind"},
+
+    /* 3: start and end. */
+    {{1, 1, 0, 3652059, 0}, -1, 0, 2, 0, 0, 1, {1, 0}, "all days"},
+    {{1, 0, 0, 3, 0}, -1, 3, 16, 3, 0, 0, {0}, "day 0 as start"},
+    {{1, 3652058, 0, 3652060, 0}, -1, 3, 16, 3, 0, 0, {0}, "10000-01-01 as end"},
+    {{2, 1, 1, 60, 0}, -1, 3, 16, 3, 0, 0, {0}, "a date with a tail"},
+    {{4, 1, 86400000000000, 3, 0}, -1, 3, 16, 3, 0, 0, {0}, "24:00 as start"},
+    {{4, 3652059, 86399999999998, 3652059, 86399999999999}, -1, 1, 2, 0, 0, 1, {3652059, 86399999999998},
+     "the last nanosecond"},
+    {{7, 0, 0, 3, 1000000000}, -1, 3, 16, 3, 0, 0, {0}, "a whole second as tail"},
+    {{7, 0, 0, 315576000001, 0}, 1, 3, 16, 3, 0, 0, {0}, "1 ns above the largest duration, light"},
+
+    /* 4: the order. An empty axis has a list too. */
+    {{1, 5, 0, 5, 0}, -1, 3, 2, 0, 0, 1, {5, 0}, "start and end equal, dates"},
+    {{4, 5, 0, 5, 0}, -1, 3, 0, 0, 0, 0, {0}, "start and end equal, date-times"},
+    {{1, 6, 0, 5, 0}, -1, 3, 16, 4, 0, 0, {0}, "start a day later"},
+    {{4, 5, 1, 5, 0}, -1, 3, 16, 4, 0, 0, {0}, "start 1 ns later"},
+    {{7, 0, 0, -1, 999999999}, 3, 3, 16, 4, 0, 0, {0}, "0 to -1 ns, light"},
+
+    /* 5: the ends of a duration axis. */
+    {{7, -4000000000, 0, 4000000000, 0}, -1, 1, 2, 0, 0, 1, {0, 0}, "both ends at the bound"},
+    {{7, 0, 0, 4000000000, 1}, -1, 3, 16, 5, 0, 0, {0}, "the end 1 ns past it"},
+    {{7, -4000000001, 999999999, 0, 0}, -1, 3, 16, 5, 0, 0, {0}, "the start 1 ns past it"},
+    {{7, -5000000000, 0, 4223372036, 854775807}, -1, 3, 16, 5, 0, 0, {0}, "past it, a span of 2^63 - 1 ns"},
+    {{7, -5000000000, 0, 4223372036, 854775808}, -1, 1, 4, 0, 0, 2, {-4999881600, 0, 3640118400, 0},
+     "past it, a span of 2^63 ns"},
+
+    /* 6: the hint. */
+    {{1, 1, 0, 7, 0}, -1, 0, 2, 0, 0, 1, {1, 0}, "dates 6 days apart, N 0"},
+    {{1, 1, 0, 15, 0}, -1, 1, 4, 0, 0, 2, {1, 0, 15, 0}, "dates 14 days apart, N 1"},
+    {{1, 1, 0, 3, 0}, -1, 4096, 6, 0, 0, 3, {1, 0, 2, 0, 3, 0}, "the largest N"},
+    {{1, 1, 0, 3, 0}, -1, 4097, 16, 6, 0, 0, {0}, "one more"},
+    {{1, 1, 0, 3, 0}, -1, -1, 16, 6, 0, 0, {0}, "N -1"},
+    {{1, 1, 0, 3, 0}, -1, 4294967298, 16, 6, 0, 0, {0}, "N 2 in the low 32 bits"},
+    {{1, 1, 0, 3, 0}, -1, INT64_MIN, 16, 6, 0, 0, {0}, "the least N"},
+    {{3, 1, 0, 3, 0}, -1, 0, 2, 0, 0, 1, {1, 0}, "N 0 on kind 3"},
+    {{4, 1, 0, 1, 3}, -1, 0, 16, 6, 0, 0, {0}, "N 0 on kind 4"},
+    {{5, 1, 0, 60, 0}, -1, 0, 16, 6, 0, 0, {0}, "N 0 on kind 5"},
+    {{6, 1, 0, 60, 0}, 5, 0, 16, 6, 0, 0, {0}, "N 0 on kind 6, light"},
+    {{7, 0, 0, 3, 0}, -1, 0, 16, 6, 0, 0, {0}, "N 0 on kind 7"},
+    {{4, 1, 0, 1, 3}, 0, 3, 6, 0, 0, 3, {1, 0, 1, 1, 1, 2}, "a bold count of 0 on kind 4"},
+    {{2, 1, 0, 3, 0}, 4096, 2, 6, 0, 0, 3, {1, 0, 2, 0, 3, 0}, "the largest bold count"},
+    {{2, 1, 0, 3, 0}, 4097, 2, 16, 6, 0, 0, {0}, "one more"},
+    {{4, 1, 0, 1, 3}, 4294967296, 3, 16, 6, 0, 0, {0}, "a bold count of 0 in the low 32 bits"},
+    {{2, 1, 0, 3, 0}, INT64_MAX, 2, 16, 6, 0, 0, {0}, "the largest number as bold count"},
+    {{2, 1, 0, 3, 0}, 2, 4097, 16, 6, 0, 0, {0}, "a bold count that is fine, an N that is not"},
+
+    /* 11: two numbers for each tick. */
+    {{1, 1, 0, 3, 0}, -1, 2, 5, 11, 0, 0, {0}, "one number short"},
+    {{1, 1, 0, 3, 0}, -1, 2, 4, 11, 0, 0, {0}, "a tick short"},
+    {{1, 1, 0, 3, 0}, -1, 2, 0, 11, 0, 0, {0}, "nothing lent"},
+    {{1, 1, 0, 3, 0}, -1, 2, 16, 0, 0, 3, {1, 0, 2, 0, 3, 0}, "more than enough"},
+    {{7, -1, 999999999, 0, 4}, 2, 1, 1, 11, 0, 0, {0}, "a light list, one number short"},
+    {{5, 738155, 36000000000000, 738155, 43200000000000}, -1, 3, 0, 0, 0, 0, {0}, "2021-12-31 10:00 to 12:00 has no ticks"},
+
+    /* Turns of the list itself. */
+    {{7, -1, 999999999, 0, 4}, -1, 1, 2, 0, 0, 1, {-1, 999999999}, "-1 ns to 4 ns, N 1: 2^64 - 1 is a multiple of 5"},
+    {{4, 1, 0, 12, 49599999999999}, -1, 100, 0, 11, 0, 0, {0}, "10^15 - 1 ns, N 100: 5 h, 56 ticks"},
+    {{5, 32, 500000000, 60, 0}, -1, 3, 4, 0, 0, 2, {32, 0, 60, 0}, "from 00:00:00.5 on the first: that midnight"},
+    {{5, 32, 1000000000, 60, 0}, -1, 3, 2, 0, 0, 1, {60, 0}, "from 00:00:01: the next first"},
+    {{3, 152, 0, 1000, 0}, -1, 5, 6, 0, 0, 3, {152, 0, 517, 0, 882, 0}, "from June 1: Junes"},
+    {{2, 1, 0, 59, 0}, 1, 10, 18, 0, 0, 9, {1, 0, 8, 0, 15, 0}, "size 2, bold count 1: weeks"},
+    {{2, 1, 0, 60, 0}, 1, 10, 6, 0, 0, 3, {1, 0, 32, 0, 60, 0}, "size 3, bold count 1: months"},
+    {{3, 1, 0, 59, 0}, 1, 10, 18, 0, 0, 9, {1, 0, 8, 0, 15, 0}, "one year of two months: through both, weeks"},
+    {{3, 1, 0, 60, 0}, 1, 10, 6, 0, 0, 3, {1, 0, 32, 0, 60, 0}, "one year of three: months"},
+    {{7, -129600, 0, 9223366036, 854775808}, -1, 1, 4, 0, 0, 2, {0, 0, 8640000000, 0}, "from -1.5 days, beyond 64 bits: 0"},
+
+    /* Two at once; 5 is asked of kind 7 only, so never with 1. */
+    {{8, 1, 0, 315576000001, 0}, -1, 3, 16, 1, 3, 0, {0}, "no kind, an end of no kind"},
+    {{8, 2, 0, 1, 0}, -1, 3, 16, 1, 4, 0, {0}, "no kind, start later"},
+    {{8, 1, 0, 2, 0}, -1, -1, 16, 1, 6, 0, {0}, "no kind, N -1"},
+    {{8, 1, 0, 2, 0}, -1, 3, 0, 1, 11, 0, {0}, "no kind, nothing lent"},
+    {{1, 2, 0, 0, 0}, -1, 3, 16, 3, 4, 0, {0}, "end day 0, start later"},
+    {{7, 0, 0, 4000000000, 1000000000}, -1, 3, 16, 3, 5, 0, {0}, "the end's tail too large, the end too far"},
+    {{1, 0, 0, 2, 0}, -1, 4097, 16, 3, 6, 0, {0}, "start day 0, N too large"},
+    {{1, 0, 0, 2, 0}, -1, 3, 0, 3, 11, 0, {0}, "start day 0, nothing lent"},
+    {{7, 4000000002, 0, 4000000001, 0}, -1, 3, 16, 4, 5, 0, {0}, "start later, both too far"},
+    {{4, 2, 0, 1, 0}, -1, 0, 16, 4, 6, 0, {0}, "start later, N 0"},
+    {{1, 2, 0, 1, 0}, -1, 3, 0, 4, 11, 0, {0}, "start later, nothing lent"},
+    {{7, 0, 0, 4000000000, 1}, -1, 0, 16, 5, 6, 0, {0}, "end too far, N 0"},
+    {{7, 0, 0, 4000000000, 1}, 3, 3, 0, 5, 11, 0, {0}, "end too far, nothing lent"},
+    {{1, 1, 0, 3, 0}, -1, 4097, 0, 6, 11, 0, {0}, "N too large, nothing lent"},
+    {{2, 1, 0, 3, 0}, -2, 2, 0, 6, 11, 0, {0}, "a bold count of -2, nothing lent"},
+
+    /* All at once, then mended one by one. */
+    {{8, 4000000005, -1, 4000000005, -2}, -1, 0, 0, 1, 3, 0, {0}, "all but 5"},
+    {{7, 4000000005, -1, 4000000005, -2}, -1, 0, 0, 3, 4, 0, {0}, "all but 1"},
+    {{7, 4000000005, 1, 4000000005, 0}, -1, 0, 0, 4, 5, 0, {0}, "3 mended"},
+    {{7, 4000000005, 0, 4000000005, 1}, -1, 0, 0, 5, 6, 0, {0}, "4 mended"},
+    {{7, 5, 0, 5, 1}, -1, 0, 0, 6, 11, 0, {0}, "5 mended"},
+    {{7, 5, 0, 5, 1}, -1, 1, 0, 11, 0, 0, {0}, "6 mended"},
+    {{7, 5, 0, 5, 1}, -1, 1, 2, 0, 0, 1, {5, 0}, "11 mended"},
+};
+
+static const struct period {
+    int64_t in[6], status, also, nanoseconds;
+    const char *why;
+} periods[] = {
+    {{4, 1, 0, 12, 49599999999999, 100}, 0, 0, 18000000000000, "10^15 - 1 ns, N 100: 5 h"},
+    {{4, 1, 0, 12, 49600000000000, 100}, 0, 0, 14400000000000, "10^15 ns, N 100: 4 h"},
+    {{7, 0, 0, 999999, 999999999, 100}, 0, 0, 18000000000000, "10^15 - 1 ns, N 100, kind 7"},
+    {{7, -1, 999999999, 0, 4, 1}, 0, 0, 5, "5 ns, N 1"},
+    {{4, 5, 0, 5, 0, 1}, 0, 0, 1, "an empty axis"},
+    {{4, 1, 0, 2, 13599999999999, 1}, 0, 0, 86400000000000, "10^14 - 1 ns, N 1: a day"},
+    {{4, 1, 0, 2, 13600000000000, 1}, -1, 0, 0, "10^14 ns, N 1: whole days are listed"},
+    {{7, 0, 0, 100000, 0, 1}, 0, 0, 86400000000000, "the same on kind 7: a day"},
+    {{7, 0, 0, 100000, 0, 4096}, 0, 0, 30000000000, "and N 4096"},
+    {{7, -4000000000, 0, 4000000000, 0, 1}, 0, 0, 8640000000000000000, "the longest period"},
+    {{7, -5000000000, 0, 4223372036, 854775808, 1}, -1, 0, 0, "beyond 64 bits, kind 7"},
+    {{4, 1, 0, 3652059, 0, 4096}, -1, 0, 0, "beyond 64 bits, kind 4"},
+    {{0, 1, 0, 2, 0, 1}, 1, 0, 0, "kind 0"},
+    {{8, 1, 0, 2, 0, 1}, 1, 0, 0, "kind 8"},
+    {{260, 1, 0, 2, 0, 1}, 1, 0, 0, "kind 4 in the low 8 bits"},
+    {{1, 1, 0, 2, 0, 1}, 2, 0, 0, "kind 1"},
+    {{2, 1, 0, 2, 0, 1}, 2, 0, 0, "kind 2"},
+    {{3, 1, 0, 2, 0, 1}, 2, 0, 0, "kind 3"},
+    {{5, 1, 0, 2, 0, 1}, 2, 0, 0, "kind 5"},
+    {{6, 1, 0, 2, 0, 1}, 2, 0, 0, "kind 6"},
+    {{4, 0, 0, 2, 0, 1}, 3, 0, 0, "day 0 as start"},
+    {{7, 0, 0, 0, 1000000000, 1}, 3, 0, 0, "a whole second as tail"},
+    {{4, 2, 1, 2, 0, 1}, 4, 0, 0, "start 1 ns later"},
+    {{7, 0, 0, 4000000000, 1, 1}, 5, 0, 0, "the end 1 ns past the bound"},
+    {{4, 1, 0, 2, 0, 0}, 6, 0, 0, "N 0"},
+    {{4, 1, 0, 2, 0, 4096}, 0, 0, 30000000000, "the largest N"},
+    {{4, 1, 0, 2, 0, 4097}, 6, 0, 0, "one more"},
+    {{7, 0, 0, 1, 0, -1}, 6, 0, 0, "N -1"},
+    {{7, 0, 0, 1, 0, 4294967297}, 6, 0, 0, "N 1 in the low 32 bits"},
+    {{4, 1, 0, 3652059, 0, 0}, 6, 0, 0, "6 is asked before there is none"},
+
+    {{8, 0, 0, 2, 0, 1}, 1, 3, 0, "no kind, start day 0"},
+    {{8, 2, 0, 1, 0, 1}, 1, 4, 0, "no kind, start later"},
+    {{8, 1, 0, 2, 0, 0}, 1, 6, 0, "no kind, N 0"},
+    {{2, 0, 0, 2, 0, 1}, 2, 3, 0, "kind 2, start day 0"},
+    {{2, 2, 0, 1, 0, 1}, 2, 4, 0, "kind 2, start later"},
+    {{2, 1, 0, 2, 0, 4097}, 2, 6, 0, "kind 2, N too large"},
+    {{4, 2, 0, 0, 0, 1}, 3, 4, 0, "end day 0, start later"},
+    {{7, 0, 0, 4000000000, 1000000000, 1}, 3, 5, 0, "the end's tail too large, the end too far"},
+    {{4, 0, 0, 2, 0, 0}, 3, 6, 0, "start day 0, N 0"},
+    {{7, 4000000002, 0, 4000000001, 0, 1}, 4, 5, 0, "start later, both too far"},
+    {{4, 2, 0, 1, 0, 0}, 4, 6, 0, "start later, N 0"},
+    {{7, 0, 0, 4000000000, 1, 0}, 5, 6, 0, "end too far, N 0"},
+};
+
 static const struct numbering {
     int64_t in[3], status, number;
     const char *why;
@@ -255,28 +421,71 @@ static void expect(bool same, const char *call, const char *why) {
     }
 }
 
-/* The table above must have a row for each question of a mapping and for each two of them. */
-static void expect_all_covered(void) {
-    static const int asked[] = {1, 3, 4, 5, 7, 8, 9, 10};
-    bool seen[QUESTIONS][QUESTIONS] = {{false}};
-    for (int i = 0; i < COUNT(mappings); i++)
-        seen[mappings[i].status][mappings[i].also] = true;
-    for (int i = 0; i < COUNT(asked); i++) {
-        bool all = seen[asked[i]][0];
-        for (int j = i + 1; j < COUNT(asked); j++)
-            all = all && (seen[asked[i]][asked[j]] || (asked[i] == 1 && asked[j] == 5));
+/* A table must have a row for each question of its operation, and one for each two that can say no together. */
+struct seen {
+    bool both[QUESTIONS][QUESTIONS];
+};
+
+static void see(struct seen *seen, int64_t status, int64_t also) {
+    if (status > 0)
+        seen->both[status][also] = true;
+}
+
+/* No kind is one without the operation, and question 5 is asked of kind 7 only. */
+static bool can_meet(int first, int second) {
+    return !(first == 1 && second == 2) && !(first <= 2 && second == 5);
+}
+
+static void expect_all_covered(const char *call, const struct seen *seen, const int *asked, int count) {
+    for (int i = 0; i < count; i++) {
+        bool all = seen->both[asked[i]][0];
+        for (int j = i + 1; j < count; j++)
+            all = all && (seen->both[asked[i]][asked[j]] || !can_meet(asked[i], asked[j]));
         if (!all) {
             differences++;
-            printf("  ordered_map: question %d lacks a row, alone or before another\n", asked[i]);
+            printf("  %s: question %d lacks a row, alone or before another\n", call, asked[i]);
         }
+    }
+}
+
+/* List and count of a row; the numbers behind the list, or all of a refused call, must be as they were. */
+static void compare_listing(const struct listing *row, int number) {
+    const int64_t *in = row->in;
+    int64_t lent[LENT], want[LENT];
+    for (int i = 0; i < LENT; i++)
+        lent[i] = want[i] = -1000 - i;
+    bool light = row->bold != -1;
+    ordered_number list, count;
+    if (light) {
+        list = ordered_ticks_light(in[0], in[1], in[2], in[3], in[4], row->bold, row->n, lent, row->lent);
+        count = ordered_count_light(in[0], in[1], in[2], in[3], in[4], row->bold, row->n, row->lent);
+    } else {
+        list = ordered_ticks_bold(in[0], in[1], in[2], in[3], in[4], row->n, lent, row->lent);
+        count = ordered_count_bold(in[0], in[1], in[2], in[3], in[4], row->n, row->lent);
+    }
+    bool same = list.status == row->status && list.value == row->count && count.status == row->status &&
+                count.value == row->count;
+    /* The ticks of a row are at most three; what other ones a longer list has is left to the oracle. */
+    int listed = (int)row->count * 2, shown = listed < 6 ? listed : 6;
+    memcpy(want, row->ticks, (size_t)shown * sizeof want[0]);
+    same = same && !memcmp(lent, want, (size_t)shown * sizeof want[0]);
+    for (int i = listed; i < LENT; i++)
+        same = same && lent[i] == want[i];
+    if (!same) {
+        differences++;
+        printf("  %s, row %d, %s: expected %" PRId64 " %" PRId64 ", list %" PRId64 " %" PRId64 ", count %" PRId64 " %" PRId64
+               ", or other numbers lent: %" PRId64 " %" PRId64 " ..\n", light ? "light ticks" : "bold ticks", number, row->why,
+               row->status, row->count, list.status, list.value, count.status, count.value, lent[0], lent[1]);
     }
 }
 
 int main(void) {
     setvbuf(stdout, NULL, _IOLBF, 0); /* what was printed stays if a sanitizer ends the run */
+    struct seen maps = {0};
     for (int i = 0; i < COUNT(mappings); i++) {
         const struct mapping *row = &mappings[i];
         const int64_t *in = row->in;
+        see(&maps, row->status, row->also);
         ordered_pixel r = ordered_map(in[0], in[1], in[2], in[3], in[4], in[5], in[6], in[7], in[8]);
         if (r.status != row->status || r.pixel != row->pixel) {
             differences++;
@@ -284,7 +493,30 @@ int main(void) {
                    row->why, row->status, row->pixel, r.status, r.pixel);
         }
     }
-    expect_all_covered();
+    expect_all_covered("ordered_map", &maps, (const int[]){1, 3, 4, 5, 7, 8, 9, 10}, 8);
+    struct seen bold = {0}, light = {0}, both = {0};
+    for (int i = 0; i < COUNT(listings); i++) {
+        compare_listing(&listings[i], i + 1);
+        see(listings[i].bold == -1 ? &bold : &light, listings[i].status, 0);
+        see(&both, listings[i].status, listings[i].also);
+    }
+    for (int question = 1; question < QUESTIONS; question++)
+        if (bold.both[question][0] != light.both[question][0])
+            expect(false, "ticks", "a question is tried with one of the two hints only");
+    expect_all_covered("ticks", &both, (const int[]){1, 3, 4, 5, 6, 11}, 6);
+    struct seen steps = {0};
+    for (int i = 0; i < COUNT(periods); i++) {
+        const struct period *row = &periods[i];
+        const int64_t *in = row->in;
+        ordered_period r = ordered_period_per_point(in[0], in[1], in[2], in[3], in[4], in[5]);
+        see(&steps, row->status, row->also);
+        if (r.status != row->status || r.nanoseconds != row->nanoseconds) {
+            differences++;
+            printf("  ordered_period_per_point, row %d, %s: expected %" PRId64 " %" PRId64 ", got %" PRId64 " %" PRId64 "\n",
+                   i + 1, row->why, row->status, row->nanoseconds, r.status, r.nanoseconds);
+        }
+    }
+    expect_all_covered("ordered_period_per_point", &steps, (const int[]){1, 2, 3, 4, 5, 6}, 6);
     for (int i = 0; i < COUNT(numberings); i++) {
         const struct numbering *row = &numberings[i];
         ordered_number r = ordered_day_number(row->in[0], row->in[1], row->in[2]);
@@ -296,7 +528,7 @@ int main(void) {
         bool same = r.status == row->status && r.year == row->year && r.month == row->month && r.day == row->day;
         expect(same, "ordered_date_of", row->why);
     }
-    printf("refusals: %d mappings, %d dates, %d day numbers, %d differences\n", COUNT(mappings), COUNT(numberings),
-           COUNT(datings), differences);
+    printf("refusals: %d mappings, %d lists and their counts, %d periods, %d dates, %d day numbers, %d differences\n",
+           COUNT(mappings), COUNT(listings), COUNT(periods), COUNT(numberings), COUNT(datings), differences);
     return differences > 0;
 }

@@ -1,20 +1,28 @@
 /* Compares the archive with answers of the oracle, every number: replay FILE reads stored lines `request = answer`,
    replay REQUESTS ANSWERS COUNT the two side by side. Exits 1 on a difference, an unread line, or a line too few. */
 #define _DEFAULT_SOURCE /* getline */
-#include <errno.h>
 #include <inttypes.h>
 #include <stdbool.h>
 #include <stdio.h>
 #include <stdlib.h>
 #include <string.h>
 
+#include "exact.h"
 #include "ordered.h"
 #include "questions.h"
 
-enum { ARGUMENTS = 10, NUMBERS = 1 << 15, QUESTIONS = 13, SHOWN = 5 };
+/* BEHIND: the longest lent slice has that many numbers more than the list, and as many stand behind it, not lent. */
+enum { ARGUMENTS = 10, NUMBERS = 1 << 15, BEHIND = 7, QUESTIONS = 13, SHOWN = 5, SHOWN_NUMBERS = 12, SHOWN_BYTES = 160 };
 
 /* Calls the archive; fills in the status and the numbers, and gives how many these are. */
 typedef int call(const int64_t *in, int64_t *out);
+
+/* The two calls of a tick list: into the lent numbers, and with nothing lent. */
+typedef ordered_number list_call(const int64_t *in, int64_t *lent, size_t lent_len);
+typedef ordered_number count_call(const int64_t *in, size_t lent_len);
+
+/* Fills in document 01's answer where the Rust's logarithm may round it away; gives how many numbers, 0 if it may not. */
+typedef int exact(const int64_t *in, int64_t *out);
 
 /* The question by which document 01 refuses these arguments, 0 if it is the oracle's to say. */
 typedef int64_t refusal(const int64_t *in);
@@ -37,7 +45,50 @@ static int call_map(const int64_t *in, int64_t *out) {
     return 2;
 }
 
-/* A new operation is one row, one call above and its questions in questions.h. */
+static int call_period(const int64_t *in, int64_t *out) {
+    ordered_period r = ordered_period_per_point(in[0], in[1], in[2], in[3], in[4], in[5]);
+    out[0] = r.status, out[1] = r.nanoseconds;
+    return 2;
+}
+
+static int exact_period_answer(const int64_t *in, int64_t *out) {
+    out[0] = 0, out[1] = doubtful_period(in[0], in, in[5]);
+    return out[1] ? 2 : 0;
+}
+
+static ordered_number list_bold(const int64_t *in, int64_t *lent, size_t lent_len) {
+    return ordered_ticks_bold(in[0], in[1], in[2], in[3], in[4], in[5], lent, lent_len);
+}
+
+static ordered_number count_bold(const int64_t *in, size_t lent_len) {
+    return ordered_count_bold(in[0], in[1], in[2], in[3], in[4], in[5], lent_len);
+}
+
+static ordered_number list_light(const int64_t *in, int64_t *lent, size_t lent_len) {
+    return ordered_ticks_light(in[0], in[1], in[2], in[3], in[4], in[5], in[6], lent, lent_len);
+}
+
+static ordered_number count_light(const int64_t *in, size_t lent_len) {
+    return ordered_count_light(in[0], in[1], in[2], in[3], in[4], in[5], in[6], lent_len);
+}
+
+static int exact_list(const int64_t *in, int64_t kind, int64_t n, int64_t *out) {
+    int64_t period = kind == 4 || kind == 7 ? doubtful_period(kind, in, n) : 0;
+    if (!period)
+        return 0;
+    out[0] = 0, out[1] = exact_ticks(kind, in, period, out + 2);
+    return 2 + 2 * (int)out[1];
+}
+
+static int exact_bold(const int64_t *in, int64_t *out) {
+    return exact_list(in, in[0], in[5], out);
+}
+
+static int exact_light(const int64_t *in, int64_t *out) {
+    return exact_list(in, listed_kind(in, in[5]), in[6], out);
+}
+
+/* A new operation is one row, its calls above and its questions in questions.h. */
 static const struct row {
     const char *name;
     int arguments;
@@ -45,26 +96,31 @@ static const struct row {
     refusal *refusal;
     int64_t none;  /* the archive's status where the Rust has no value (-1) */
     int64_t panic; /* and where it panics though no question before 10 refuses; 0: nothing is known there */
+    exact *exact;
+    list_call *list; /* these two instead of call */
+    count_call *count;
 } rows[] = {
-    {"day_number", 3, call_day_number, refuse_day_number, 8, 0},
-    {"date_of", 1, call_date_of, refuse_date_of, 8, 0},
-    {"map", 9, call_map, refuse_map, 0, 10},
+    {"day_number", 3, call_day_number, refuse_day_number, 8, 0, NULL, NULL, NULL},
+    {"date_of", 1, call_date_of, refuse_date_of, 8, 0, NULL, NULL, NULL},
+    {"map", 9, call_map, refuse_map, 0, 10, NULL, NULL, NULL},
+    {"period", 6, call_period, refuse_period, -1, 0, exact_period_answer, NULL, NULL},
+    {"ticks_bold", 6, NULL, refuse_ticks_bold, 0, 0, exact_bold, list_bold, count_bold},
+    {"ticks_light", 7, NULL, refuse_ticks_light, 0, 0, exact_light, list_light, count_light},
 };
 enum { ROWS = sizeof rows / sizeof rows[0] };
 
 static int64_t lines, equal, refused[QUESTIONS], panics, differences, unread;
+static int64_t doubtful, apart;            /* within the logarithm's rounding; of these, the Rust says otherwise */
+static int64_t lists, ticks, calls, short_calls; /* accepted lists; calls of list and count; those that 11 refuses */
 
-/* Reads whole numbers parted by one space, up to the end of the text; gives how many, or -1. */
+/* Reads whole numbers parted by one space, up to the end of the text; gives how many, or -1. One that does not fit
+   becomes the nearest that does: the oracle has such periods, of reversed spans. */
 static int read_numbers(const char *text, int64_t *to, int most) {
     for (int count = 0; count < most; text++) {
         if (text[*text == '-'] < '0' || text[*text == '-'] > '9')
             return -1;
         char *end;
-        errno = 0;
-        long long number = strtoll(text, &end, 10);
-        if (errno)
-            return -1;
-        to[count++] = number;
+        to[count++] = strtoll(text, &end, 10);
         text = end;
         if (*text != ' ')
             return *text ? -1 : count;
@@ -73,13 +129,58 @@ static int read_numbers(const char *text, int64_t *to, int most) {
 }
 
 static void print_numbers(const int64_t *numbers, int count) {
-    for (int i = 0; i < count; i++)
+    for (int i = 0; i < count && i < SHOWN_NUMBERS; i++)
         printf(" %" PRId64, numbers[i]);
+    if (count > SHOWN_NUMBERS)
+        printf(" ..");
+}
+
+/* What stands in the lent numbers before a call: never a tick. */
+static int64_t pattern(size_t place) {
+    return INT64_MIN + 7 * (int64_t)place;
+}
+
+/* One call each of list and count with a lent slice of this length; want is 0, the count and the list, or a refusal.
+   False: one of them says otherwise, or a number behind the list has changed; then got is what the archive said. */
+static bool same_list(const struct row *row, const int64_t *in, const int64_t *want, size_t lent_len, int64_t *got) {
+    static int64_t lent[NUMBERS + 2 * BEHIND];
+    size_t listed = want[0] ? 0 : 2 * (size_t)want[1], all = lent_len + BEHIND;
+    for (size_t i = 0; i < all; i++)
+        lent[i] = pattern(i);
+    ordered_number list = row->list(in, lent, lent_len), count = row->count(in, lent_len);
+    calls++;
+    bool same = list.status == want[0] && list.value == want[1] && count.status == want[0] && count.value == want[1] &&
+                !memcmp(lent, want + 2, listed * sizeof lent[0]);
+    for (size_t i = listed; i < all; i++)
+        same = same && lent[i] == pattern(i);
+    got[0] = list.status, got[1] = list.value, got[2] = count.status, got[3] = count.value;
+    memcpy(got + 4, lent, (all < SHOWN_NUMBERS ? all : SHOWN_NUMBERS) * sizeof got[0]);
+    return same;
+}
+
+/* The same with no room, with one number too few, just enough, one more, and more; a refused call with two lengths. */
+static bool same_lists(const struct row *row, const int64_t *in, const int64_t *want, int64_t *got, size_t *lent_len) {
+    static const int64_t too_short[2] = {11, 0};
+    size_t exact = want[0] ? 0 : 2 * (size_t)want[1];
+    const size_t lengths[] = {0, exact - 1, exact, exact + 1, exact + BEHIND};
+    for (int i = 0; i < 5; i++) {
+        if (!exact && i < 2)
+            continue;
+        *lent_len = lengths[i];
+        short_calls += *lent_len < exact;
+        if (!same_list(row, in, *lent_len < exact ? too_short : want, *lent_len, got))
+            return false;
+    }
+    /* No number of a length is too large. */
+    *lent_len = SIZE_MAX;
+    ordered_number count = row->count(in, SIZE_MAX);
+    got[2] = count.status, got[3] = count.value;
+    return count.status == want[0] && count.value == want[1];
 }
 
 /* One request and the oracle's answer. False: they do not read. */
 static bool replay(const char *request, const char *answer) {
-    static int64_t in[ARGUMENTS], told[NUMBERS], got[NUMBERS], want[NUMBERS];
+    static int64_t in[ARGUMENTS], told[NUMBERS], got[NUMBERS], want[NUMBERS], exact[NUMBERS];
     size_t name = strcspn(request, " ");
     const struct row *row = rows;
     while (row < rows + ROWS && (strlen(row->name) != name || memcmp(row->name, request, name)))
@@ -91,40 +192,59 @@ static bool replay(const char *request, const char *answer) {
     if (!panic && !skip && !none && (told_count < 2 || told[0] != 0))
         return false;
 
-    /* What the archive must say: document 01's refusal, else what the oracle said. */
-    int count = row->call(in, got);
+    /* What the archive must say: document 01's refusal or its own answer, else what the oracle said. */
     int64_t number = row->refusal(in);
+    int exact_count = !number && row->exact ? row->exact(in, exact) : 0;
+    int count = row->call ? row->call(in, got) : number ? 2 : exact_count ? exact_count : told_count;
     bool known = true;
     memset(want, 0, sizeof want[0] * (size_t)count);
     if (number)
         want[0] = number;
+    else if (exact_count)
+        memcpy(want, exact, sizeof want[0] * (size_t)count);
     else if (none && row->none)
         want[0] = row->none;
     else if (panic && row->panic)
         want[0] = row->panic;
-    else if (told_count == count)
+    else if (told_count == count && (row->call || (told_count >= 2 && told_count == 2 + 2 * told[1])))
         memcpy(want, told, sizeof want[0] * (size_t)count);
     else
         known = false; /* skip too: nothing to compare with */
 
-    if (!known || memcmp(want, got, sizeof want[0] * (size_t)count)) {
+    size_t lent_len = 0;
+    bool same = known && (row->list ? same_lists(row, in, want, got, &lent_len)
+                                    : !memcmp(want, got, sizeof want[0] * (size_t)count));
+    if (!same) {
         if (differences++ < SHOWN) {
             printf("  %s", row->name);
             print_numbers(in, row->arguments);
-            printf(": the oracle %s, ", answer);
+            printf(": the oracle %.*s%s, ", SHOWN_BYTES, answer, strlen(answer) > SHOWN_BYTES ? ".." : "");
             if (number)
                 printf("document 01 refuses by %" PRId64 ", ", number);
-            printf("the archive");
-            print_numbers(got, count);
+            if (exact_count) {
+                printf("document 01 has");
+                print_numbers(want, count);
+                printf(", ");
+            }
+            if (row->list && known)
+                printf("lent %zu: the archive's list %" PRId64 " %" PRId64 ", count %" PRId64 " %" PRId64 ", lent numbers",
+                       lent_len, got[0], got[1], got[2], got[3]), print_numbers(got + 4, SHOWN_NUMBERS);
+            else
+                printf("the archive"), print_numbers(got, row->list ? 0 : count);
             printf("\n");
         }
-    } else if (number && !(none && number == row->none)) {
-        refused[number]++;
-    } else if (panic) {
-        panics++;
-    } else {
-        equal++;
+        return true;
     }
+    if (row->list && !number)
+        lists++, ticks += want[1];
+    if (number && !(none && number == row->none))
+        refused[number]++;
+    else if (exact_count)
+        doubtful++, apart += exact_count != told_count || memcmp(exact, told, sizeof told[0] * (size_t)told_count);
+    else if (panic)
+        panics++;
+    else
+        equal++;
     return true;
 }
 
@@ -201,6 +321,12 @@ int main(int argc, char **argv) {
             printf("%s%d: %" PRId64, shown++ ? ", " : " (", i, refused[i]);
     printf("%s, %" PRId64 " panics answered 10, %" PRId64 " differences\n", by_document ? ")" : "", panics,
            differences);
+    if (lists)
+        printf("replay: %" PRId64 " lists with %" PRId64 " ticks, %" PRId64 " calls of list and count, %" PRId64
+               " of them refused by 11\n", lists, ticks, calls, short_calls);
+    if (doubtful)
+        printf("replay: %" PRId64 " within the logarithm's rounding have document 01's period, where the Rust has another in %"
+               PRId64 "\n", doubtful, apart);
 
     bool enough = lines > 0 && (argc != 4 || lines == strtoll(argv[3], NULL, 10));
     if (unread)

@@ -6,6 +6,8 @@
 #include <stdlib.h>
 #include <string.h>
 
+#include "months.h"
+
 /* Places and spans are nanoseconds in 128 bits: they reach 6 x 10^20. */
 typedef __int128 wide;
 
@@ -280,12 +282,198 @@ static void map(void) {
     printf("\n");
 }
 
+/* An N for a kind; on the kinds 4 to 7 seldom 0, which question 6 refuses there. Long lists are rarer than short ones. */
+static int64_t hint_on(int64_t kind) {
+    int64_t n = 0;
+    switch (draw() % 8) {
+    case 0: n = ONE_OF(0, 0, 0, 1, 1, 1, 2, 2, 2, 3, 4, 5, 7, 100, 4095, 4096); break;
+    case 1: n = (int64_t)any_size(chance(4) ? 4096 : 500); break;
+    case 2:
+    case 3: n = from(0, 60); break;
+    default: n = from(0, 12);
+    }
+    return n == 0 && kind >= 4 && !chance(20) ? 1 : n;
+}
+
+/* A time of day at which a ceiling, a rung or a day turns. */
+static int64_t time_of_day(void) {
+    switch (draw() % 4) {
+    case 0: return 0;
+    case 1: return ONE_OF(1, SECOND / 2, SECOND - 1, SECOND, SECOND + 1, DAY - 1, DAY - SECOND);
+    case 2: return from(0, 23) * HOUR + ONE_OF(0, 0, 1, -1, 60 * SECOND) * chance(2);
+    default: return from(0, DAY - 1);
+    }
+}
+
+/* Both ends moved so that the start gets such a time; kept where they would leave the days. */
+static axis with_time(axis a) {
+    wide move = a.start / DAY * DAY + time_of_day() - a.start;
+    if (a.kind >= 4 && a.kind <= 6 && a.start + move >= first_place(a.kind) && a.end + move <= last_place(a.kind))
+        a.start += move, a.end += move;
+    return a;
+}
+
+/* Around N times a power of ten: at it, by nanoseconds, and by parts of 10^12 to 10^15. */
+static wide span_by_power(int64_t n) {
+    int64_t power = 1;
+    for (int64_t k = chance(3) ? ONE_OF(8, 9, 12, 13, 14, 15) : from(0, 18); k > 0; k--)
+        power *= 10;
+    wide span = (wide)n * power;
+    return span + (chance(3) ? span / ONE_OF(1000000000000, 10000000000000, 100000000000000, 1000000000000000) : 1) *
+                      ONE_OF(0, 0, 1, -1, 2, -2);
+}
+
+/* A rung of the ladders. */
+static int64_t rung(void) {
+    switch (draw() % 4) {
+    case 0: return ONE_OF(1, 10, 100, 1000, 100000, 1000000, 100000000) * ONE_OF(1, 2, 5);
+    case 1: return ONE_OF(SECOND, 60 * SECOND, HOUR) * ONE_OF(1, 2, 5, 10, 15, 20, 30);
+    case 2: return HOUR * ONE_OF(1, 2, 4, 8, 12, 24, 48);
+    default: return ONE_OF(1, 10, 100, 1000, 10000) * DAY * ONE_OF(1, 2, 5, 7);
+    }
+}
+
+/* The last span that a rung is wide enough for, and the next one. */
+static wide span_by_rung(int64_t n) {
+    wide step = rung();
+    return (chance(4) ? n : n + 1) * step - ONE_OF(0, 1, 1, 2);
+}
+
+/* Around N days, N weeks, and N times some weeks. */
+static wide span_by_days(int64_t n) {
+    int64_t days = ONE_OF(n, 7 * n, 7 * n * from(1, 20), from(0, 15), 7 * from(0, 600)) + ONE_OF(0, 0, 1, -1, 6, 7, -7);
+    return (days < 0 ? 0 : days) * (wide)DAY;
+}
+
+/* Around N months, quarters, half-years, years and steps of years, from and to the first of a month or beside it. */
+static axis axis_by_months(int64_t kind, int64_t n) {
+    const int64_t last = 119987; /* 9999-12 */
+    int64_t months = n * ONE_OF(1, 3, 6, 12, 24, 60, 120, 240, 600, 1200), least = 0;
+    months = (int64_t)clamp(0, months + ONE_OF(0, 0, 1, -1, 2, -2, 11, 12, -12), last);
+    if (chance(6))
+        months = from(0, 30);
+    switch (draw() % 8) {
+    case 0: break;
+    case 1: least = last - months; break;
+    case 2: least = (int64_t)clamp(0, 12 * from(0, 9998), last - months); break;
+    default: least = from(0, last - months);
+    }
+    axis a = {kind, (wide)first_of_month(least) * DAY, (wide)first_of_month(least + months) * DAY};
+    a.start += ONE_OF(0, 0, 1, -1, from(-31, 31)) * (wide)DAY + (chance(2) ? 0 : time_of_day());
+    a.end += ONE_OF(0, 0, 0, 1, -1, 27, 30, from(-31, 31)) * (wide)DAY + (chance(2) ? 0 : time_of_day());
+    a.start = place_on(kind, a.start);
+    a.end = place_on(kind, a.end < a.start ? a.start : a.end);
+    return a;
+}
+
+/* A duration that is a multiple of the period only with 2^64 added, or beside one. */
+static axis axis_below_zero(int64_t n) {
+    wide step = rung();
+    if (n * step > 2 * (wide)NEAR)
+        step = SECOND;
+    wide whole = (wide)1 << 64, span = n * step - ONE_OF(0, 1, step / 4, step / 3);
+    wide start = -(chance(2) ? whole % step : 0) - any_size(NEAR / step) * step + ONE_OF(0, 0, 0, 1, -1);
+    axis a = {7, place_on(7, start), place_on(7, start + (chance(4) ? any_size(n * step) : span))};
+    return a;
+}
+
+/* A duration axis beyond 64 bits: the start beside a whole day. */
+static axis axis_of_days(int64_t n) {
+    wide most = last_place(7) - first_place(7), span = (wide)INT64_MAX + 1 + little();
+    if (chance(2))
+        span = (wide)n * ONE_OF(1, 2, 5, 10, 20, 50, 100, 1000, 10000) * DAY + ONE_OF(0, 0, 1, -1) * DAY + little();
+    span = clamp((wide)INT64_MAX + 1, span, most);
+    axis a = axis_with(7, span);
+    if (chance(2)) {
+        wide start = a.start / DAY * DAY + ONE_OF(0, 0, 1, -1, DAY / 2);
+        if (start >= first_place(7) && start + span <= last_place(7))
+            a.start = start, a.end = start + span;
+    }
+    return a;
+}
+
+/* An axis on which a list for N turns; the kind whose ticks are listed is another one where a light hint goes on. */
+static axis axis_for(int64_t kind, int64_t listed, int64_t n) {
+    axis a;
+    uint64_t way = draw() % 8;
+    if (way == 0 || (listed == 1 && way == 1))
+        a = axis_of(kind);
+    else if (listed == 1)
+        a = axis_with(kind, span_by_days(n));
+    else if (listed == 4 && way == 1)
+        a = axis_with(kind, span_by_days(n) + from(-1, 1));
+    else if (listed == 7 && way == 1)
+        a = axis_of_days(n);
+    else if (listed == 7 && way == 2)
+        a = axis_below_zero(n);
+    else if (listed == 4 || listed == 7)
+        a = axis_with(kind, way < 6 ? span_by_power(n) : span_by_rung(n));
+    else
+        a = axis_by_months(kind, n);
+    return chance(2) ? with_time(a) : a;
+}
+
+static void print_hint(int64_t n) {
+    if (chance(60)) /* question 6 */
+        n = ONE_OF(-1, -n, 4097, 4097, n + (INT64_C(1) << 32), 1000001, INT64_MIN, INT64_MAX);
+    printf(" %" PRId64, n);
+}
+
+/* Now and then the ends of a duration axis are moved past the bound of question 5. */
+static axis past_the_bound(axis a) {
+    if (a.kind == 7 && a.end - a.start <= INT64_MAX && chance(12)) {
+        wide past = NEAR + (chance(2) ? 1 : any_size(NEAR)) - (a.end - a.start) - (chance(4) ? 1 : 0);
+        a.end += past - a.start, a.start = past;
+    }
+    return a;
+}
+
+static void ticks_bold(void) {
+    int64_t kind = from(1, 7), n = hint_on(kind);
+    axis a = past_the_bound(axis_for(kind, kind, n));
+    printf("ticks_bold");
+    print_axis(a);
+    print_hint(n);
+    printf("\n");
+}
+
+/* The bold count is often half the size, of the kind or of the months below it, or one off. */
+static void ticks_light(void) {
+    int64_t kind = from(1, 7), n = hint_on(kind), bold = hint_on(1), listed = kind;
+    if (kind != 7)
+        listed = ONE_OF(kind, kind <= 3 ? 1 : 4, kind <= 3 ? 1 : 4, kind <= 3 ? 2 : 5);
+    axis a = past_the_bound(axis_for(kind, listed, n));
+    value start = value_at(kind, a.start), end = value_at(kind, a.end);
+    int64_t ends[] = {kind, start.head, start.tail, end.head, end.tail};
+    if (kind != 1 && kind != 4 && kind != 7 && !chance(4))
+        bold = (int64_t)clamp(0, (size_of(chance(2) ? kind : kind <= 3 ? 2 : 5, ends) + from(-2, 3)) / 2, 4096);
+    printf("ticks_light");
+    print_axis(a);
+    print_hint(bold);
+    print_hint(n);
+    printf("\n");
+}
+
+static void period(void) {
+    int64_t kind = chance(2) ? 4 : 7, n = hint_on(kind);
+    axis a = past_the_bound(axis_for(kind, kind, n));
+    if (chance(40)) /* question 2 */
+        a = axis_of(from(1, 6));
+    printf("period");
+    print_axis(a);
+    print_hint(n);
+    printf("\n");
+}
+
 /* A new operation is one function above and one row. */
 static const struct operation {
     const char *name;
     void (*print)(void);
 } operations[] = {
     {"map", map},
+    {"ticks_bold", ticks_bold},
+    {"ticks_light", ticks_light},
+    {"period", period},
 };
 enum { OPERATIONS = sizeof operations / sizeof operations[0] };
 

@@ -1,12 +1,17 @@
--- Answers as C's numbers: the status is 0, or the refusal's number and all else 0.
+-- Answers as C's numbers: the status is 0, or -1 for none, or the refusal's number; all else is 0 unless answered.
 -- Definitions only.
-use lib.IntN.{pos}
+use lib.IntN.{pos, negsuc}
 use Rattle.calendar.specs.declared.DayAnswer.{DayAnswer}
 use Rattle.calendar.specs.declared.DayAnswer.the-variants as day
 use Rattle.calendar.specs.declared.DateAnswer.{DateAnswer}
 use Rattle.calendar.specs.declared.DateAnswer.the-variants as dated
 use Rattle.mapping.specs.declared.Pixel.{Pixel}
 use Rattle.mapping.specs.declared.Pixel.the-variants as pixel
+use Rattle.steps.specs.declared.Listed.{Listed}
+use Rattle.steps.specs.declared.Listed.the-variants as listed
+use Rattle.ticks.specs.declared.PeriodAnswer.{PeriodAnswer}
+use Rattle.ticks.specs.declared.PeriodAnswer.the-variants as period
+use Rattle.ordered.specs.declared.OrderedPeriod.{OrderedPeriod}
 use Rattle.ordered.specs.declared.OrderedPixel.{OrderedPixel}
 use Rattle.ordered.specs.declared.OrderedNumber.{OrderedNumber}
 use Rattle.ordered.specs.declared.OrderedDate.{OrderedDate}
@@ -22,3 +27,12 @@ dateReply (dated.Refused q) = record { status = pos q; year = pos 0; month = pos
 abbrev pub pixelReply : Pixel → OrderedPixel
 pixelReply (pixel.At p) = record { status = pos 0; pixel = p }
 pixelReply (pixel.Refused q) = record { status = pos q; pixel = pos 0 }
+
+abbrev pub countReply : Listed → OrderedNumber
+countReply (listed.Ticks n) = record { status = pos 0; value = pos n }
+countReply (listed.Refused q) = record { status = pos q; value = pos 0 }
+
+abbrev pub periodReply : PeriodAnswer → OrderedPeriod
+periodReply (period.Is k) = record { status = pos 0; nanoseconds = pos k }
+periodReply period.None = record { status = negsuc 0; nanoseconds = pos 0 }
+periodReply (period.Refused q) = record { status = pos q; nanoseconds = pos 0 }

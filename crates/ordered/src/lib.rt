@@ -1,18 +1,27 @@
 // The C interface: takes numbers, calls, and turns the answer into numbers.
 // include/ordered.h declares the same functions for C.
 use axis::Axis;
+use axis::BoldPoints;
+use axis::LightPoints;
 use axis::Limits;
 use calendar::DateAnswer;
 use calendar::DayAnswer;
 use calendar::Ymd;
 use mapping::Pixel;
+use steps::Listed;
+use ticks::PeriodAnswer;
 use values::Value;
 ghost use mathlib.Core.Path.{_≡_};
 ghost use Rattle.calendar.specs.Questions.{numberOf, dateAt};
+ghost use Prim.Native.Nat.{_^_, _<_};
+ghost use lib.ListN.{length};
 ghost use Rattle.mapping.specs.Mapping.{mapped};
-ghost use Rattle.ordered.specs.Replies.{dayReply, dateReply, pixelReply};
+ghost use Rattle.steps.specs.Listing.{countOf};
+ghost use Rattle.ticks.specs.Hints.{bold, light};
+ghost use Rattle.ticks.specs.Answers.{ticksAnswer, ticksWritten, periodAnswer};
+ghost use Rattle.ordered.specs.Replies.{dayReply, dateReply, pixelReply, countReply, periodReply};
 
-// A day number.
+// A day number or a count.
 #[repr(C)]
 pub struct OrderedNumber {
     pub status: i64,
@@ -23,6 +32,12 @@ pub struct OrderedNumber {
 pub struct OrderedPixel {
     pub status: i64,
     pub pixel: i64,
+}
+
+#[repr(C)]
+pub struct OrderedPeriod {
+    pub status: i64,
+    pub nanoseconds: i64,
 }
 
 #[repr(C)]
@@ -111,6 +126,151 @@ pub extern "C" fn ordered_map(
         Pixel::Refused(q) => OrderedPixel {
             status: q as i64,
             pixel: 0,
+        },
+    }
+}
+
+fn counted(a: Listed) -> OrderedNumber
+    requires { ⌜ countOf a < 2 ^ 63 ⌝ }
+    ensures { λ r. ⌜ r ≡ countReply a ⌝ }
+{
+    match a {
+        Listed::Ticks(n) => OrderedNumber {
+            status: 0,
+            value: n as i64,
+        },
+        Listed::Refused(q) => OrderedNumber {
+            status: q as i64,
+            value: 0,
+        },
+    }
+}
+
+#[no_mangle]
+pub extern "C" fn ordered_ticks_bold(
+    kind: i64,
+    start_head: i64,
+    start_tail: i64,
+    end_head: i64,
+    end_tail: i64,
+    n: i64,
+    lent: &mut [i64],
+) -> OrderedNumber
+    ensures { λ r. ⌜ (r ≡ countReply (ticksAnswer (record { kind = kind; «start_head» = «start_head»; «start_tail» = «start_tail»; «end_head» = «end_head»; «end_tail» = «end_tail» }) (bold (record { n = n })) (length (now (lent .entry))))) × (now (lent .exit) ≡ ticksWritten (record { kind = kind; «start_head» = «start_head»; «start_tail» = «start_tail»; «end_head» = «end_head»; «end_tail» = «end_tail» }) (bold (record { n = n })) (now (lent .entry))) ⌝ }
+{
+    let a = Axis {
+        kind: kind,
+        start_head: start_head,
+        start_tail: start_tail,
+        end_head: end_head,
+        end_tail: end_tail,
+    };
+    let h = BoldPoints { n: n };
+    counted(ticks::list_bold(a, h, lent))
+}
+
+#[no_mangle]
+pub extern "C" fn ordered_count_bold(
+    kind: i64,
+    start_head: i64,
+    start_tail: i64,
+    end_head: i64,
+    end_tail: i64,
+    n: i64,
+    lent_len: usize,
+) -> OrderedNumber
+    ensures { λ r. ⌜ r ≡ countReply (ticksAnswer (record { kind = kind; «start_head» = «start_head»; «start_tail» = «start_tail»; «end_head» = «end_head»; «end_tail» = «end_tail» }) (bold (record { n = n })) «lent_len») ⌝ }
+{
+    let a = Axis {
+        kind: kind,
+        start_head: start_head,
+        start_tail: start_tail,
+        end_head: end_head,
+        end_tail: end_tail,
+    };
+    let h = BoldPoints { n: n };
+    counted(ticks::count_bold(a, h, lent_len as u64))
+}
+
+#[no_mangle]
+pub extern "C" fn ordered_ticks_light(
+    kind: i64,
+    start_head: i64,
+    start_tail: i64,
+    end_head: i64,
+    end_tail: i64,
+    bold: i64,
+    n: i64,
+    lent: &mut [i64],
+) -> OrderedNumber
+    ensures { λ r. ⌜ (r ≡ countReply (ticksAnswer (record { kind = kind; «start_head» = «start_head»; «start_tail» = «start_tail»; «end_head» = «end_head»; «end_tail» = «end_tail» }) (light (record { bold = bold; n = n })) (length (now (lent .entry))))) × (now (lent .exit) ≡ ticksWritten (record { kind = kind; «start_head» = «start_head»; «start_tail» = «start_tail»; «end_head» = «end_head»; «end_tail» = «end_tail» }) (light (record { bold = bold; n = n })) (now (lent .entry))) ⌝ }
+{
+    let a = Axis {
+        kind: kind,
+        start_head: start_head,
+        start_tail: start_tail,
+        end_head: end_head,
+        end_tail: end_tail,
+    };
+    let h = LightPoints { bold: bold, n: n };
+    counted(ticks::list_light(a, h, lent))
+}
+
+#[no_mangle]
+pub extern "C" fn ordered_count_light(
+    kind: i64,
+    start_head: i64,
+    start_tail: i64,
+    end_head: i64,
+    end_tail: i64,
+    bold: i64,
+    n: i64,
+    lent_len: usize,
+) -> OrderedNumber
+    ensures { λ r. ⌜ r ≡ countReply (ticksAnswer (record { kind = kind; «start_head» = «start_head»; «start_tail» = «start_tail»; «end_head» = «end_head»; «end_tail» = «end_tail» }) (light (record { bold = bold; n = n })) «lent_len») ⌝ }
+{
+    let a = Axis {
+        kind: kind,
+        start_head: start_head,
+        start_tail: start_tail,
+        end_head: end_head,
+        end_tail: end_tail,
+    };
+    let h = LightPoints { bold: bold, n: n };
+    counted(ticks::count_light(a, h, lent_len as u64))
+}
+
+#[no_mangle]
+pub extern "C" fn ordered_period_per_point(
+    kind: i64,
+    start_head: i64,
+    start_tail: i64,
+    end_head: i64,
+    end_tail: i64,
+    n: i64,
+) -> OrderedPeriod
+    ensures { λ r. ⌜ r ≡ periodReply (periodAnswer (record { kind = kind; «start_head» = «start_head»; «start_tail» = «start_tail»; «end_head» = «end_head»; «end_tail» = «end_tail» }) (record { n = n })) ⌝ }
+{
+    let a = Axis {
+        kind: kind,
+        start_head: start_head,
+        start_tail: start_tail,
+        end_head: end_head,
+        end_tail: end_tail,
+    };
+    let h = BoldPoints { n: n };
+    match ticks::period_per_point(a, h) {
+        PeriodAnswer::Is(k) => OrderedPeriod {
+            status: 0,
+            nanoseconds: k as i64,
+        },
+        PeriodAnswer::None => OrderedPeriod {
+            status: -1,
+            nanoseconds: 0,
+        },
+        PeriodAnswer::Refused(q) => OrderedPeriod {
+            status: q as i64,
+            nanoseconds: 0,
         },
     }
 }

@@ -1,0 +1,29 @@
+// What ready.rattle offers: the scale of an axis and its limits, and the pixel of a value with it: coord for the
+// kinds 1 to 6, duration for 7. Nothing is asked: the ends, the limits and the value must be accepted ones.
+// It stands in an archive of its own, so that no call is inlined into the loop.
+#pragma once
+
+#include <cstdint>
+
+struct ready_axis {
+    int64_t kind, start_head, start_tail, end_head, end_tail;
+};
+struct ready_limits {
+    int64_t low, high;
+};
+struct ready_scale {
+    int64_t low, high;
+    double width;
+    bool fits;
+    double total, days;
+};
+
+extern "C" {
+ready_scale ready_scale_of(ready_axis axis, ready_limits limits);
+
+// limits: low, high; floats: width, total, days; axis and value: their numbers in order.
+int64_t ready_map_coord(const int64_t limits[2], const double floats[3], bool fits, const int64_t axis[5],
+                        const int64_t value[2]);
+int64_t ready_map_duration(const int64_t limits[2], const double floats[3], bool fits, const int64_t axis[5],
+                           const int64_t value[2]);
+}

@@ -1,0 +1,48 @@
+-- Answers that are signed numbers: a count of ticks, whose list has room in a slice, and a period. Assumes nothing.
+use mathlib.Core.Path.{_≡_, refl}
+use mathlib.Core.Bool.{Bool, true, false, cond}
+use Prim.Native.Nat.{ℕ, zero, suc, _*_, _^_, _≤_, _<_}
+use native.Mathlib.Omega.{arith}
+use lib.Dec.{leb, ltb}
+use borrow.Author.Tests.{leb-true, ltb-true}
+use Rattle.laws.specs.Asking.{firstNo}
+use Rattle.laws.specs.Numbers.{up}
+use Rattle.axis.specs.declared.Axis.{Axis}
+use Rattle.axis.specs.declared.BoldPoints.{BoldPoints}
+use Rattle.plans.specs.Times.{periodIn}
+use Rattle.plans.proofs.Spans.{timed}
+use Rattle.steps.specs.declared.Steps.{Steps}
+use Rattle.steps.specs.declared.Listed.the-variants.{Refused, Ticks}
+use Rattle.steps.specs.Listing.{countOf}
+use Rattle.ticks.specs.Hints.{Hint, planFor}
+use Rattle.ticks.specs.declared.PeriodAnswer.the-variants as period
+use Rattle.ticks.specs.Answers.{tickQuestions, answered, ticksAnswer, periodQuestions, periodReply, periodAnswer}
+use Rattle.ticks.proofs.Hints.{period-accepted, period-some}
+
+room-most : (b : Bool) (n k : ℕ) → k < 2 ^ 64 → (b ≡ true → 2 * n ≤ k) → countOf (cond b (Ticks n) (Refused 11)) < 2 ^ 63
+room-most true n k l h = omega (arith, h refl)
+room-most false n k l h = omega arith
+
+pub answer-most : (a : Axis) (h : Hint) (k : ℕ) → k < 2 ^ 64 → countOf (ticksAnswer a h k) < 2 ^ 63
+unfolding ticksAnswer
+answer-most a h k l = go (firstNo (tickQuestions a h)) (planFor a h)
+  where
+    go : (q : ℕ) (s : Steps) → countOf (answered q s k) < 2 ^ 63
+    go zero s = room-most (leb (2 * s .count) k) (s .count) k l (leb-true (2 * s .count) k)
+    go (suc q) s = omega arith
+
+-- ---- a period
+is-most : (q p k : ℕ) → (q ≡ 0 → 0 < p → p < 2 ^ 63) → periodReply q p ≡ period.Is k → k < 2 ^ 63
+is-most zero p k h e = go (ltb 0 p) (ltb-true 0 p) e
+  where
+    go : (b : Bool) → (b ≡ true → 0 < p) → cond b (period.Is p) period.None ≡ period.Is k → k < 2 ^ 63
+    go true u e = let same : p ≡ k = cc in omega (arith, h refl (u refl))
+    go false u e = let z : _≡_ {A = ℕ} 0 1 = cc in absurd (let w : ⊥ = omega arith in w)
+is-most (suc q) p k h e = let z : _≡_ {A = ℕ} 0 1 = cc in absurd (let w : ⊥ = omega arith in w)
+
+pub period-most : (a : Axis) (h : BoldPoints) (k : ℕ) → periodAnswer a h ≡ period.Is k → k < 2 ^ 63
+unfolding periodAnswer
+period-most a h k e = is-most (firstNo (periodQuestions a h)) (periodIn a (up (h .n))) k small e
+  where
+    small : firstNo (periodQuestions a h) ≡ 0 → 0 < periodIn a (up (h .n)) → periodIn a (up (h .n)) < 2 ^ 63
+    small z l = let (q, k, d) = period-accepted a h z in timed a (up (h .n)) q (period-some a (up (h .n)) q k) l .small

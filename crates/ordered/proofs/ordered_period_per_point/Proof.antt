@@ -1,0 +1,77 @@
+-- `ordered::ordered_period_per_point` meets its contract: each number, read back from its bits, is itself. Assumes nothing.
+use borrow.Author.Needs.{needs}
+use mathlib.Core.Path.{_≡_, _∙_, sym, ap}
+use Prim.Native.Nat.{_^_, _<_}
+use native.Mathlib.Omega.{arith}
+use lib.IntN.{ℤ, pos}
+use mir.Facts.{toZ-ofZ}
+use Rattle.laws.proofs.Signed.{count-fits, read-count}
+use Rattle.axis.specs.declared.Axis.{Axis}
+use Rattle.axis.specs.declared.BoldPoints.{BoldPoints}
+use Rattle.ticks.specs.Answers.{periodAnswer}
+use Rattle.ordered.specs.Replies.{periodReply}
+use Rattle.ordered.proofs.Counts.{period-most}
+use Rattle.ordered.proofs.ordered_period_per_point.Statement.{statement}
+use Rattle.ordered.proofs.ordered_period_per_point.Tie as tie
+
+abbrev axis : tie.Start → Axis
+axis c = let x = c .args in record { kind = x .kind; «start_head» = x .start-head; «start_tail» = x .start-tail; «end_head» = x .end-head; «end_tail» = x .end-tail }
+
+abbrev hint : tie.Start → BoldPoints
+hint c = record { n = c .args .n }
+
+said : (c : tie.After-period-per-point) → c .period-per-point .result ≡ periodAnswer (axis (c .before)) (hint (c .before))
+said c = let f = c .before .fits in rw (toZ-ofZ (f .kind), toZ-ofZ (f .start-head), toZ-ofZ (f .start-tail), toZ-ofZ (f .end-head), toZ-ofZ (f .end-tail), toZ-ofZ (f .n)) at (c .period-per-point .ensures)
+
+period-per-point-requires : tie.Need-period-per-point-requires
+period-per-point-requires c κs = search needs
+
+enum-known-k : tie.Need-enum-known-k
+enum-known-k c = search needs
+
+fits : (c : tie.After-known-told) → c .before .k .given .0 .0 < 2 ^ 63
+fits c =
+    let g = c .before .k .given in
+    let p = c .before .before .before in
+    period-most (axis (p .before)) (hint (p .before)) (g .0 .0) (sym (said p) ∙ g .1)
+
+cast-t13 : tie.Need-cast-t13
+cast-t13 c = count-fits _ (fits c)
+
+enum-told : tie.Need-enum-told
+enum-told c = search needs
+
+enum-known-q : tie.Need-enum-known-q
+enum-known-q c = search needs
+
+cast-t14 : tie.Need-cast-t14
+cast-t14 c = search needs
+
+returns : tie.Need-returns
+returns c =
+    let g = c .before .k .given in
+    ap (λ (z : ℤ). record { status = pos 0; nanoseconds = z }) (read-count (g .0 .0) (fits c))
+    ∙ ap periodReply (sym (g .1) ∙ said (c .before .before .before))
+
+returns-2 : tie.Need-returns-2
+returns-2 c = ap periodReply (sym (c .enum-told .given .1) ∙ said (c .before .before))
+
+returns-3 : tie.Need-returns-3
+returns-3 c =
+    let g = c .before .q .given in
+    ap (λ (z : ℤ). record { status = z; nanoseconds = pos 0 }) (read-count (g .0 .0) (omega arith))
+    ∙ ap periodReply (sym (g .1) ∙ said (c .before .before .before))
+
+pub ordered-period-per-point-spec : {M : Type 1} → statement M
+ordered-period-per-point-spec =
+    tie.close
+    (tie.spec
+    period-per-point-requires
+    enum-known-k
+    cast-t13
+    enum-told
+    enum-known-q
+    cast-t14
+    returns
+    returns-2
+    returns-3)

@@ -1,0 +1,7 @@
+-- Laws of the plans: what the code works out, and what demand 3 asks of each.
+pub mod Days
+pub mod Months
+pub mod Times
+pub mod Spans
+pub mod Plans
+pub mod Promise

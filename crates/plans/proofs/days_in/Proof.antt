@@ -1,0 +1,27 @@
+-- `plans::days_in` meets its contract. Assumes nothing.
+use borrow.Author.Needs.{needs}
+use mathlib.Core.Path.{_≡_, refl, _∙_, ap}
+use mathlib.Core.Bool.{true}
+use lib.IntN.{pos}
+use mir.Syntax.{w64}
+use mir.Facts.{toZ-ofZ}
+use Rattle.values.specs.Values.{isValue}
+use Rattle.values.specs.Differences.{wholeDays}
+use Rattle.plans.specs.Times.{daysIn}
+use Rattle.plans.proofs.Times.{zeroSpan, from-zero}
+use Rattle.plans.proofs.days_in.Statement.{statement}
+use Rattle.plans.proofs.days_in.Tie as tie
+
+zero-value : isValue (pos 7) zeroSpan ≡ true
+unfolding isValue
+zero-value = refl
+
+whole-days-between-requires : tie.Need-whole-days-between-requires
+whole-days-between-requires c κs = record { first = zero-value; second = c .pre }
+
+returns : tie.Need-returns
+unfolding daysIn
+returns c = toZ-ofZ {w = w64} {z = c .whole-days-between .result} (search needs) ∙ (c .whole-days-between .ensures ∙ ap wholeDays (from-zero (c .before .args .v)))
+
+pub days-in-spec : {M : Type 1} → statement M
+days-in-spec = tie.close (tie.spec whole-days-between-requires returns)

@@ -1,0 +1,5 @@
+-- What the crate's contracts cite.
+pub mod Days
+pub mod Months
+pub mod Times
+pub mod Plans

@@ -1,0 +1,2 @@
+-- What the claim says.
+pub mod Demand

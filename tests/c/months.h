@@ -1,0 +1,46 @@
+/* Years and months of day numbers, and the sizes of axes: for the clients, from ISO 8601's rules and document 01.
+   Day 1 is 0001-01-01; the ceiling of a date-time may be 3652060, 10000-01-01. */
+#ifndef MONTHS_H
+#define MONTHS_H
+
+#include <stdint.h>
+
+struct date {
+    int64_t year, month, day;
+};
+
+/* Counted from March 1 of the year 0, so that February ends a year. */
+static inline struct date date_at(int64_t number) {
+    int64_t from_march = number + 305, round = from_march / 146097, day = from_march % 146097;
+    int64_t year = (day - day / 1460 + day / 36524 - day / 146096) / 365;
+    day -= year * 365 + year / 4 - year / 100;
+    int64_t month = (5 * day + 2) / 153, early = month >= 10;
+    return (struct date){round * 400 + year + early, early ? month - 9 : month + 3, day - (153 * month + 2) / 5 + 1};
+}
+
+/* The day number of the first of a month; months are counted from 0001-01, which is 0. */
+static inline int64_t first_of_month(int64_t month) {
+    int64_t early = month % 12 < 2, year = 1 + month / 12 - early, from_march = month % 12 + (early ? 10 : -2);
+    return year * 365 + year / 4 - year / 100 + year / 400 + (153 * from_march + 2) / 5 - 305;
+}
+
+/* date_ceil: a day more from the first whole second on. */
+static inline int64_t date_ceiling(int64_t head, int64_t tail) {
+    return head + (tail >= 1000000000);
+}
+
+static inline int64_t larger(int64_t a, int64_t b) {
+    return a > b ? a : b;
+}
+
+/* The size of an axis of kind 1, 2, 3, 5 or 6: axis is kind, start, end. */
+static inline int64_t size_of(int64_t kind, const int64_t axis[5]) {
+    if (kind == 1)
+        return larger(axis[3] - axis[1], -1) + 1;
+    struct date start = date_at(date_ceiling(axis[1], axis[2])), end = date_at(axis[3]);
+    if (kind == 2 || kind == 5)
+        return larger(larger(end.year - start.year, 0) * 12 + end.month - start.month + 1, 0);
+    return larger(end.year - start.year, -1) + 1;
+}
+
+#endif
