@@ -100,17 +100,17 @@ static const struct row {
     list_call *list; /* these two instead of call */
     count_call *count;
 } rows[] = {
-    {"day_number", 3, call_day_number, refuse_day_number, 8, 0, NULL, NULL, NULL},
-    {"date_of", 1, call_date_of, refuse_date_of, 8, 0, NULL, NULL, NULL},
-    {"map", 9, call_map, refuse_map, 0, 10, NULL, NULL, NULL},
-    {"period", 6, call_period, refuse_period, -1, 0, exact_period_answer, NULL, NULL},
-    {"ticks_bold", 6, NULL, refuse_ticks_bold, 0, 0, exact_bold, list_bold, count_bold},
-    {"ticks_light", 7, NULL, refuse_ticks_light, 0, 0, exact_light, list_light, count_light},
+    {"day_number", 3, call_day_number, refuse_day_number, .none = 8},
+    {"date_of", 1, call_date_of, refuse_date_of, .none = 8},
+    {"map", 9, call_map, refuse_map, .panic = 10},
+    {"period", 6, call_period, refuse_period, .none = -1, .exact = exact_period_answer},
+    {"ticks_bold", 6, NULL, refuse_ticks_bold, .exact = exact_bold, .list = list_bold, .count = count_bold},
+    {"ticks_light", 7, NULL, refuse_ticks_light, .exact = exact_light, .list = list_light, .count = count_light},
 };
 enum { ROWS = sizeof rows / sizeof rows[0] };
 
 static int64_t lines, equal, refused[QUESTIONS], panics, differences, unread;
-static int64_t doubtful, apart;            /* within the logarithm's rounding; of these, the Rust says otherwise */
+static int64_t doubtful, apart; /* within the logarithm's rounding; of these, the Rust says otherwise */
 static int64_t lists, ticks, calls, short_calls; /* accepted lists; calls of list and count; those that 11 refuses */
 
 /* Reads whole numbers parted by one space, up to the end of the text; gives how many, or -1. One that does not fit
@@ -158,7 +158,7 @@ static bool same_list(const struct row *row, const int64_t *in, const int64_t *w
     return same;
 }
 
-/* The same with no room, with one number too few, just enough, one more, and more; a refused call with two lengths. */
+/* The same with no room, with one number too few, just enough, one more, and more; a refused call with three lengths. */
 static bool same_lists(const struct row *row, const int64_t *in, const int64_t *want, int64_t *got, size_t *lent_len) {
     static const int64_t too_short[2] = {11, 0};
     size_t exact = want[0] ? 0 : 2 * (size_t)want[1];

@@ -1,5 +1,5 @@
 /* Prints requests for the oracle and the archive, one to a line: requests OPERATION SEED COUNT.
-   The same seed gives the same lines. Boundaries come often; about one request in seven is one that must be refused. */
+   The same seed gives the same lines. Boundaries come often; about one request in ten is one that must be refused. */
 #include <inttypes.h>
 #include <stdbool.h>
 #include <stdio.h>
@@ -300,7 +300,10 @@ static int64_t time_of_day(void) {
     switch (draw() % 4) {
     case 0: return 0;
     case 1: return ONE_OF(1, SECOND / 2, SECOND - 1, SECOND, SECOND + 1, DAY - 1, DAY - SECOND);
-    case 2: return from(0, 23) * HOUR + ONE_OF(0, 0, 1, -1, 60 * SECOND) * chance(2);
+    case 2: {
+        int64_t hour = from(1, 23) * HOUR;
+        return hour + ONE_OF(0, 0, 0, 1, -1, 60 * SECOND);
+    }
     default: return from(0, DAY - 1);
     }
 }
@@ -318,30 +321,33 @@ static wide span_by_power(int64_t n) {
     int64_t power = 1;
     for (int64_t k = chance(3) ? ONE_OF(8, 9, 12, 13, 14, 15) : from(0, 18); k > 0; k--)
         power *= 10;
-    wide span = (wide)n * power;
-    return span + (chance(3) ? span / ONE_OF(1000000000000, 10000000000000, 100000000000000, 1000000000000000) : 1) *
-                      ONE_OF(0, 0, 1, -1, 2, -2);
+    wide span = (wide)n * power, step = 1;
+    if (chance(3))
+        step = span / ONE_OF(1000000000000, 10000000000000, 100000000000000, 1000000000000000);
+    return span + step * ONE_OF(0, 0, 1, -1, 2, -2);
 }
 
 /* A rung of the ladders. */
 static int64_t rung(void) {
+    int64_t base;
     switch (draw() % 4) {
-    case 0: return ONE_OF(1, 10, 100, 1000, 100000, 1000000, 100000000) * ONE_OF(1, 2, 5);
-    case 1: return ONE_OF(SECOND, 60 * SECOND, HOUR) * ONE_OF(1, 2, 5, 10, 15, 20, 30);
+    case 0: base = ONE_OF(1, 10, 100, 1000, 100000, 1000000, 100000000); return base * ONE_OF(1, 2, 5);
+    case 1: base = ONE_OF(SECOND, 60 * SECOND, HOUR); return base * ONE_OF(1, 2, 5, 10, 15, 20, 30);
     case 2: return HOUR * ONE_OF(1, 2, 4, 8, 12, 24, 48);
-    default: return ONE_OF(1, 10, 100, 1000, 10000) * DAY * ONE_OF(1, 2, 5, 7);
+    default: base = ONE_OF(1, 10, 100, 1000, 10000); return base * DAY * ONE_OF(1, 2, 5, 7);
     }
 }
 
 /* The last span that a rung is wide enough for, and the next one. */
 static wide span_by_rung(int64_t n) {
-    wide step = rung();
-    return (chance(4) ? n : n + 1) * step - ONE_OF(0, 1, 1, 2);
+    wide step = rung(), span = (chance(4) ? n : n + 1) * step;
+    return span - ONE_OF(0, 1, 1, 2);
 }
 
 /* Around N days, N weeks, and N times some weeks. */
 static wide span_by_days(int64_t n) {
-    int64_t days = ONE_OF(n, 7 * n, 7 * n * from(1, 20), from(0, 15), 7 * from(0, 600)) + ONE_OF(0, 0, 1, -1, 6, 7, -7);
+    int64_t weeks = from(0, 600), few = from(0, 15), step = ONE_OF(0, 0, 1, -1, 6, 7, -7);
+    int64_t days = ONE_OF(n, 7 * n, 7 * n * (few + 1), few, 7 * weeks) + step;
     return (days < 0 ? 0 : days) * (wide)DAY;
 }
 
@@ -359,8 +365,10 @@ static axis axis_by_months(int64_t kind, int64_t n) {
     default: least = from(0, last - months);
     }
     axis a = {kind, (wide)first_of_month(least) * DAY, (wide)first_of_month(least + months) * DAY};
-    a.start += ONE_OF(0, 0, 1, -1, from(-31, 31)) * (wide)DAY + (chance(2) ? 0 : time_of_day());
-    a.end += ONE_OF(0, 0, 0, 1, -1, 27, 30, from(-31, 31)) * (wide)DAY + (chance(2) ? 0 : time_of_day());
+    a.start += ONE_OF(0, 0, 1, -1, from(-31, 31)) * (wide)DAY;
+    a.start += chance(2) ? 0 : time_of_day();
+    a.end += ONE_OF(0, 0, 0, 1, -1, 27, 30, from(-31, 31)) * (wide)DAY;
+    a.end += chance(2) ? 0 : time_of_day();
     a.start = place_on(kind, a.start);
     a.end = place_on(kind, a.end < a.start ? a.start : a.end);
     return a;
@@ -372,7 +380,9 @@ static axis axis_below_zero(int64_t n) {
     if (n * step > 2 * (wide)NEAR)
         step = SECOND;
     wide whole = (wide)1 << 64, span = n * step - ONE_OF(0, 1, step / 4, step / 3);
-    wide start = -(chance(2) ? whole % step : 0) - any_size(NEAR / step) * step + ONE_OF(0, 0, 0, 1, -1);
+    wide start = chance(2) ? -(whole % step) : 0;
+    start -= any_size(NEAR / step) * step;
+    start += ONE_OF(0, 0, 0, 1, -1);
     axis a = {7, place_on(7, start), place_on(7, start + (chance(4) ? any_size(n * step) : span))};
     return a;
 }
@@ -380,8 +390,11 @@ static axis axis_below_zero(int64_t n) {
 /* A duration axis beyond 64 bits: the start beside a whole day. */
 static axis axis_of_days(int64_t n) {
     wide most = last_place(7) - first_place(7), span = (wide)INT64_MAX + 1 + little();
-    if (chance(2))
-        span = (wide)n * ONE_OF(1, 2, 5, 10, 20, 50, 100, 1000, 10000) * DAY + ONE_OF(0, 0, 1, -1) * DAY + little();
+    if (chance(2)) {
+        span = n * ONE_OF(1, 2, 5, 10, 20, 50, 100, 1000, 10000) * (wide)DAY;
+        span += ONE_OF(0, 0, 1, -1) * DAY;
+        span += little();
+    }
     span = clamp((wide)INT64_MAX + 1, span, most);
     axis a = axis_with(7, span);
     if (chance(2)) {
@@ -401,7 +414,7 @@ static axis axis_for(int64_t kind, int64_t listed, int64_t n) {
     else if (listed == 1)
         a = axis_with(kind, span_by_days(n));
     else if (listed == 4 && way == 1)
-        a = axis_with(kind, span_by_days(n) + from(-1, 1));
+        a = axis_with(kind, span_by_days(n) + (int64_t)(n % 3) - 1);
     else if (listed == 7 && way == 1)
         a = axis_of_days(n);
     else if (listed == 7 && way == 2)
@@ -422,7 +435,8 @@ static void print_hint(int64_t n) {
 /* Now and then the ends of a duration axis are moved past the bound of question 5. */
 static axis past_the_bound(axis a) {
     if (a.kind == 7 && a.end - a.start <= INT64_MAX && chance(12)) {
-        wide past = NEAR + (chance(2) ? 1 : any_size(NEAR)) - (a.end - a.start) - (chance(4) ? 1 : 0);
+        wide past = NEAR - (a.end - a.start) + (chance(2) ? 1 : any_size(NEAR));
+        past -= chance(4) ? 1 : 0;
         a.end += past - a.start, a.start = past;
     }
     return a;
@@ -445,8 +459,10 @@ static void ticks_light(void) {
     axis a = past_the_bound(axis_for(kind, listed, n));
     value start = value_at(kind, a.start), end = value_at(kind, a.end);
     int64_t ends[] = {kind, start.head, start.tail, end.head, end.tail};
-    if (kind != 1 && kind != 4 && kind != 7 && !chance(4))
-        bold = (int64_t)clamp(0, (size_of(chance(2) ? kind : kind <= 3 ? 2 : 5, ends) + from(-2, 3)) / 2, 4096);
+    if (kind != 1 && kind != 4 && kind != 7 && !chance(4)) {
+        int64_t size = size_of(chance(2) ? kind : kind <= 3 ? 2 : 5, ends);
+        bold = (int64_t)clamp(0, (size + from(-2, 3)) / 2, 4096);
+    }
     printf("ticks_light");
     print_axis(a);
     print_hint(bold);
