@@ -2,7 +2,7 @@
    Every parameter is an int64_t, a lent slice a pointer and its length, every answer a struct of int64_t by value.
 
    status: 0 answered, -1 none (no refusal), else the number of the question that refused the call. All other fields are 0
-   unless answered; a refused call writes nothing.
+   unless answered, but for a cursor's next at none; a refused call writes nothing.
    Any numbers may be handed in: no call traps, wraps or runs without end.
 
    A kind is 1 date, 2 monthly and 3 yearly over dates, 4 date-time, 5 monthly and 6 yearly over date-times, 7 duration. A
@@ -16,10 +16,11 @@
    4   start is no later than end
    5   kind 7: both ends are within 4 * 10^18 ns of zero, or the span is above 2^63 - 1 ns
    6   a hint's numbers are 0 to 4096, and N is at least 1 on the kinds 4 to 7
-   7   each limit is -32767 to 32767
-   8   the value is one of the kind; the year, month and day are a date of the years 1 to 9999; the day number is 1 to 3652059
+   7   each limit and pixel is -32767 to 32767; to unmap, the limits differ
+   8   the value is one of the kind; the index or place is 0 to 3652059; the year, month and day are a date of the years 1 to
+       9999; the day number is 1 to 3652059
    9   to map: start is before end, or the value is start
-   10  the answer fits 32 bits
+   10  the answer fits 32 bits, a date answered is one of the days of 3, an unmapped index one of 8
    11  the lent slice has two numbers for each tick */
 #ifndef ORDERED_H
 #define ORDERED_H
@@ -33,10 +34,12 @@ extern "C" {
 
 #define ORDERED_AXIS int64_t kind, int64_t start_head, int64_t start_tail, int64_t end_head, int64_t end_tail
 
-typedef struct { int64_t status, value; } ordered_number; /* a day number, a count of ticks */
+typedef struct { int64_t status, value; } ordered_number; /* a day number, a count of ticks, a size, an index */
 typedef struct { int64_t status, pixel; } ordered_pixel;
 typedef struct { int64_t status, nanoseconds; } ordered_period;
+typedef struct { int64_t status, head, tail; } ordered_value;
 typedef struct { int64_t status, year, month, day; } ordered_date;
+typedef struct { int64_t status, head, tail, next; } ordered_step; /* next: the next place of the cursor */
 
 /* The day number of a date of ISO 8601's calendar; 0001-01-01 is 1, 9999-12-31 is 3652059. */
 ordered_number ordered_day_number(int64_t year, int64_t month, int64_t day);
@@ -46,6 +49,10 @@ ordered_date ordered_date_of(int64_t day_number);
 
 /* The pixel of a value on an axis. */
 ordered_pixel ordered_map(ORDERED_AXIS, int64_t low, int64_t high, int64_t head, int64_t tail);
+
+/* The value at a pixel, all kinds but 7. It does not undo ordered_map: on the kinds with indices the limits part the size, and
+   the high limit is one past the last. */
+ordered_value ordered_unmap(ORDERED_AXIS, int64_t low, int64_t high, int64_t pixel);
 
 /* The step between ticks of the kinds 4 and 7, for at most n + 1 of them. None where whole days are listed: on kind 4 from
    10^14 ns for each of the n on, on both kinds where the span is above 2^63 - 1 ns. */
@@ -62,6 +69,23 @@ ordered_number ordered_ticks_light(ORDERED_AXIS, int64_t bold, int64_t n, int64_
 /* The answers of the two above for a lent slice of that length, with nothing lent. */
 ordered_number ordered_count_bold(ORDERED_AXIS, int64_t n, size_t lent_len);
 ordered_number ordered_count_light(ORDERED_AXIS, int64_t bold, int64_t n, size_t lent_len);
+
+/* The days, months or years of an axis; kinds 1, 2, 3, 5 and 6, as all below. */
+ordered_number ordered_size(ORDERED_AXIS);
+
+/* The index of the day, month or year of a value, 0 at the start; past the end too. None before the start, but a month of an
+   earlier year counts as that month of the start's. */
+ordered_number ordered_index_of(ORDERED_AXIS, int64_t head, int64_t tail);
+
+/* The first value of the day, month or year with that index, past the end too; of 0 the start or its ceiling. */
+ordered_value ordered_from_index(ORDERED_AXIS, int64_t index);
+
+/* The value of the index after a value's, or before it. None past the size, or below 0. */
+ordered_value ordered_next(ORDERED_AXIS, int64_t head, int64_t tail);
+ordered_value ordered_previous(ORDERED_AXIS, int64_t head, int64_t tail);
+
+/* The values one by one: begin at place 0 and go on with next. None from the size on; next is then the place itself. */
+ordered_step ordered_values(ORDERED_AXIS, int64_t place);
 
 #ifdef __cplusplus
 }

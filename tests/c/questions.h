@@ -1,11 +1,13 @@
 /* Document 01's questions, written for the clients from its text: one function for each operation gives the number of
-   the first question that says no, 0 if none does. Not asked here: question 10, where it says no the Rust panics, and
-   question 11, which needs the list. */
+   the first question that says no, 0 if none does. Not among them: question 10, which needs the answer (functions of its
+   own below; where the answer has no date, the Rust panics), and question 11, which needs the list. */
 #ifndef QUESTIONS_H
 #define QUESTIONS_H
 
 #include <stdbool.h>
 #include <stdint.h>
+
+#include "months.h"
 
 static inline bool in_range(int64_t low, int64_t x, int64_t high) {
     return low <= x && x <= high;
@@ -24,7 +26,7 @@ static inline __int128 nanoseconds(int64_t kind, int64_t head, int64_t tail) {
 }
 
 /* The kinds that have an operation, a bit for each: bit 1 is kind 1. */
-enum { ALL_KINDS = 0xfe, PERIOD_KINDS = 1 << 4 | 1 << 7 };
+enum { ALL_KINDS = 0xfe, PERIOD_KINDS = 1 << 4 | 1 << 7, UNMAP_KINDS = 0x7e, INDEX_KINDS = 0x6e };
 
 /* Questions 1 to 5, about kind, start and end. */
 static inline int64_t refuse_axis(const int64_t axis[5], unsigned kinds) {
@@ -83,6 +85,46 @@ static inline int64_t refuse_ticks_light(const int64_t *in) {
 static inline int64_t refuse_period(const int64_t *in) {
     int64_t number = refuse_axis(in, PERIOD_KINDS);
     return number ? number : hint_in_range(in[0], 0, in[5]) ? 0 : 6;
+}
+
+/* in: kind, start, end, low, high, pixel */
+static inline int64_t refuse_unmap(const int64_t *in) {
+    int64_t number = refuse_axis(in, UNMAP_KINDS);
+    bool limits = pixel_in_range(in[5]) && pixel_in_range(in[6]) && pixel_in_range(in[7]) && in[5] != in[6];
+    return number ? number : limits ? 0 : 7;
+}
+
+/* in: kind, start, end */
+static inline int64_t refuse_size(const int64_t *in) {
+    return refuse_axis(in, INDEX_KINDS);
+}
+
+/* in: kind, start, end, value */
+static inline int64_t refuse_by_value(const int64_t *in) {
+    int64_t number = refuse_axis(in, INDEX_KINDS);
+    return number ? number : value_of_kind(in[0], in[5], in[6]) ? 0 : 8;
+}
+
+/* in: kind, start, end, index or place */
+static inline int64_t refuse_by_index(const int64_t *in) {
+    int64_t number = refuse_axis(in, INDEX_KINDS);
+    return number ? number : in_range(0, in[5], 3652059) ? 0 : 8;
+}
+
+/* Question 10 of an answered date, by the answer's head: is it a day of question 3? */
+static inline bool day_answered(const int64_t *in, int64_t head) {
+    (void)in;
+    return in_range(1, head, 3652059);
+}
+
+/* The same to unmap; with indices, the index too: offset * size / W rounded down, below 0 is 0. Kind 4 has none. */
+static inline bool day_unmapped(const int64_t *in, int64_t head) {
+    if (in[0] != 4) {
+        int64_t places = (in[7] - in[5]) * size_of(in[0], in), width = in[6] - in[5];
+        if (places / width > 3652059)
+            return false;
+    }
+    return day_answered(in, head);
 }
 
 /* in: year, month, day. On which day a month ends is left to the oracle; it has years before 1 and after 9999 too. */

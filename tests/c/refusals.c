@@ -367,6 +367,151 @@ static const struct period {
     {{7, 0, 0, 4000000000, 1, 0}, 5, 6, 0, "end too far, N 0"},
 };
 
+/* The operations on indices, a bit each: a refusal is often asked of several that take the same numbers. */
+enum { UNMAP = 1, SIZE = 2, INDEX_OF = 4, FROM_INDEX = 8, NEXT = 16, PREVIOUS = 32, VALUES = 64 };
+enum { BY_VALUE = INDEX_OF | NEXT | PREVIOUS, BY_INDEX = FROM_INDEX | VALUES };
+
+/* 9999-12-31 10:00 to 12:00: its ceiling is the day after the last; January 1 of the year 1 has index 0, February 1 has 1. */
+#define LAST_NOON 3652059, 36000000000000, 3652059, 43200000000000
+#define LAST_NOON_REVERSED 3652059, 43200000000000, 3652059, 36000000000000
+#define LAST_NOON_SPOILT 3652059, 36000000000000, 3652059, 86400000000000
+
+/* The numbers as the operation takes them after the axis: low, high, pixel; nothing; a value; an index or place. */
+static const struct asking {
+    int operations;
+    int64_t in[8], status, also, out[3];
+    const char *why;
+} askings[] = {
+    /* Accepted ones. 737850 is 2021-03-01, 737425 is 2020-01-01, 737880 is 2021-03-31, 738155 is 2021-12-31. */
+    {UNMAP, {1, 737850, 0, 737859, 0, 0, 100, 100}, 0, 0, {737860, 0}, "the high limit: one past the last"},
+    {UNMAP, {1, 737850, 0, 737859, 0, 0, 100, 99}, 0, 0, {737859, 0}, "beside it: the last"},
+    {UNMAP, {1, 737850, 0, 737859, 0, 0, 100, -1}, 0, 0, {737850, 0}, "below 0 is index 0"},
+    {UNMAP, {1, 737850, 0, 737859, 0, 100, 0, 1}, 0, 0, {737859, 0}, "swapped limits"},
+    {UNMAP, {4, 1, 0, 2, 0, 0, 100, 50}, 0, 0, {1, 43200000000000}, "the middle of a day"},
+    {UNMAP, {4, 1, 0, 2, 0, 0, 100, 101}, 0, 0, {2, 864000000000}, "past the end"},
+    {UNMAP, {4, 1, 5, 2, 0, 100, 0, 50}, 0, 0, {1, 5}, "swapped limits, a span under a day: the start"},
+    {UNMAP, {5, 737880, 36000000000000, 737880, 43200000000000, 0, 100, 50}, 0, 0, {737881, 0}, "size 0: index 0"},
+    {SIZE, {1, 5, 0, 5, 0}, 0, 0, {1}, "one day"},
+    {SIZE, {2, 1, 0, 60, 0}, 0, 0, {3}, "three months"},
+    {SIZE, {3, 365, 0, 366, 0}, 0, 0, {2}, "two years"},
+    {SIZE, {5, 738155, 36000000000000, 738155, 43200000000000}, 0, 0, {12}, "2021-12-31 10:00 to 12:00: 12"},
+    {SIZE, {5, 737880, 36000000000000, 737880, 43200000000000}, 0, 0, {0}, "2021-03-31 10:00 to 12:00: 0"},
+    {SIZE, {5, LAST_NOON}, 0, 0, {12}, "9999-12-31 10:00 to 12:00: 12"},
+    {SIZE, {6, LAST_NOON}, 0, 0, {0}, "the same in years: 0"},
+    {INDEX_OF, {1, 5, 0, 9, 0, 11, 0}, 0, 0, {6}, "past the end"},
+    {INDEX_OF, {1, 5, 0, 9, 0, 4, 0}, -1, 0, {0}, "before the start: none"},
+    {INDEX_OF, {2, 737425, 0, 737800, 0, 737424, 0}, 0, 0, {11}, "an earlier year counts as the start's"},
+    {INDEX_OF, {2, 60, 0, 800, 0, 32, 0}, -1, 0, {0}, "an earlier month of it: none"},
+    {INDEX_OF, {3, 737425, 0, 737800, 0, 737424, 0}, -1, 0, {0}, "kind 3, an earlier year: none"},
+    {INDEX_OF, {5, 737880, 36000000000000, 737880, 43200000000000, 737880, 36000000000000}, -1, 0, {0}, "size 0: none"},
+    {INDEX_OF, {5, LAST_NOON, 3652059, 36000000000000}, 0, 0, {11}, "the start before its ceiling's year: 11"},
+    {FROM_INDEX, {1, 1, 0, 2, 0, 3652058}, 0, 0, {3652059, 0}, "the last day, past the end"},
+    {FROM_INDEX, {2, 15, 0, 60, 0, 0}, 0, 0, {15, 0}, "index 0, kind 2: the start"},
+    {FROM_INDEX, {2, 15, 0, 60, 0, 1}, 0, 0, {32, 0}, "then firsts"},
+    {FROM_INDEX, {5, 15, 500000000, 60, 0, 0}, 0, 0, {15, 0}, "index 0, kind 5: midnight of the ceiling"},
+    {FROM_INDEX, {6, 15, 500000000, 60, 0, 0}, 0, 0, {15, 500000000}, "index 0, kind 6: the start with its tail"},
+    {FROM_INDEX, {6, 365, 1000000000, 800, 0, 0}, 0, 0, {366, 0}, "unless January 1 of the ceiling's year is later"},
+    {NEXT, {1, 5, 0, 9, 0, 8, 0}, 0, 0, {9, 0}, "to the last"},
+    {NEXT, {1, 5, 0, 9, 0, 9, 0}, -1, 0, {0}, "after the last: none"},
+    {NEXT, {1, 5, 0, 9, 0, 4, 0}, -1, 0, {0}, "before the start: none"},
+    {PREVIOUS, {1, 5, 0, 9, 0, 6, 0}, 0, 0, {5, 0}, "to the first"},
+    {PREVIOUS, {1, 5, 0, 9, 0, 5, 0}, -1, 0, {0}, "before the first: none"},
+    {PREVIOUS, {1, 5, 0, 9, 0, 3652059, 0}, 0, 0, {3652058, 0}, "from past the end"},
+    {VALUES, {1, 5, 0, 6, 0, 0}, 0, 0, {5, 0, 1}, "the first"},
+    {VALUES, {1, 5, 0, 6, 0, 1}, 0, 0, {6, 0, 2}, "the last"},
+    {VALUES, {1, 5, 0, 6, 0, 2}, -1, 0, {0, 0, 2}, "at the size: none, next is the place"},
+    {VALUES, {1, 5, 0, 6, 0, 3652059}, -1, 0, {0, 0, 3652059}, "the largest place"},
+
+    /* 1 and 2: the kind. */
+    {UNMAP | SIZE | BY_VALUE | BY_INDEX, {0, 1, 0, 2, 0, 1, 0}, 1, 0, {0}, "kind 0"},
+    {UNMAP | SIZE | BY_VALUE | BY_INDEX, {8, 1, 0, 2, 0, 1, 0}, 1, 0, {0}, "kind 8"},
+    {UNMAP | SIZE | BY_VALUE | BY_INDEX, {4294967297, 1, 0, 2, 0, 1, 0}, 1, 0, {0}, "kind 1 in the low 32 bits"},
+    {UNMAP | SIZE | BY_VALUE | BY_INDEX, {7, 1, 0, 2, 0, 1, 0}, 2, 0, {0}, "kind 7"},
+    {SIZE | BY_VALUE | BY_INDEX, {4, 1, 0, 2, 0, 1, 0}, 2, 0, {0}, "kind 4"},
+
+    /* 3 and 4: start and end. */
+    {UNMAP | SIZE | BY_VALUE | BY_INDEX, {1, 0, 0, 2, 0, 1, 0}, 3, 0, {0}, "day 0 as start"},
+    {UNMAP | SIZE | BY_VALUE | BY_INDEX, {2, 1, 0, 3652060, 0, 1, 0}, 3, 0, {0}, "10000-01-01 as end"},
+    {UNMAP | SIZE | BY_VALUE | BY_INDEX, {3, 1, 1, 2, 0, 1, 0}, 3, 0, {0}, "a date with a tail"},
+    {UNMAP | SIZE | BY_VALUE | BY_INDEX, {6, 1, 0, 2, 86400000000000, 1, 0}, 3, 0, {0}, "24:00 as end"},
+    {UNMAP | SIZE | BY_VALUE | BY_INDEX, {1, 2, 0, 1, 0, 1, 0}, 4, 0, {0}, "start later"},
+    {UNMAP | SIZE | BY_VALUE | BY_INDEX, {5, 1, 1, 1, 0, 1, 0}, 4, 0, {0}, "start 1 ns later"},
+
+    /* 7: limits and pixel. */
+    {UNMAP, {1, 1, 0, 2, 0, 5, 5, 5}, 7, 0, {0}, "equal limits"},
+    {UNMAP, {4, 1, 0, 2, 0, 5, 5, 5}, 7, 0, {0}, "equal limits, kind 4"},
+    {UNMAP, {1, 1, 0, 2, 0, -32768, 0, 0}, 7, 0, {0}, "low one less"},
+    {UNMAP, {1, 1, 0, 2, 0, 0, 32768, 0}, 7, 0, {0}, "high one more"},
+    {UNMAP, {1, 1, 0, 2, 0, 0, 1, 32768}, 7, 0, {0}, "the pixel one more"},
+    {UNMAP, {1, 1, 0, 2, 0, 0, 1, 4294967296}, 7, 0, {0}, "pixel 0 in its low 32 bits"},
+    {UNMAP, {1, 1, 0, 2, 0, 32767, -32767, -32767}, 0, 0, {3, 0}, "the largest and the least"},
+
+    /* 8: the value, the index, the place. */
+    {BY_VALUE, {1, 1, 0, 2, 0, 0, 0}, 8, 0, {0}, "day 0"},
+    {BY_VALUE, {1, 1, 0, 2, 0, 3652060, 0}, 8, 0, {0}, "10000-01-01"},
+    {BY_VALUE, {2, 1, 0, 2, 0, 1, 1}, 8, 0, {0}, "a date with a tail"},
+    {BY_VALUE, {5, 1, 0, 2, 0, 1, 86400000000000}, 8, 0, {0}, "24:00"},
+    {BY_INDEX, {1, 1, 0, 2, 0, -1}, 8, 0, {0}, "-1"},
+    {BY_INDEX, {1, 1, 0, 2, 0, 3652060}, 8, 0, {0}, "one more than the largest"},
+    {BY_INDEX, {1, 1, 0, 2, 0, 4294967296}, 8, 0, {0}, "0 in its low 32 bits"},
+    {BY_INDEX, {1, 1, 0, 2, 0, INT64_MIN}, 8, 0, {0}, "the least number"},
+
+    /* 10: a date that is no day of 3. */
+    {FROM_INDEX, {1, 1, 0, 2, 0, 3652059}, 10, 0, {0}, "a day after the last"},
+    {FROM_INDEX, {2, 3652059, 0, 3652059, 0, 1}, 10, 0, {0}, "10000-01"},
+    {FROM_INDEX, {3, 3652059, 0, 3652059, 0, 1}, 10, 0, {0}, "the year 10000"},
+    {FROM_INDEX, {3, 1, 0, 2, 0, 3652059}, 10, 0, {0}, "a year that chrono has not"},
+    {FROM_INDEX, {6, LAST_NOON, 0}, 10, 0, {0}, "the ceiling's year"},
+    {BY_INDEX, {5, LAST_NOON, 0}, 10, 0, {0}, "the ceiling itself"},
+    {NEXT, {5, LAST_NOON, 1, 0}, 10, 0, {0}, "10000-02-01"},
+    {PREVIOUS, {5, LAST_NOON, 32, 0}, 10, 0, {0}, "the ceiling itself"},
+    {UNMAP, {5, LAST_NOON, 0, 12, 0}, 10, 0, {0}, "index 0 is the ceiling"},
+    {UNMAP, {1, 1, 0, 3652059, 0, 0, 1, 1}, 10, 0, {0}, "one past the last day"},
+    {UNMAP, {2, 1, 0, 3652059, 0, -32767, -32766, 3028}, 10, 0, {0}, "an index that 32 bits would cut to a real month"},
+    {UNMAP, {4, 1, 0, 2, 0, 0, 1, -1}, 10, 0, {0}, "day 0"},
+    {UNMAP, {4, 3652058, 0, 3652059, 0, 0, 1, 2}, 10, 0, {0}, "10000-01-01, midnight"},
+    {UNMAP, {4, 1, 0, 3652059, 0, 0, 1, 32767}, 10, 0, {0}, "days that chrono has not"},
+
+    /* Two at once. */
+    {UNMAP | SIZE | BY_VALUE | BY_INDEX, {8, 0, 0, 2, 0, 1, 0}, 1, 3, {0}, "no kind, start day 0"},
+    {UNMAP | SIZE | BY_VALUE | BY_INDEX, {8, 2, 0, 1, 0, 1, 0}, 1, 4, {0}, "no kind, start later"},
+    {UNMAP, {8, 1, 0, 2, 0, 5, 5, 5}, 1, 7, {0}, "no kind, equal limits"},
+    {BY_VALUE, {8, 1, 0, 2, 0, 1, -1}, 1, 8, {0}, "no kind, a value of no kind"},
+    {BY_INDEX, {8, 1, 0, 2, 0, -1}, 1, 8, {0}, "no kind, index -1"},
+    {UNMAP, {8, LAST_NOON, 0, 12, 0}, 1, 10, {0}, "no kind, no date"},
+    {NEXT, {8, LAST_NOON, 1, 0}, 1, 10, {0}, "no kind, no date"},
+    {PREVIOUS, {8, LAST_NOON, 32, 0}, 1, 10, {0}, "no kind, no date"},
+    {BY_INDEX, {8, LAST_NOON, 0}, 1, 10, {0}, "no kind, no date"},
+    {UNMAP | SIZE | BY_VALUE | BY_INDEX, {7, 0, -1, 2, 0, 1, 0}, 2, 3, {0}, "kind 7, a tail below 0"},
+    {UNMAP | SIZE | BY_VALUE | BY_INDEX, {7, 2, 0, 1, 0, 1, 0}, 2, 4, {0}, "kind 7, start later"},
+    {UNMAP, {7, 1, 0, 2, 0, 5, 5, 5}, 2, 7, {0}, "kind 7, equal limits"},
+    {BY_VALUE, {4, 1, 0, 2, 0, 1, -1}, 2, 8, {0}, "kind 4, a value of no kind"},
+    {BY_INDEX, {4, 1, 0, 2, 0, -1}, 2, 8, {0}, "kind 4, index -1"},
+    {UNMAP, {7, 1, 0, 2, 0, 0, 1, -1}, 2, 10, {0}, "kind 7, day 0 if it were 4"},
+    {NEXT, {4, LAST_NOON, 1, 0}, 2, 10, {0}, "kind 4, no date if it were 5"},
+    {PREVIOUS, {4, LAST_NOON, 32, 0}, 2, 10, {0}, "kind 4, no date if it were 5"},
+    {BY_INDEX, {4, LAST_NOON, 0}, 2, 10, {0}, "kind 4, no date if it were 5"},
+    {UNMAP | SIZE | BY_VALUE | BY_INDEX, {1, 2, 0, 0, 0, 1, 0}, 3, 4, {0}, "end day 0, start later"},
+    {UNMAP, {1, 0, 0, 2, 0, 5, 5, 5}, 3, 7, {0}, "start day 0, equal limits"},
+    {BY_VALUE, {1, 0, 0, 2, 0, 0, 0}, 3, 8, {0}, "start day 0, value day 0"},
+    {BY_INDEX, {1, 0, 0, 2, 0, -1}, 3, 8, {0}, "start day 0, index -1"},
+    {UNMAP, {5, LAST_NOON_SPOILT, 0, 12, 0}, 3, 10, {0}, "24:00 as end, no date"},
+    {NEXT, {5, LAST_NOON_SPOILT, 1, 0}, 3, 10, {0}, "24:00 as end, no date"},
+    {PREVIOUS, {5, LAST_NOON_SPOILT, 32, 0}, 3, 10, {0}, "24:00 as end, no date"},
+    {BY_INDEX, {5, LAST_NOON_SPOILT, 0}, 3, 10, {0}, "24:00 as end, no date"},
+    {UNMAP, {1, 2, 0, 1, 0, 5, 5, 5}, 4, 7, {0}, "start later, equal limits"},
+    {BY_VALUE, {1, 2, 0, 1, 0, 0, 0}, 4, 8, {0}, "start later, value day 0"},
+    {BY_INDEX, {1, 2, 0, 1, 0, -1}, 4, 8, {0}, "start later, index -1"},
+    {UNMAP, {5, LAST_NOON_REVERSED, 0, 12, 0}, 4, 10, {0}, "start later, no date"},
+    {NEXT, {5, LAST_NOON_REVERSED, 1, 0}, 4, 10, {0}, "start later, no date"},
+    {PREVIOUS, {5, LAST_NOON_REVERSED, 32, 0}, 4, 10, {0}, "start later, no date"},
+    {BY_INDEX, {5, LAST_NOON_REVERSED, 0}, 4, 10, {0}, "start later, no date"},
+    {UNMAP, {4, 1, 0, 2, 0, 0, 1, -32768}, 7, 10, {0}, "the pixel one less, no date"},
+    {NEXT, {5, LAST_NOON, 1, -1}, 8, 10, {0}, "the value's tail below 0, no date"},
+    {PREVIOUS, {5, LAST_NOON, 32, -1}, 8, 10, {0}, "the value's tail below 0, no date"},
+    {BY_INDEX, {1, 1, 0, 3652059, 0, 3652060}, 8, 10, {0}, "an index too large, no date"},
+};
+
 static const struct numbering {
     int64_t in[3], status, number;
     const char *why;
@@ -479,6 +624,57 @@ static void compare_listing(const struct listing *row, int number) {
     }
 }
 
+/* One operation of a row; the answer as its status and three numbers. */
+static void ask(int operation, const int64_t *in, int64_t out[4]) {
+    ordered_value v = {0, 0, 0};
+    ordered_number n = {0, 0};
+    ordered_step s = {0, 0, 0, 0};
+    switch (operation) {
+    case UNMAP: v = ordered_unmap(in[0], in[1], in[2], in[3], in[4], in[5], in[6], in[7]); break;
+    case SIZE: n = ordered_size(in[0], in[1], in[2], in[3], in[4]); break;
+    case INDEX_OF: n = ordered_index_of(in[0], in[1], in[2], in[3], in[4], in[5], in[6]); break;
+    case FROM_INDEX: v = ordered_from_index(in[0], in[1], in[2], in[3], in[4], in[5]); break;
+    case NEXT: v = ordered_next(in[0], in[1], in[2], in[3], in[4], in[5], in[6]); break;
+    case PREVIOUS: v = ordered_previous(in[0], in[1], in[2], in[3], in[4], in[5], in[6]); break;
+    default: s = ordered_values(in[0], in[1], in[2], in[3], in[4], in[5]);
+    }
+    out[0] = v.status + n.status + s.status, out[1] = v.head + n.value + s.head, out[2] = v.tail + s.tail, out[3] = s.next;
+}
+
+/* All operations on indices: their rows, and that each question of each has its rows. */
+static int compare_askings(void) {
+    static const struct {
+        const char *name;
+        int asked[6], count;
+    } operations[] = {
+        {"ordered_unmap", {1, 2, 3, 4, 7, 10}, 6},      {"ordered_size", {1, 2, 3, 4}, 4},
+        {"ordered_index_of", {1, 2, 3, 4, 8}, 5},       {"ordered_from_index", {1, 2, 3, 4, 8, 10}, 6},
+        {"ordered_next", {1, 2, 3, 4, 8, 10}, 6},       {"ordered_previous", {1, 2, 3, 4, 8, 10}, 6},
+        {"ordered_values", {1, 2, 3, 4, 8, 10}, 6},
+    };
+    int calls = 0;
+    for (int bit = 0; bit < COUNT(operations); bit++) {
+        struct seen seen = {0};
+        for (int i = 0; i < COUNT(askings); i++) {
+            const struct asking *row = &askings[i];
+            if (!(row->operations >> bit & 1))
+                continue;
+            int64_t got[4], want[4] = {row->status, row->out[0], row->out[1], row->out[2]};
+            ask(1 << bit, row->in, got);
+            calls++;
+            see(&seen, row->status, row->also);
+            if (memcmp(got, want, sizeof want)) {
+                differences++;
+                printf("  %s, row %d, %s: expected %" PRId64 " %" PRId64 " %" PRId64 " %" PRId64 ", got %" PRId64 " %" PRId64
+                       " %" PRId64 " %" PRId64 "\n", operations[bit].name, i + 1, row->why, want[0], want[1], want[2],
+                       want[3], got[0], got[1], got[2], got[3]);
+            }
+        }
+        expect_all_covered(operations[bit].name, &seen, operations[bit].asked, operations[bit].count);
+    }
+    return calls;
+}
+
 int main(void) {
     setvbuf(stdout, NULL, _IOLBF, 0); /* what was printed stays if a sanitizer ends the run */
     struct seen maps = {0};
@@ -517,6 +713,7 @@ int main(void) {
         }
     }
     expect_all_covered("ordered_period_per_point", &steps, (const int[]){1, 2, 3, 4, 5, 6}, 6);
+    int index_calls = compare_askings();
     for (int i = 0; i < COUNT(numberings); i++) {
         const struct numbering *row = &numberings[i];
         ordered_number r = ordered_day_number(row->in[0], row->in[1], row->in[2]);
@@ -528,7 +725,8 @@ int main(void) {
         bool same = r.status == row->status && r.year == row->year && r.month == row->month && r.day == row->day;
         expect(same, "ordered_date_of", row->why);
     }
-    printf("refusals: %d mappings, %d lists and their counts, %d periods, %d dates, %d day numbers, %d differences\n",
-           COUNT(mappings), COUNT(listings), COUNT(periods), COUNT(numberings), COUNT(datings), differences);
+    printf("refusals: %d mappings, %d lists and their counts, %d periods, %d of unmapping and indices, %d dates, %d day "
+           "numbers, %d differences\n", COUNT(mappings), COUNT(listings), COUNT(periods), index_calls, COUNT(numberings),
+           COUNT(datings), differences);
     return differences > 0;
 }

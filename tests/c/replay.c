@@ -24,6 +24,9 @@ typedef ordered_number count_call(const int64_t *in, size_t lent_len);
 /* Fills in document 01's answer where the Rust's logarithm may round it away; gives how many numbers, 0 if it may not. */
 typedef int exact(const int64_t *in, int64_t *out);
 
+/* Question 10 of the oracle's answer, by its head, the second number. */
+typedef bool fits(const int64_t *in, int64_t head);
+
 /* The question by which document 01 refuses these arguments, 0 if it is the oracle's to say. */
 typedef int64_t refusal(const int64_t *in);
 
@@ -88,6 +91,46 @@ static int exact_light(const int64_t *in, int64_t *out) {
     return exact_list(in, listed_kind(in, in[5]), in[6], out);
 }
 
+static int numbers_of(ordered_number r, int64_t *out) {
+    out[0] = r.status, out[1] = r.value;
+    return 2;
+}
+
+static int numbers_of_value(ordered_value r, int64_t *out) {
+    out[0] = r.status, out[1] = r.head, out[2] = r.tail;
+    return 3;
+}
+
+static int call_unmap(const int64_t *in, int64_t *out) {
+    return numbers_of_value(ordered_unmap(in[0], in[1], in[2], in[3], in[4], in[5], in[6], in[7]), out);
+}
+
+static int call_size(const int64_t *in, int64_t *out) {
+    return numbers_of(ordered_size(in[0], in[1], in[2], in[3], in[4]), out);
+}
+
+static int call_index_of(const int64_t *in, int64_t *out) {
+    return numbers_of(ordered_index_of(in[0], in[1], in[2], in[3], in[4], in[5], in[6]), out);
+}
+
+static int call_from_index(const int64_t *in, int64_t *out) {
+    return numbers_of_value(ordered_from_index(in[0], in[1], in[2], in[3], in[4], in[5]), out);
+}
+
+static int call_next(const int64_t *in, int64_t *out) {
+    return numbers_of_value(ordered_next(in[0], in[1], in[2], in[3], in[4], in[5], in[6]), out);
+}
+
+static int call_previous(const int64_t *in, int64_t *out) {
+    return numbers_of_value(ordered_previous(in[0], in[1], in[2], in[3], in[4], in[5], in[6]), out);
+}
+
+static int call_values(const int64_t *in, int64_t *out) {
+    ordered_step r = ordered_values(in[0], in[1], in[2], in[3], in[4], in[5]);
+    out[0] = r.status, out[1] = r.head, out[2] = r.tail, out[3] = r.next;
+    return 4;
+}
+
 /* A new operation is one row, its calls above and its questions in questions.h. */
 static const struct row {
     const char *name;
@@ -96,6 +139,8 @@ static const struct row {
     refusal *refusal;
     int64_t none;  /* the archive's status where the Rust has no value (-1) */
     int64_t panic; /* and where it panics though no question before 10 refuses; 0: nothing is known there */
+    fits *fits;    /* 10 too where this says no; NULL: all answers fit */
+    int place;     /* at none the last number is this argument; 0: none is all zeros */
     exact *exact;
     list_call *list; /* these two instead of call */
     count_call *count;
@@ -106,10 +151,17 @@ static const struct row {
     {"period", 6, call_period, refuse_period, .none = -1, .exact = exact_period_answer},
     {"ticks_bold", 6, NULL, refuse_ticks_bold, .exact = exact_bold, .list = list_bold, .count = count_bold},
     {"ticks_light", 7, NULL, refuse_ticks_light, .exact = exact_light, .list = list_light, .count = count_light},
+    {"unmap", 8, call_unmap, refuse_unmap, .panic = 10, .fits = day_unmapped},
+    {"size", 5, call_size, refuse_size, .none = 0},
+    {"index_of", 7, call_index_of, refuse_by_value, .none = -1},
+    {"from_index", 6, call_from_index, refuse_by_index, .panic = 10, .fits = day_answered},
+    {"next", 7, call_next, refuse_by_value, .none = -1, .panic = 10, .fits = day_answered},
+    {"previous", 7, call_previous, refuse_by_value, .none = -1, .panic = 10, .fits = day_answered},
+    {"values", 6, call_values, refuse_by_index, .none = -1, .panic = 10, .fits = day_answered, .place = 5},
 };
 enum { ROWS = sizeof rows / sizeof rows[0] };
 
-static int64_t lines, equal, refused[QUESTIONS], panics, differences, unread;
+static int64_t lines, equal, nones, refused[QUESTIONS], panics, beyond, differences, unread;
 static int64_t doubtful, apart; /* within the logarithm's rounding; of these, the Rust says otherwise */
 static int64_t lists, ticks, calls, short_calls; /* accepted lists; calls of list and count; those that 11 refuses */
 
@@ -196,15 +248,17 @@ static bool replay(const char *request, const char *answer) {
     int64_t number = row->refusal(in);
     int exact_count = !number && row->exact ? row->exact(in, exact) : 0;
     int count = row->call ? row->call(in, got) : number ? 2 : exact_count ? exact_count : told_count;
-    bool known = true;
+    bool known = true, unfit = !number && told_count && row->fits && !row->fits(in, told[1]);
     memset(want, 0, sizeof want[0] * (size_t)count);
     if (number)
         want[0] = number;
     else if (exact_count)
         memcpy(want, exact, sizeof want[0] * (size_t)count);
-    else if (none && row->none)
+    else if (none && row->none) {
         want[0] = row->none;
-    else if (panic && row->panic)
+        if (row->place)
+            want[count - 1] = in[row->place];
+    } else if ((panic || unfit) && row->panic)
         want[0] = row->panic;
     else if (told_count == count && (row->call || (told_count >= 2 && told_count == 2 + 2 * told[1])))
         memcpy(want, told, sizeof want[0] * (size_t)count);
@@ -221,6 +275,8 @@ static bool replay(const char *request, const char *answer) {
             printf(": the oracle %.*s%s, ", SHOWN_BYTES, answer, strlen(answer) > SHOWN_BYTES ? ".." : "");
             if (number)
                 printf("document 01 refuses by %" PRId64 ", ", number);
+            if (unfit)
+                printf("which question 10 refuses, ");
             if (exact_count) {
                 printf("document 01 has");
                 print_numbers(want, count);
@@ -243,8 +299,10 @@ static bool replay(const char *request, const char *answer) {
         doubtful++, apart += exact_count != told_count || memcmp(exact, told, sizeof told[0] * (size_t)told_count);
     else if (panic)
         panics++;
+    else if (unfit)
+        beyond++;
     else
-        equal++;
+        equal++, nones += none && row->none == -1;
     return true;
 }
 
@@ -319,8 +377,10 @@ int main(int argc, char **argv) {
     for (int i = 0, shown = 0; i < QUESTIONS; i++)
         if (refused[i])
             printf("%s%d: %" PRId64, shown++ ? ", " : " (", i, refused[i]);
-    printf("%s, %" PRId64 " panics answered 10, %" PRId64 " differences\n", by_document ? ")" : "", panics,
-           differences);
+    printf("%s, %" PRId64 " panics and %" PRId64 " far dates answered 10, %" PRId64 " differences\n", by_document ? ")" : "",
+           panics, beyond, differences);
+    if (nones)
+        printf("replay: of the equal ones, %" PRId64 " are none\n", nones);
     if (lists)
         printf("replay: %" PRId64 " lists with %" PRId64 " ticks, %" PRId64 " calls of list and count, %" PRId64
                " of them refused by 11\n", lists, ticks, calls, short_calls);

@@ -481,6 +481,156 @@ static void period(void) {
     printf("\n");
 }
 
+/* A kind with indices; now and then one without them, for question 2. */
+static int64_t index_kind(void) {
+    return chance(40) ? ONE_OF(4, 7) : ONE_OF(1, 2, 3, 5, 6);
+}
+
+/* An axis of days, months or years: ends around firsts of months, few days, or any. */
+static axis index_axis(int64_t kind) {
+    axis a = kind == 4 || kind == 7 || chance(4) ? axis_of(kind)
+             : chance(4)                         ? axis_with(kind, (wide)from(0, 40) * DAY)
+                                                 : axis_by_months(kind, (int64_t)any_size(4096));
+    if (a.kind >= 5 && chance(12)) { /* the last day of a month, its ceiling the next one */
+        a.start = (wide)ONE_OF(LAST_DAY, LAST_DAY - 1, LAST_DAY - 31, 365, 31, from(1, LAST_DAY)) * DAY;
+        a.start = place_on(kind, a.start + time_of_day());
+        a.end = chance(2) ? a.start : place_on(kind, a.start + any_size((wide)800 * DAY));
+    }
+    return chance(2) ? with_time(a) : a;
+}
+
+static int64_t axis_size(axis a) {
+    value start = value_at(a.kind, a.start), end = value_at(a.kind, a.end);
+    int64_t ends[] = {a.kind, start.head, start.tail, end.head, end.tail};
+    return a.kind == 4 || a.kind == 7 ? from(0, 1000) : size_of(a.kind, ends);
+}
+
+/* At both ends of the axis, of the days and of the numbers that question 8 lets in. */
+static int64_t index_on(axis a) {
+    int64_t size = axis_size(a), step = from(-2, 2), left = LAST_DAY - (int64_t)(a.start / DAY);
+    switch (draw() % 8) {
+    case 0: return from(0, 3);
+    case 1: return size + step;
+    case 2: return (a.kind == 1 ? left : a.kind == 2 || a.kind == 5 ? left / 31 : left / 366) + step;
+    case 3: return ONE_OF(3652058, 3652059, 3652060, LAST_DAY - 366);
+    case 4: return (int64_t)any_size(LAST_DAY);
+    case 5: return chance(8) ? ONE_OF(-1, 3652060, INT64_C(1) << 32, INT64_MAX, INT64_MIN) : from(0, 20);
+    default: return from(0, size ? size - 1 : 0);
+    }
+}
+
+/* Inside, at the ends, a little or a year off, or anywhere. */
+static wide value_near(axis a) {
+    switch (draw() % 8) {
+    case 0: return a.start + little() * (wide)DAY;
+    case 1: return a.end + little() * (wide)DAY;
+    case 2: return chance(2) ? a.start : a.end;
+    case 3: return a.start - (wide)from(0, 800) * DAY;
+    case 4: return a.end + (wide)from(0, 800) * DAY;
+    case 5: return wide_from(first_place(a.kind), last_place(a.kind));
+    default: return wide_from(a.start, a.end);
+    }
+}
+
+/* A span of kind 4 whose product with the offset is at the end of 64 bits, or less than a nanosecond for each pixel. */
+static axis unmap_turn(int64_t *low, int64_t *high, int64_t *pixel) {
+    int64_t width = from(1, 32767), offset = from(width, 65534), factor = INT64_MAX / offset + from(-2, 2);
+    wide span = (wide)factor * width + (chance(2) ? 0 : from(0, width - 1));
+    if (chance(3))
+        span = from(0, 3 * width), offset = from(-65534, 65534);
+    *low = from(offset < 0 ? -32767 - offset : -32767, offset < 0 ? 32767 : 32767 - offset);
+    *pixel = *low + offset;
+    *high = *low + (chance(4) ? -width : width);
+    if (*high > 32767 || *high < -32767)
+        *high = *low - (*high - *low);
+    return axis_with(4, span);
+}
+
+/* Months whose index, cut to 32 bits, is a month of the axis again: limits 1 apart, a size above 65537. */
+static axis unmap_wrap(int64_t kind, int64_t *low, int64_t *high, int64_t *pixel) {
+    axis a = {kind, (wide)from(1, 1000000) * DAY, (wide)LAST_DAY * DAY};
+    a.start += kind == 5 ? time_of_day() : 0;
+    a.end -= (wide)from(0, 600000) * DAY;
+    int64_t way = ONE_OF(1, -1), offset = (INT64_C(1) << 32) / axis_size(a) + from(0, 2);
+    *low = -32767 * way, *high = *low + way;
+    *pixel = *low + way * (offset > 65534 ? 65534 : offset);
+    return a;
+}
+
+static void unmap(void) {
+    int64_t kind = chance(40) ? 7 : chance(4) ? 4 : from(1, 6), low = limit(), high = limit(), pixel = limit();
+    axis a = kind == 4 || kind == 7 ? axis_for(kind, kind, from(1, 100)) : index_axis(kind);
+    switch (draw() % 8) {
+    case 0: pixel = ONE_OF(low, high, low - 1, high + 1, high - 1); break;
+    case 1: /* far pixels, far indices */
+        high = low + ONE_OF(1, -1, 2, 3, -3);
+        if ((kind == 2 || kind == 5) && chance(4))
+            a = unmap_wrap(kind, &low, &high, &pixel);
+        break;
+    case 2: high = low + axis_size(a) % 32768; break;
+    case 3: pixel = low + from(0, 3); break;
+    case 4:
+        if (kind == 4)
+            a = unmap_turn(&low, &high, &pixel);
+        break;
+    default:
+        if (low != high && !chance(4))
+            pixel = low < high ? from(low, high) : from(high, low);
+    }
+    if (low == high && !chance(8))
+        high += low < 0 ? 1 : -1;
+    printf("unmap");
+    print_axis(a);
+    print_limit((int64_t)clamp(-32767, low, 32767));
+    print_limit((int64_t)clamp(-32767, high, 32767));
+    print_limit((int64_t)clamp(-32767, pixel, 32767));
+    printf("\n");
+}
+
+static void size(void) {
+    axis a = index_axis(index_kind());
+    printf("size");
+    print_axis(a);
+    printf("\n");
+}
+
+static void print_by_value(const char *name) {
+    axis a = index_axis(index_kind());
+    wide place = value_near(a);
+    printf("%s", name);
+    print_axis(a);
+    print_value(a.kind, place);
+    printf("\n");
+}
+
+static void index_of(void) {
+    print_by_value("index_of");
+}
+
+static void next(void) {
+    print_by_value("next");
+}
+
+static void previous(void) {
+    print_by_value("previous");
+}
+
+static void print_by_index(const char *name) {
+    axis a = index_axis(index_kind());
+    int64_t index = index_on(a);
+    printf("%s", name);
+    print_axis(a);
+    printf(" %" PRId64 "\n", index);
+}
+
+static void from_index(void) {
+    print_by_index("from_index");
+}
+
+static void values(void) {
+    print_by_index("values");
+}
+
 /* A new operation is one function above and one row. */
 static const struct operation {
     const char *name;
@@ -490,6 +640,13 @@ static const struct operation {
     {"ticks_bold", ticks_bold},
     {"ticks_light", ticks_light},
     {"period", period},
+    {"unmap", unmap},
+    {"size", size},
+    {"index_of", index_of},
+    {"from_index", from_index},
+    {"next", next},
+    {"previous", previous},
+    {"values", values},
 };
 enum { OPERATIONS = sizeof operations / sizeof operations[0] };
 

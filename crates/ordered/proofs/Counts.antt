@@ -14,6 +14,12 @@ use Rattle.plans.proofs.Spans.{timed}
 use Rattle.steps.specs.declared.Steps.{Steps}
 use Rattle.steps.specs.declared.Listed.the-variants.{Refused, Ticks}
 use Rattle.steps.specs.Listing.{countOf}
+use Rattle.values.specs.declared.Value.{Value}
+use Rattle.discrete.specs.declared.NumberAnswer.{NumberAnswer}
+use Rattle.discrete.specs.declared.NumberAnswer.the-variants as number
+use Rattle.discrete.specs.Answers.{sizeAnswer, indexAnswer}
+use Rattle.discrete.proofs.Laws.{size-range, index-most}
+use Rattle.ordered.specs.Replies.{numberIn}
 use Rattle.ticks.specs.Hints.{Hint, planFor}
 use Rattle.ticks.specs.declared.PeriodAnswer.the-variants as period
 use Rattle.ticks.specs.Answers.{tickQuestions, answered, ticksAnswer, periodQuestions, periodReply, periodAnswer}
@@ -46,3 +52,15 @@ period-most a h k e = is-most (firstNo (periodQuestions a h)) (periodIn a (up (h
   where
     small : firstNo (periodQuestions a h) ≡ 0 → 0 < periodIn a (up (h .n)) → periodIn a (up (h .n)) < 2 ^ 63
     small z l = let (q, k, d) = period-accepted a h z in timed a (up (h .n)) q (period-some a (up (h .n)) q k) l .small
+
+-- ---- a size, an index
+number-fits : (x : NumberAnswer) → ((n : ℕ) → x ≡ number.Is n → n ≤ 3652059) → numberIn x < 2 ^ 63
+number-fits (number.Is n) h = omega (arith, h n refl)
+number-fits number.None h = omega arith
+number-fits (number.Refused q) h = omega arith
+
+pub size-fits : (a : Axis) → numberIn (sizeAnswer a) < 2 ^ 63
+size-fits a = number-fits (sizeAnswer a) (size-range a)
+
+pub index-fits : (a : Axis) (v : Value) → numberIn (indexAnswer a v) < 2 ^ 63
+index-fits a v = number-fits (indexAnswer a v) (λ n e. omega (arith, index-most a v n e))

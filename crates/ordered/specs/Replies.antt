@@ -1,5 +1,6 @@
 -- Answers as C's numbers: the status is 0, or -1 for none, or the refusal's number; all else is 0 unless answered.
 -- Definitions only.
+use Prim.Native.Nat.{ℕ}
 use lib.IntN.{pos, negsuc}
 use Rattle.calendar.specs.declared.DayAnswer.{DayAnswer}
 use Rattle.calendar.specs.declared.DayAnswer.the-variants as day
@@ -11,6 +12,14 @@ use Rattle.steps.specs.declared.Listed.{Listed}
 use Rattle.steps.specs.declared.Listed.the-variants as listed
 use Rattle.ticks.specs.declared.PeriodAnswer.{PeriodAnswer}
 use Rattle.ticks.specs.declared.PeriodAnswer.the-variants as period
+use Rattle.discrete.specs.declared.NumberAnswer.{NumberAnswer}
+use Rattle.discrete.specs.declared.NumberAnswer.the-variants as number
+use Rattle.discrete.specs.declared.ValueAnswer.{ValueAnswer}
+use Rattle.discrete.specs.declared.ValueAnswer.the-variants as value
+use Rattle.discrete.specs.declared.StepAnswer.{StepAnswer}
+use Rattle.discrete.specs.declared.StepAnswer.the-variants as step
+use Rattle.ordered.specs.declared.OrderedValue.{OrderedValue}
+use Rattle.ordered.specs.declared.OrderedStep.{OrderedStep}
 use Rattle.ordered.specs.declared.OrderedPeriod.{OrderedPeriod}
 use Rattle.ordered.specs.declared.OrderedPixel.{OrderedPixel}
 use Rattle.ordered.specs.declared.OrderedNumber.{OrderedNumber}
@@ -36,3 +45,25 @@ abbrev pub periodReply : PeriodAnswer → OrderedPeriod
 periodReply (period.Is k) = record { status = pos 0; nanoseconds = pos k }
 periodReply period.None = record { status = negsuc 0; nanoseconds = pos 0 }
 periodReply (period.Refused q) = record { status = pos q; nanoseconds = pos 0 }
+
+-- the number of an answer, 0 if it has none
+abbrev pub numberIn : NumberAnswer → ℕ
+numberIn (number.Is n) = n
+numberIn number.None = 0
+numberIn (number.Refused q) = 0
+
+abbrev pub numberReply : NumberAnswer → OrderedNumber
+numberReply (number.Is n) = record { status = pos 0; value = pos n }
+numberReply number.None = record { status = negsuc 0; value = pos 0 }
+numberReply (number.Refused q) = record { status = pos q; value = pos 0 }
+
+abbrev pub valueReply : ValueAnswer → OrderedValue
+valueReply (value.At v) = record { status = pos 0; head = v .head; tail = v .tail }
+valueReply value.None = record { status = negsuc 0; head = pos 0; tail = pos 0 }
+valueReply (value.Refused q) = record { status = pos q; head = pos 0; tail = pos 0 }
+
+-- none leaves the cursor where it is
+abbrev pub stepReply : StepAnswer → OrderedStep
+stepReply (step.At v c) = record { status = pos 0; head = v .head; tail = v .tail; next = c .place }
+stepReply (step.None c) = record { status = negsuc 0; head = pos 0; tail = pos 0; next = c .place }
+stepReply (step.Refused q) = record { status = pos q; head = pos 0; tail = pos 0; next = pos 0 }

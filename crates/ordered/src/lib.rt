@@ -7,6 +7,10 @@ use axis::Limits;
 use calendar::DateAnswer;
 use calendar::DayAnswer;
 use calendar::Ymd;
+use discrete::Cursor;
+use discrete::NumberAnswer;
+use discrete::StepAnswer;
+use discrete::ValueAnswer;
 use mapping::Pixel;
 use steps::Listed;
 use ticks::PeriodAnswer;
@@ -15,13 +19,14 @@ ghost use mathlib.Core.Path.{_≡_};
 ghost use Rattle.calendar.specs.Questions.{numberOf, dateAt};
 ghost use Prim.Native.Nat.{_^_, _<_};
 ghost use lib.ListN.{length};
+ghost use Rattle.discrete.specs.Answers.{sizeAnswer, indexAnswer, fromIndexAnswer, nextAnswer, previousAnswer, valuesAnswer, unmapAnswer};
 ghost use Rattle.mapping.specs.Mapping.{mapped};
 ghost use Rattle.steps.specs.Listing.{countOf};
 ghost use Rattle.ticks.specs.Hints.{bold, light};
 ghost use Rattle.ticks.specs.Answers.{ticksAnswer, ticksWritten, periodAnswer};
-ghost use Rattle.ordered.specs.Replies.{dayReply, dateReply, pixelReply, countReply, periodReply};
+ghost use Rattle.ordered.specs.Replies.{dayReply, dateReply, pixelReply, countReply, periodReply, numberIn, numberReply, valueReply, stepReply};
 
-// A day number or a count.
+// A day number, count, size or index.
 #[repr(C)]
 pub struct OrderedNumber {
     pub status: i64,
@@ -38,6 +43,22 @@ pub struct OrderedPixel {
 pub struct OrderedPeriod {
     pub status: i64,
     pub nanoseconds: i64,
+}
+
+#[repr(C)]
+pub struct OrderedValue {
+    pub status: i64,
+    pub head: i64,
+    pub tail: i64,
+}
+
+// A value, and the next place of the cursor.
+#[repr(C)]
+pub struct OrderedStep {
+    pub status: i64,
+    pub head: i64,
+    pub tail: i64,
+    pub next: i64,
 }
 
 #[repr(C)]
@@ -273,4 +294,239 @@ pub extern "C" fn ordered_period_per_point(
             nanoseconds: 0,
         },
     }
+}
+
+fn numbered(a: NumberAnswer) -> OrderedNumber
+    requires { ⌜ numberIn a < 2 ^ 63 ⌝ }
+    ensures { λ r. ⌜ r ≡ numberReply a ⌝ }
+{
+    match a {
+        NumberAnswer::Is(n) => OrderedNumber {
+            status: 0,
+            value: n as i64,
+        },
+        NumberAnswer::None => OrderedNumber {
+            status: -1,
+            value: 0,
+        },
+        NumberAnswer::Refused(q) => OrderedNumber {
+            status: q as i64,
+            value: 0,
+        },
+    }
+}
+
+fn valued(a: ValueAnswer) -> OrderedValue
+    ensures { λ r. ⌜ r ≡ valueReply a ⌝ }
+{
+    match a {
+        ValueAnswer::At(v) => OrderedValue {
+            status: 0,
+            head: v.head,
+            tail: v.tail,
+        },
+        ValueAnswer::None => OrderedValue {
+            status: -1,
+            head: 0,
+            tail: 0,
+        },
+        ValueAnswer::Refused(q) => OrderedValue {
+            status: q as i64,
+            head: 0,
+            tail: 0,
+        },
+    }
+}
+
+fn stepped(a: StepAnswer) -> OrderedStep
+    ensures { λ r. ⌜ r ≡ stepReply a ⌝ }
+{
+    match a {
+        StepAnswer::At(v, c) => OrderedStep {
+            status: 0,
+            head: v.head,
+            tail: v.tail,
+            next: c.place,
+        },
+        StepAnswer::None(c) => OrderedStep {
+            status: -1,
+            head: 0,
+            tail: 0,
+            next: c.place,
+        },
+        StepAnswer::Refused(q) => OrderedStep {
+            status: q as i64,
+            head: 0,
+            tail: 0,
+            next: 0,
+        },
+    }
+}
+
+#[no_mangle]
+pub extern "C" fn ordered_unmap(
+    kind: i64,
+    start_head: i64,
+    start_tail: i64,
+    end_head: i64,
+    end_tail: i64,
+    low: i64,
+    high: i64,
+    pixel: i64,
+) -> OrderedValue
+    ensures { λ r. ⌜ r ≡ valueReply (unmapAnswer (record { kind = kind; «start_head» = «start_head»; «start_tail» = «start_tail»; «end_head» = «end_head»; «end_tail» = «end_tail» }) (record { low = low; high = high }) pixel) ⌝ }
+{
+    let a = Axis {
+        kind: kind,
+        start_head: start_head,
+        start_tail: start_tail,
+        end_head: end_head,
+        end_tail: end_tail,
+    };
+    let l = Limits {
+        low: low,
+        high: high,
+    };
+    valued(discrete::unmap(a, l, pixel))
+}
+
+#[no_mangle]
+pub extern "C" fn ordered_size(
+    kind: i64,
+    start_head: i64,
+    start_tail: i64,
+    end_head: i64,
+    end_tail: i64,
+) -> OrderedNumber
+    ensures { λ r. ⌜ r ≡ numberReply (sizeAnswer (record { kind = kind; «start_head» = «start_head»; «start_tail» = «start_tail»; «end_head» = «end_head»; «end_tail» = «end_tail» })) ⌝ }
+{
+    let a = Axis {
+        kind: kind,
+        start_head: start_head,
+        start_tail: start_tail,
+        end_head: end_head,
+        end_tail: end_tail,
+    };
+    numbered(discrete::size(a))
+}
+
+#[no_mangle]
+pub extern "C" fn ordered_index_of(
+    kind: i64,
+    start_head: i64,
+    start_tail: i64,
+    end_head: i64,
+    end_tail: i64,
+    head: i64,
+    tail: i64,
+) -> OrderedNumber
+    ensures { λ r. ⌜ r ≡ numberReply (indexAnswer (record { kind = kind; «start_head» = «start_head»; «start_tail» = «start_tail»; «end_head» = «end_head»; «end_tail» = «end_tail» }) (record { head = head; tail = tail })) ⌝ }
+{
+    let a = Axis {
+        kind: kind,
+        start_head: start_head,
+        start_tail: start_tail,
+        end_head: end_head,
+        end_tail: end_tail,
+    };
+    let v = Value {
+        head: head,
+        tail: tail,
+    };
+    numbered(discrete::index_of(a, v))
+}
+
+#[no_mangle]
+pub extern "C" fn ordered_from_index(
+    kind: i64,
+    start_head: i64,
+    start_tail: i64,
+    end_head: i64,
+    end_tail: i64,
+    index: i64,
+) -> OrderedValue
+    ensures { λ r. ⌜ r ≡ valueReply (fromIndexAnswer (record { kind = kind; «start_head» = «start_head»; «start_tail» = «start_tail»; «end_head» = «end_head»; «end_tail» = «end_tail» }) index) ⌝ }
+{
+    let a = Axis {
+        kind: kind,
+        start_head: start_head,
+        start_tail: start_tail,
+        end_head: end_head,
+        end_tail: end_tail,
+    };
+    valued(discrete::from_index(a, index))
+}
+
+#[no_mangle]
+pub extern "C" fn ordered_next(
+    kind: i64,
+    start_head: i64,
+    start_tail: i64,
+    end_head: i64,
+    end_tail: i64,
+    head: i64,
+    tail: i64,
+) -> OrderedValue
+    ensures { λ r. ⌜ r ≡ valueReply (nextAnswer (record { kind = kind; «start_head» = «start_head»; «start_tail» = «start_tail»; «end_head» = «end_head»; «end_tail» = «end_tail» }) (record { head = head; tail = tail })) ⌝ }
+{
+    let a = Axis {
+        kind: kind,
+        start_head: start_head,
+        start_tail: start_tail,
+        end_head: end_head,
+        end_tail: end_tail,
+    };
+    let v = Value {
+        head: head,
+        tail: tail,
+    };
+    valued(discrete::next(a, v))
+}
+
+#[no_mangle]
+pub extern "C" fn ordered_previous(
+    kind: i64,
+    start_head: i64,
+    start_tail: i64,
+    end_head: i64,
+    end_tail: i64,
+    head: i64,
+    tail: i64,
+) -> OrderedValue
+    ensures { λ r. ⌜ r ≡ valueReply (previousAnswer (record { kind = kind; «start_head» = «start_head»; «start_tail» = «start_tail»; «end_head» = «end_head»; «end_tail» = «end_tail» }) (record { head = head; tail = tail })) ⌝ }
+{
+    let a = Axis {
+        kind: kind,
+        start_head: start_head,
+        start_tail: start_tail,
+        end_head: end_head,
+        end_tail: end_tail,
+    };
+    let v = Value {
+        head: head,
+        tail: tail,
+    };
+    valued(discrete::previous(a, v))
+}
+
+#[no_mangle]
+pub extern "C" fn ordered_values(
+    kind: i64,
+    start_head: i64,
+    start_tail: i64,
+    end_head: i64,
+    end_tail: i64,
+    place: i64,
+) -> OrderedStep
+    ensures { λ r. ⌜ r ≡ stepReply (valuesAnswer (record { kind = kind; «start_head» = «start_head»; «start_tail» = «start_tail»; «end_head» = «end_head»; «end_tail» = «end_tail» }) (record { place = place })) ⌝ }
+{
+    let a = Axis {
+        kind: kind,
+        start_head: start_head,
+        start_tail: start_tail,
+        end_head: end_head,
+        end_tail: end_tail,
+    };
+    let c = Cursor { place: place };
+    stepped(discrete::values(a, c))
 }

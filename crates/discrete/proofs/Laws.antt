@@ -1,0 +1,296 @@
+-- What users lean on: the index of the value of an index, next and previous, each of the other, and the walk of the
+-- cursor. All of them are said of what calls answer. Assumes nothing.
+use mathlib.Core.Path.{_≡_, refl, sym, ap, _∙_}
+use mathlib.Core.Bool.{Bool, true, false, cond, _&&_, true≢false}
+use mathlib.Core.List.{List, _∷_}
+use Prim.Native.Nat.{ℕ, zero, suc, _+_, _-_, _≤_, _<_}
+use native.Mathlib.Omega.{arith}
+use lib.Dec.{ltb, leb}
+use lib.IntN.{ℤ, pos}
+use lib.ListN.{length, getD}
+use lib.Signed.{leZ}
+use borrow.Author.Tests.{ltb-true, leb-true}
+use Rattle.laws.specs.Asking.{ask, next, firstNo}
+use Rattle.laws.specs.Numbers.{up}
+use Rattle.laws.proofs.Signed.{same}
+use Rattle.values.specs.declared.Value.{Value}
+use Rattle.values.specs.Values.{isDay}
+use Rattle.values.proofs.Numbers.{is-le}
+use Rattle.values.proofs.Values.{date-value}
+use Rattle.axis.specs.declared.Axis.{Axis}
+use Rattle.axis.specs.Questions.{isIndex, valueOn}
+use Rattle.axis.proofs.Questions.{index-range}
+use Rattle.discrete.specs.declared.NumberAnswer.the-variants as number
+use Rattle.discrete.specs.declared.ValueAnswer.the-variants as value
+use Rattle.discrete.specs.declared.StepAnswer.the-variants as step
+use Rattle.discrete.specs.Counting.{monthly, yearly, firstDay, origin, position, sizeOf, hasPlace, placeOf, midnight, valueAt}
+use Rattle.discrete.specs.Answers.{sizeQuestions, valueQuestions, placeQuestions, numberAnswer, checked, indexIn, nextIn, previousIn, valueIn, stepped, sizeAnswer, indexAnswer, fromIndexAnswer, nextAnswer, previousAnswer, valuesAnswer}
+use Rattle.discrete.specs.Walking.{at, onward, walk, valuesFrom, Inside}
+use Rattle.discrete.proofs.Counting.{size-most, place-most, value-months, value-days, month-first, origin-days, position-days, on-day, is-day}
+use Rattle.discrete.proofs.Answers.{more, fewer, passed, answered, counted-as, counted, in-range, out-of-range, day-beyond, no-value, index-is, next-is, previous-is, value-is, value-none}
+use Rattle.discrete.proofs.Places.{at-place, of-kind, dates-inside, below-size}
+
+-- ---- what one call's answer says
+one-value : (v w : Value) → value.At v ≡ value.At w → v ≡ w
+one-value v w e = cc
+
+one-number : (m n : ℕ) → number.Is m ≡ number.Is n → m ≡ n
+one-number m n e = cc
+
+index-in : (a : Axis) (v : Value) (i : ℕ) → indexIn a v ≡ number.Is i → (origin a ≤ position a v) × (position a v - origin a ≡ i)
+unfolding indexIn hasPlace placeOf
+index-in a v i e = go (leb (origin a) (position a v)) (leb-true (origin a) (position a v)) e
+  where
+    go : (b : Bool) → (b ≡ true → origin a ≤ position a v) → cond b (number.Is (position a v - origin a)) number.None ≡ number.Is i → (origin a ≤ position a v) × (position a v - origin a ≡ i)
+    go true h e = (h refl, one-number (position a v - origin a) i e)
+    go false h e = let z : _≡_ {A = ℕ} 0 1 = cc in absurd (let w : ⊥ = omega arith in w)
+
+next-in : (a : Axis) (v w : Value) → nextIn a v ≡ value.At w → (position a v - origin a + 1 < sizeOf a) × (valueAt a (position a v - origin a + 1) ≡ w)
+unfolding nextIn hasPlace placeOf
+next-in a v w e = go (leb (origin a) (position a v)) (ltb (position a v - origin a + 1) (sizeOf a)) (ltb-true (position a v - origin a + 1) (sizeOf a)) e
+  where
+    go : (b t : Bool) → (t ≡ true → position a v - origin a + 1 < sizeOf a) → cond (b && t) (value.At (valueAt a (position a v - origin a + 1))) value.None ≡ value.At w → (position a v - origin a + 1 < sizeOf a) × (valueAt a (position a v - origin a + 1) ≡ w)
+    go true true h e = (h refl, one-value (valueAt a (position a v - origin a + 1)) w e)
+    go true false h e = let z : _≡_ {A = ℕ} 0 1 = cc in absurd (let x : ⊥ = omega arith in x)
+    go false t h e = let z : _≡_ {A = ℕ} 0 1 = cc in absurd (let x : ⊥ = omega arith in x)
+
+previous-in : (a : Axis) (v w : Value) → previousIn a v ≡ value.At w → (0 < position a v - origin a) × (valueAt a (position a v - origin a - 1) ≡ w)
+unfolding previousIn hasPlace placeOf
+previous-in a v w e = go (leb (origin a) (position a v)) (ltb 0 (position a v - origin a)) (ltb-true 0 (position a v - origin a)) e
+  where
+    go : (b t : Bool) → (t ≡ true → 0 < position a v - origin a) → cond (b && t) (value.At (valueAt a (position a v - origin a - 1))) value.None ≡ value.At w → (0 < position a v - origin a) × (valueAt a (position a v - origin a - 1) ≡ w)
+    go true true h e = (h refl, one-value (valueAt a (position a v - origin a - 1)) w e)
+    go true false h e = let z : _≡_ {A = ℕ} 0 1 = cc in absurd (let x : ⊥ = omega arith in x)
+    go false t h e = let z : _≡_ {A = ℕ} 0 1 = cc in absurd (let x : ⊥ = omega arith in x)
+
+-- ---- the rows of an accepted axis
+module _ (a : Axis) where
+  on-row : (v : Value) → firstNo (sizeQuestions a) ≡ 0 → valueOn a v ≡ true → firstNo (valueQuestions a v) ≡ 0
+  on-row v s o = more (sizeQuestions a) (ask 8 (valueOn a v)) ∙ ap (λ (k : ℕ). next k 8 (valueOn a v)) s ∙ ap (λ (b : Bool). cond b 0 8) o
+
+  index-at : (i : ℕ) → i ≤ 3652059 → isIndex (pos i) ≡ true
+  index-at i h =
+      let x = is-le (pos 0) (pos i) (omega arith) in
+      let y = is-le (pos i) (pos 3652059) (omega arith) in
+      rw (x, y)
+
+  at-row : (i : ℕ) → firstNo (sizeQuestions a) ≡ 0 → i ≤ 3652059 → firstNo (placeQuestions a (pos i)) ≡ 0
+  at-row i s h = more (sizeQuestions a) (ask 8 (isIndex (pos i))) ∙ ap (λ (k : ℕ). next k 8 (isIndex (pos i))) s ∙ ap (λ (b : Bool). cond b 0 8) (index-at i h)
+
+  sized : (n : ℕ) → sizeAnswer a ≡ number.Is n → (firstNo (sizeQuestions a) ≡ 0) × (sizeOf a ≡ n)
+  unfolding sizeAnswer
+  sized n e =
+      let (r, f) = counted-as (sizeQuestions a) (number.Is (sizeOf a)) n e in
+      (r, one-number (sizeOf a) n f)
+
+  -- from_index where only question 10 is left
+  from-place : (i : ℕ) → firstNo (sizeQuestions a) ≡ 0 → i ≤ 3652059 → fromIndexAnswer a (pos i) ≡ checked (value.At (valueAt a i))
+  unfolding fromIndexAnswer
+  from-place i s h = passed (placeQuestions a (pos i)) (value.At (valueAt a i)) (at-row i s h)
+
+  -- a value that from_index answers
+  record Listed (i : ℕ) (v : Value) : Type 0 where
+    row : firstNo (sizeQuestions a) ≡ 0
+    low : i ≤ 3652059
+    is : valueAt a i ≡ v
+    day : isDay (v .head) ≡ true
+
+  listed : (i : ℤ) (v : Value) → fromIndexAnswer a i ≡ value.At v → Listed (up i) v
+  unfolding fromIndexAnswer
+  listed i v e =
+      let (r, (f, d)) = answered (placeQuestions a i) (value.At (valueAt a (up i))) v e in
+      let (s, k) = fewer (sizeQuestions a) (ask 8 (isIndex i)) (omega arith) r in
+      record { row = s; low = index-range i k .1; is = one-value (valueAt a (up i)) v f; day = d }
+
+  -- a value of a place: it is one of the kind, and stands there
+  record Standing (i : ℕ) (v : Value) : Type 0 where
+    row : firstNo (valueQuestions a v) ≡ 0
+    place : position a v ≡ origin a + i
+
+  standing : (i : ℕ) (v : Value) → firstNo (sizeQuestions a) ≡ 0 → valueAt a i ≡ v → isDay (v .head) ≡ true → Standing i v
+  standing i v s e d =
+      let c = counted a s in
+      let o = of-kind a c i (ap (λ (w : Value). isDay (w .head)) e ∙ d) in
+      record { row = on-row v s (ap (valueOn a) (sym e) ∙ o); place = ap (position a) (sym e) ∙ at-place a c i }
+
+  index-there : (i : ℕ) (v : Value) → Standing i v → indexAnswer a v ≡ number.Is i
+  unfolding indexAnswer
+  index-there i v t =
+      let e : position a v - origin a ≡ i = omega (arith, t .place) in
+      ap (λ (k : ℕ). numberAnswer k (indexIn a v)) (t .row)
+      ∙ sym (index-is a v (omega (arith, t .place)))
+      ∙ ap number.Is e
+
+-- ---- RANGES of the numbers that are answered
+pub size-range : (a : Axis) (n : ℕ) → sizeAnswer a ≡ number.Is n → n ≤ 3652059
+size-range a n e = let (r, f) = sized a n e in omega (arith, f, size-most a (counted a r))
+
+-- ---- INDICES: index_of the value of an index is that index. On every kind, wherever from_index answers.
+pub index-of-from-index : (a : Axis) (i : ℤ) (v : Value) → fromIndexAnswer a i ≡ value.At v → indexAnswer a v ≡ number.Is (up i)
+index-of-from-index a i v e =
+    let l = listed a i v e in
+    index-there a (up i) v (standing a (up i) v (l .row) (l .is) (l .day))
+
+-- ---- NEIGHBOURS: of any value that has an index. The value after it stands one place on, and the one before that is
+-- the value of its own place.
+module _ (a : Axis) (v : Value) (i : ℕ) (has : indexAnswer a v ≡ number.Is i) where
+  record Indexed : Type 0 where
+    row : firstNo (sizeQuestions a) ≡ 0
+    on : valueOn a v ≡ true
+    from : origin a ≤ position a v
+    at : position a v - origin a ≡ i
+    most : i ≤ 3652058
+
+  indexed : Indexed
+  unfolding indexAnswer placeOf
+  indexed =
+      let (r, f) = counted-as (valueQuestions a v) (indexIn a v) i has in
+      let (s, o) = fewer (sizeQuestions a) (ask 8 (valueOn a v)) (omega arith) r in
+      let (h, e) = index-in a v i f in
+      record { row = s; on = o; from = h; at = e; most = omega (arith, e, place-most a (counted a s) v o) }
+
+  pub index-most : i ≤ 3652058
+  index-most = indexed .most
+
+  pub record Next (w : Value) : Type 0 where
+    pub place : fromIndexAnswer a (pos (i + 1)) ≡ value.At w
+    pub index : indexAnswer a w ≡ number.Is (i + 1)
+    pub back : previousAnswer a w ≡ fromIndexAnswer a (pos i)
+
+  pub next-place : (w : Value) → nextAnswer a v ≡ value.At w → Next w
+  unfolding nextAnswer previousAnswer
+  next-place w e =
+      let x = indexed in
+      let (r, (f, d)) = answered (valueQuestions a v) (nextIn a v) w e in
+      let (l, g) = next-in a v w f in
+      let here : valueAt a (i + 1) ≡ w = ap (λ (k : ℕ). valueAt a (k + 1)) (sym (x .at)) ∙ g in
+      let t = standing a (i + 1) w (x .row) here d in
+      let before : position a w - origin a - 1 ≡ i = omega (arith, t .place) in
+      record {
+        place = from-place a (i + 1) (x .row) (omega (arith, x .most)) ∙ ap (λ (u : Value). checked (value.At u)) here ∙ sym (in-range w d);
+        index = index-there a (i + 1) w t;
+        back = passed (valueQuestions a w) (previousIn a w) (t .row)
+            ∙ ap checked (previous-is a w (omega (arith, t .place)) ∙ ap (λ (k : ℕ). value.At (valueAt a k)) before)
+            ∙ sym (from-place a i (x .row) (omega (arith, x .most)));
+      }
+
+  pub record Previous (w : Value) : Type 0 where
+    pub place : fromIndexAnswer a (pos (i - 1)) ≡ value.At w
+    pub index : indexAnswer a w ≡ number.Is (i - 1)
+    pub back : (n : ℕ) → sizeAnswer a ≡ number.Is n → i < n → nextAnswer a w ≡ fromIndexAnswer a (pos i)
+
+  pub previous-place : (w : Value) → previousAnswer a v ≡ value.At w → Previous w
+  unfolding nextAnswer previousAnswer
+  previous-place w e =
+      let x = indexed in
+      let (r, (f, d)) = answered (valueQuestions a v) (previousIn a v) w e in
+      let (l, g) = previous-in a v w f in
+      let here : valueAt a (i - 1) ≡ w = ap (λ (k : ℕ). valueAt a (k - 1)) (sym (x .at)) ∙ g in
+      let t = standing a (i - 1) w (x .row) here d in
+      let after : position a w - origin a + 1 ≡ i = omega (arith, t .place, x .at) in
+      record {
+        place = from-place a (i - 1) (x .row) (omega (arith, x .most)) ∙ ap (λ (u : Value). checked (value.At u)) here ∙ sym (in-range w d);
+        index = index-there a (i - 1) w t;
+        back = λ n s h. passed (valueQuestions a w) (nextIn a w) (t .row)
+            ∙ ap checked (next-is a w (omega (arith, t .place)) (omega (arith, after, sized a n s .1)) ∙ ap (λ (k : ℕ). value.At (valueAt a k)) after)
+            ∙ sym (from-place a i (x .row) (omega (arith, x .most)));
+      }
+
+-- Of a value of a place they undo each other. Of another they do not: kind 2 from day 1 to 32, day 2: the next is 32,
+-- and the one before that 1.
+pub next-undone : (a : Axis) (i : ℕ) (v w : Value) → fromIndexAnswer a (pos i) ≡ value.At v → nextAnswer a v ≡ value.At w → previousAnswer a w ≡ value.At v
+next-undone a i v w e n = next-place a v i (index-of-from-index a (pos i) v e) w n .back ∙ e
+
+pub previous-undone : (a : Axis) (i n : ℕ) (v w : Value) → sizeAnswer a ≡ number.Is n → i < n → fromIndexAnswer a (pos i) ≡ value.At v → previousAnswer a v ≡ value.At w → nextAnswer a w ≡ value.At v
+previous-undone a i n v w s h e p = previous-place a v i (index-of-from-index a (pos i) v e) w p .back n s h ∙ e
+
+-- ---- THE WALK. Its axis: kinds 1, 2 and 3; kind 6; and kind 5 where the first day is one of question 3.
+pub dates-walk : (a : Axis) (n : ℕ) → sizeAnswer a ≡ number.Is n → leZ (a .kind) (pos 3) ≡ true → Inside a
+dates-walk a n size k m = dates-inside a (counted a (sized a n size .0)) k
+
+pub years-walk : (a : Axis) → monthly a ≡ false → Inside a
+years-walk a y m = absurd (true≢false (sym m ∙ y))
+
+-- else the cursor gives no value: kind 5 from (3652059, 1000000000) to the same has the size 12, and place 0 gets 10
+pub outside : (a : Axis) (n : ℕ) → sizeAnswer a ≡ number.Is n → monthly a ≡ true → 3652059 < firstDay a → fromIndexAnswer a (pos 0) ≡ value.Refused 10
+outside a n size m h =
+    from-place a 0 (sized a n size .0) (omega arith)
+    ∙ ap (λ (v : Value). checked (value.At v)) (value-months a 0 m ∙ month-first a 0 refl)
+    ∙ sym (out-of-range (midnight (firstDay a)) (day-beyond (firstDay a) h))
+
+module _ (a : Axis) (n : ℕ) (size : sizeAnswer a ≡ number.Is n) (inside : Inside a) where
+  row : firstNo (sizeQuestions a) ≡ 0
+  row = sized a n size .0
+
+  many : sizeOf a ≡ n
+  many = sized a n size .1
+
+  few : n ≤ 3652059
+  few = omega (arith, many, size-most a (counted a row))
+
+  in-days : (i : ℕ) → i < n → isDay (valueAt a i .head) ≡ true
+  in-days i h = below-size a (counted a row) inside i (omega (arith, many))
+
+  -- each place below the size has a value
+  pub each : (i : ℕ) → i < n → fromIndexAnswer a (pos i) ≡ value.At (valueAt a i)
+  each i h = from-place a i row (omega (arith, few)) ∙ sym (in-range (valueAt a i) (in-days i h))
+
+  -- one step gives it, and moves on by one place
+  pub step-on : (i : ℕ) → i < n → valuesAnswer a (at i) ≡ step.At (valueAt a i) (at (i + 1))
+  unfolding valuesAnswer
+  step-on i h =
+      ap (stepped (at i))
+      (passed (placeQuestions a (pos i)) (valueIn a i) (at-row a i row (omega (arith, few)))
+      ∙ ap checked (value-is a i (omega (arith, many)))
+      ∙ sym (in-range (valueAt a i) (in-days i h)))
+
+  -- at and past the size there is none, and the cursor stays
+  pub step-end : (i : ℕ) → n ≤ i → i ≤ 3652059 → valuesAnswer a (at i) ≡ step.None (at i)
+  unfolding valuesAnswer
+  step-end i h l =
+      ap (stepped (at i))
+      (passed (placeQuestions a (pos i)) (valueIn a i) (at-row a i row l)
+      ∙ ap checked (value-none a i (omega (arith, many)))
+      ∙ sym no-value)
+
+  walk-from : (m k i : ℕ) → i + m ≡ n → m < k → walk a k (at i) ≡ valuesFrom a i m
+  walk-from m zero i e h = absurd (let w : ⊥ = omega arith in w)
+  walk-from zero (suc k) i e h = ap (onward (walk a k)) (step-end i (omega arith) (omega (arith, few)))
+  walk-from (suc m) (suc k) i e h =
+      ap (onward (walk a k)) (step-on i (omega arith)) ∙ ap (λ (l : List Value). valueAt a i ∷ l) (walk-from m k (i + 1) (omega arith) (omega arith))
+
+  -- from 0 the cursor gives the values of all places below the size, and then no more
+  pub walked : (k : ℕ) → n < k → walk a k (at 0) ≡ valuesFrom a 0 n
+  walked k h = walk-from n k 0 (omega arith) h
+
+-- as many as the size, each that of its place
+pub how-many : (a : Axis) (i n : ℕ) → length (valuesFrom a i n) ≡ n
+how-many a i zero = refl
+how-many a i (suc n) = ap suc (how-many a (i + 1) n)
+
+pub the-value : (a : Axis) (i n j : ℕ) (d : Value) → j < n → getD (valuesFrom a i n) j d ≡ valueAt a (i + j)
+the-value a i zero j d h = absurd (let w : ⊥ = omega arith in w)
+the-value a i (suc n) zero d h = let e : i ≡ i + zero = omega arith in ap (valueAt a) e
+the-value a i (suc n) (suc j) d h =
+    let e : i + 1 + j ≡ i + suc j = omega arith in
+    the-value a (i + 1) n j d (omega arith) ∙ ap (valueAt a) e
+
+-- ---- on kind 1 every value from the start on is the value of its index, so that these laws hold of it too
+days-only : (a : Axis) → a .kind ≡ pos 1 → (monthly a ≡ false) × (yearly a ≡ false)
+unfolding monthly yearly
+days-only a k = rw k (refl, refl)
+
+no-tail : (a : Axis) (v : Value) → a .kind ≡ pos 1 → valueOn a v ≡ true → v .tail ≡ pos 0
+unfolding valueOn
+no-tail a v k o = date-value (a .kind) v o (rw k) .no-tail
+
+pub from-index-of : (a : Axis) (v : Value) (i : ℕ) → a .kind ≡ pos 1 → indexAnswer a v ≡ number.Is i → fromIndexAnswer a (pos i) ≡ value.At v
+from-index-of a v i k has =
+    let x = indexed a v i has in
+    let (m, y) = days-only a k in
+    let c = counted a (x .row) in
+    let d = on-day a c v (x .on) in
+    let here : up (a .«start_head») + i ≡ up (v .head) = omega (arith, x .at, x .from, origin-days a m y, position-days a v m y) in
+    let same-day : pos (up (a .«start_head») + i) ≡ v .head = same (pos (up (a .«start_head») + i)) (v .head) (omega arith) in
+    let e : valueAt a i ≡ v = value-days a i m y ∙ (λ j. record { head = same-day j; tail = sym (no-tail a v k (x .on)) j }) in
+    from-place a i (x .row) (omega (arith, x .most)) ∙ ap (λ (w : Value). checked (value.At w)) e ∙ sym (in-range v (is-day v d))

@@ -1,0 +1,26 @@
+-- `discrete::at_midnight` meets its contract: question 10 is the test of the day. Assumes nothing.
+use borrow.Author.Needs.{needs}
+use mathlib.Core.Path.{_∙_, ap}
+use native.Mathlib.Omega.{arith}
+use lib.IntN.{ℤ, pos}
+use Rattle.laws.proofs.Signed.{read-count}
+use Rattle.discrete.specs.declared.ValueAnswer.the-variants as value
+use Rattle.discrete.specs.Counting.{midnight}
+use Rattle.discrete.proofs.Answers.{in-range, out-of-range, day-in, day-beyond}
+use Rattle.discrete.proofs.at_midnight.Statement.{statement}
+use Rattle.discrete.proofs.at_midnight.Tie as tie
+
+cast-t3 : tie.Need-cast-t3
+cast-t3 c = search needs
+
+returns : tie.Need-returns
+returns c =
+    let s = c .before in
+    ap (λ (z : ℤ). value.At (record { head = z; tail = pos 0 })) (read-count (s .args .day) (omega arith))
+    ∙ in-range (midnight (s .args .day)) (day-in (s .args .day) (s .pre) (omega arith))
+
+returns-2 : tie.Need-returns-2
+returns-2 c = out-of-range (midnight (c .before .args .day)) (day-beyond (c .before .args .day) (omega arith))
+
+pub at-midnight-spec : {M : Type 1} → statement M
+at-midnight-spec = tie.close (tie.spec cast-t3 returns returns-2)

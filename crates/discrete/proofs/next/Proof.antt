@@ -1,0 +1,38 @@
+-- `discrete::next` meets its contract. Assumes nothing.
+use borrow.Author.Needs.{needs}
+use mathlib.Core.Path.{_≡_, sym, _∙_}
+use Rattle.laws.specs.Asking.{firstNo}
+use Rattle.laws.proofs.Asked.{told}
+use Rattle.discrete.specs.Answers.{valueQuestions, nextIn, nextAnswer}
+use Rattle.discrete.proofs.Answers.{value-refused, passed}
+use Rattle.discrete.proofs.next.Statement.{statement}
+use Rattle.discrete.proofs.next.Tie as tie
+
+value-refusal-requires : tie.Need-value-refusal-requires
+value-refusal-requires c κs = search needs
+
+returns : tie.Need-returns
+unfolding nextAnswer
+returns c =
+    let r = c .before in
+    let x = r .before .args in
+    value-refused (valueQuestions (x .a) (x .v)) (r .value-refusal .result) (nextIn (x .a) (x .v)) (r .value-refusal .ensures) (c .if1 .taken)
+
+none : (c : tie.Else1) → firstNo (valueQuestions (c .before .before .args .a) (c .before .before .args .v)) ≡ 0
+none c = sym (c .before .value-refusal .ensures) ∙ c .if1 .left
+
+next-in-requires : tie.Need-next-in-requires
+next-in-requires c κs =
+    let x = c .before .before .args in
+    let row = valueQuestions (x .a) (x .v) in
+    (record { has = told 2 row tt (none c); real = told 3 row tt (none c) }, told 8 row tt (none c))
+
+returns-2 : tie.Need-returns-2
+unfolding nextAnswer
+returns-2 c =
+    let e = c .before in
+    let x = e .before .before .args in
+    c .next-in .ensures ∙ sym (passed (valueQuestions (x .a) (x .v)) (nextIn (x .a) (x .v)) (none e))
+
+pub next-spec : {M : Type 1} → statement M
+next-spec = tie.close (tie.spec value-refusal-requires returns next-in-requires returns-2)

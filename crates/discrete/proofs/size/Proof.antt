@@ -1,0 +1,35 @@
+-- `discrete::size` meets its contract. Assumes nothing.
+use borrow.Author.Needs.{needs}
+use mathlib.Core.Path.{_≡_, sym, _∙_, ap}
+use Prim.Native.Nat.{ℕ}
+use Rattle.laws.specs.Asking.{firstNo}
+use Rattle.discrete.specs.declared.NumberAnswer.the-variants as number
+use Rattle.discrete.specs.Counting.{sizeOf}
+use Rattle.discrete.specs.Answers.{sizeQuestions, numberAnswer, sizeAnswer}
+use Rattle.discrete.proofs.Answers.{number-refused, counted}
+use Rattle.discrete.proofs.size.Statement.{statement}
+use Rattle.discrete.proofs.size.Tie as tie
+
+size-refusal-requires : tie.Need-size-refusal-requires
+size-refusal-requires c κs = search needs
+
+returns : tie.Need-returns
+unfolding sizeAnswer
+returns c =
+    let r = c .before in
+    number-refused (firstNo (sizeQuestions (r .before .args .a))) (r .size-refusal .result) (number.Is (sizeOf (r .before .args .a))) (r .size-refusal .ensures) (c .if1 .taken)
+
+none : (c : tie.Else1) → firstNo (sizeQuestions (c .before .before .args .a)) ≡ 0
+none c = sym (c .before .size-refusal .ensures) ∙ c .if1 .left
+
+size-of-requires : tie.Need-size-of-requires
+size-of-requires c κs = counted (c .before .before .args .a) (none c)
+
+returns-2 : tie.Need-returns-2
+unfolding sizeAnswer
+returns-2 c =
+    let e = c .before in
+    ap number.Is (c .size-of .ensures) ∙ sym (ap (λ (k : ℕ). numberAnswer k (number.Is (sizeOf (e .before .before .args .a)))) (none e))
+
+pub size-spec : {M : Type 1} → statement M
+size-spec = tie.close (tie.spec size-refusal-requires returns size-of-requires returns-2)

@@ -1,0 +1,87 @@
+-- `discrete::value_at` meets its contract, by what the kind counts. Assumes nothing.
+use borrow.Author.Needs.{needs}
+use mathlib.Core.Path.{_≡_, sym, _∙_, ap}
+use mathlib.Core.Bool.{true, false}
+use native.Mathlib.Omega.{arith}
+use Prim.Native.Nat.{ℕ, _+_}
+use Rattle.laws.specs.Numbers.{up}
+use Rattle.values.specs.declared.Value.{Value}
+use Rattle.axis.specs.Axes.{start}
+use Rattle.discrete.specs.declared.ValueAnswer.the-variants as value
+use Rattle.discrete.specs.Counting.{monthly, yearly, midnight}
+use Rattle.discrete.specs.Answers.{checked}
+use Rattle.discrete.proofs.Counting.{starts, is-day, value-months, value-years, value-days}
+use Rattle.discrete.proofs.value_at.Statement.{statement}
+use Rattle.discrete.proofs.value_at.Tie as tie
+
+monthly-requires : tie.Need-monthly-requires
+monthly-requires c κs = search needs
+
+month-at-requires : tie.Need-month-at-requires
+month-at-requires c κs = search needs
+
+not-months : (c : tie.Else1) → monthly (c .before .before .args .a) ≡ false
+not-months c = sym (c .before .monthly .ensures) ∙ c .if1 .left
+
+returns : tie.Need-returns
+returns c =
+    let t = c .before in
+    let s = t .before .before .args in
+    let m : monthly (s .a) ≡ true = sym (t .before .monthly .ensures) ∙ t .if1 .taken in
+    c .month-at .ensures ∙ ap (λ (v : Value). checked (value.At v)) (sym (value-months (s .a) (s .i) m))
+
+yearly-requires : tie.Need-yearly-requires
+yearly-requires c κs = search needs
+
+year-at-requires : tie.Need-year-at-requires
+year-at-requires c κs = search needs
+
+returns-2 : tie.Need-returns-2
+returns-2 c =
+    let t = c .before in
+    let e = t .before .before in
+    let s = e .before .before .args in
+    let y : yearly (s .a) ≡ true = sym (t .before .yearly .ensures) ∙ t .if2 .taken in
+    c .year-at .ensures ∙ ap (λ (v : Value). checked (value.At v)) (sym (value-years (s .a) (s .i) (not-months e) y))
+
+start-requires : tie.Need-start-requires
+start-requires c κs = search needs
+
+day-of-requires : tie.Need-day-of-requires
+day-of-requires c κs = let s = c .before .before .before .before .before in rw (c .start .ensures) (is-day (start (s .args .a)) (starts (s .args .a) (s .pre .0)))
+
+start-day : (c : tie.After-day-of) → c .day-of .result ≡ up (c .before .before .before .before .before .before .args .a .«start_head»)
+start-day c = c .day-of .ensures ∙ ap (λ (v : Value). up (v .head)) (c .before .start .ensures)
+
+add-at-midnight : tie.Need-add-at-midnight
+add-at-midnight c = let s = c .before .before .before .before .before .before in omega (arith, start-day c, starts (s .args .a) (s .pre .0) .head-most, s .pre .1)
+
+at-midnight-requires : tie.Need-at-midnight-requires
+at-midnight-requires c κs = let s = c .before .before .before .before .before .before in omega (arith, start-day c, starts (s .args .a) (s .pre .0) .head-least)
+
+returns-3 : tie.Need-returns-3
+returns-3 c =
+    let d = c .before in
+    let n = d .before .before in
+    let e = n .before .before in
+    let s = e .before .before .args in
+    let y : yearly (s .a) ≡ false = sym (n .before .yearly .ensures) ∙ n .if2 .left in
+    c .at-midnight .ensures
+    ∙ ap (λ (k : ℕ). checked (value.At (midnight (k + s .i)))) (start-day d)
+    ∙ ap (λ (v : Value). checked (value.At v)) (sym (value-days (s .a) (s .i) (not-months e) y))
+
+pub value-at-spec : {M : Type 1} → statement M
+value-at-spec =
+    tie.close
+    (tie.spec
+    monthly-requires
+    month-at-requires
+    returns
+    yearly-requires
+    year-at-requires
+    returns-2
+    start-requires
+    day-of-requires
+    add-at-midnight
+    at-midnight-requires
+    returns-3)

@@ -1,0 +1,437 @@
+// Indices of the kinds that count days, months or years, as plotters' DiscreteRanged: size, index_of, from_index, next,
+// previous, the values cursor, and the value under a pixel. Whole-number work, with no float.
+use axis::Axis;
+use axis::Limits;
+use calendar::Date;
+use calendar::DateTime;
+use unmapping::Unmapped;
+use values::Value;
+ghost use mathlib.Core.Path.{_≡_};
+ghost use mathlib.Core.Bool.{true};
+ghost use Prim.Native.Nat.{_-_, _≤_, _<_, max};
+ghost use lib.IntN.{natAbs};
+ghost use Rattle.laws.specs.Asking.{firstNo};
+ghost use Rattle.laws.specs.Numbers.{up};
+ghost use Rattle.calendar.specs.Gregorian.{dayNumber};
+ghost use Rattle.values.specs.Values.{isDay};
+ghost use Rattle.axis.specs.Questions.{valueOn, isIndex, unmapPixels};
+ghost use Rattle.discrete.specs.Counting.{Counted, monthly, yearly, firstDay, firstDate, dateOn, origin, position};
+ghost use Rattle.discrete.specs.Counting.{sizeOf, midnight, monthAt, yearAt, valueAt, indexAt, placeUnder};
+ghost use Rattle.discrete.specs.Answers.{sizeQuestions, valueQuestions, placeQuestions, unmapQuestions, underQuestions, checked, asked};
+ghost use Rattle.discrete.specs.Answers.{indexIn, nextIn, previousIn, valueIn, sizeAnswer, indexAnswer};
+ghost use Rattle.discrete.specs.Answers.{fromIndexAnswer, nextAnswer, previousAnswer, stepped, valuesAnswer, unmapIn, dateTimeUnder, unmapAnswer};
+
+pub enum NumberAnswer {
+    Refused(u8),
+    None,
+    Is(u64),
+}
+
+pub enum ValueAnswer {
+    Refused(u8),
+    None,
+    At(Value),
+}
+
+// The place of the value that comes next.
+pub struct Cursor {
+    pub place: i64,
+}
+
+// A value and the cursor behind it; where there is none, the cursor as it was.
+pub enum StepAnswer {
+    Refused(u8),
+    None(Cursor),
+    At(Value, Cursor),
+}
+
+// Where an axis begins and where a value stands, in days, months or years.
+pub struct Place {
+    pub from: u64,
+    pub at: u64,
+}
+
+// Kinds 2 and 5.
+fn monthly(a: Axis) -> bool
+    ensures { λ r. ⌜ r ≡ monthly a ⌝ }
+{
+    ((2 <= a.kind) & (a.kind <= 2)) | ((5 <= a.kind) & (a.kind <= 5))
+}
+
+// Kinds 3 and 6.
+fn yearly(a: Axis) -> bool
+    ensures { λ r. ⌜ r ≡ yearly a ⌝ }
+{
+    ((3 <= a.kind) & (a.kind <= 3)) | ((6 <= a.kind) & (a.kind <= 6))
+}
+
+// The day of a value, whatever its time is.
+fn day_of(v: Value) -> u64
+    requires { ⌜ isDay (v .head) ≡ true ⌝ }
+    ensures { λ r. ⌜ r ≡ up (v .head) ⌝ }
+{
+    calendar::count(v.head)
+}
+
+// The date of that day.
+fn date_on(v: Value) -> Date
+    requires { ⌜ isDay (v .head) ≡ true ⌝ }
+    ensures { λ r. ⌜ r ≡ dateOn v ⌝ }
+{
+    calendar::date_of(day_of(v))
+}
+
+// date_ceil of the start.
+fn first_day(a: Axis) -> u64
+    requires { ⌜ Counted a ⌝ }
+    ensures { λ r. ⌜ r ≡ firstDay a ⌝ }
+{
+    let v = axis::start(a);
+    calendar::date_ceil(DateTime {
+        day: day_of(v),
+        nano: calendar::count(v.tail),
+    })
+}
+
+// The date from which months and years are counted.
+fn first_date(a: Axis) -> Date
+    requires { ⌜ Counted a ⌝ }
+    ensures { λ r. ⌜ r ≡ firstDate a ⌝ }
+{
+    calendar::date_of(first_day(a))
+}
+
+// How much x exceeds y, or 0.
+fn excess(x: u64, y: u64) -> u64
+    ensures { λ r. ⌜ r ≡ x - y ⌝ }
+{
+    if x < y {
+        return 0;
+    }
+    x - y
+}
+
+fn larger(x: u64, y: u64) -> u64
+    ensures { λ r. ⌜ r ≡ max x y ⌝ }
+{
+    if x < y {
+        return y;
+    }
+    x
+}
+
+// Months count from the first date's year on, and an earlier year counts as that year.
+fn place_of(a: Axis, v: Value) -> Place
+    requires { ⌜ Counted a × (valueOn a v ≡ true) ⌝ }
+    ensures { λ r. ⌜ r ≡ record { from = origin a; at = position a v } ⌝ }
+{
+    if monthly(a) {
+        let first = first_date(a);
+        let date = date_on(v);
+        return Place {
+            from: first.month,
+            at: 12 * (larger(date.year, first.year) - first.year) + date.month,
+        };
+    }
+    if yearly(a) {
+        let first = first_date(a);
+        let date = date_on(v);
+        return Place {
+            from: first.year,
+            at: date.year,
+        };
+    }
+    Place {
+        from: day_of(axis::start(a)),
+        at: day_of(v),
+    }
+}
+
+// Both ends are counted. On kinds 5 and 6 the first date may lie behind the end; then the size may be 0.
+pub fn size_of(a: Axis) -> u64
+    requires { ⌜ Counted a ⌝ }
+    ensures { λ r. ⌜ r ≡ sizeOf a ⌝ }
+{
+    let p = place_of(a, axis::end(a));
+    excess(p.at + 1, p.from)
+}
+
+// The index of a value; none before the start.
+pub fn index_in(a: Axis, v: Value) -> NumberAnswer
+    requires { ⌜ Counted a × (valueOn a v ≡ true) ⌝ }
+    ensures { λ r. ⌜ r ≡ indexIn a v ⌝ }
+{
+    let p = place_of(a, v);
+    if p.from <= p.at {
+        return NumberAnswer::Is(p.at - p.from);
+    }
+    NumberAnswer::None
+}
+
+// Question 10 of a midnight.
+fn at_midnight(day: u64) -> ValueAnswer
+    requires { ⌜ 1 ≤ day ⌝ }
+    ensures { λ r. ⌜ r ≡ checked (ValueAnswer.At (midnight day)) ⌝ }
+{
+    if day <= 3652059 {
+        return ValueAnswer::At(Value {
+            head: day as i64,
+            tail: 0,
+        });
+    }
+    ValueAnswer::Refused(10)
+}
+
+// The first of a month, and question 10 of it.
+fn month_start(year: u64, month: u64) -> ValueAnswer
+    requires { ⌜ (1 ≤ year) × (1 ≤ month) × (month ≤ 12) ⌝ }
+    ensures { λ r. ⌜ r ≡ checked (ValueAnswer.At (midnight (dayNumber year month 1))) ⌝ }
+{
+    if 9999 < year {
+        return ValueAnswer::Refused(10);
+    }
+    at_midnight(calendar::day_number(year, month, 1))
+}
+
+// The first day itself, and then firsts of months.
+fn month_at(a: Axis, i: u64) -> ValueAnswer
+    requires { ⌜ Counted a × (i ≤ 3652059) ⌝ }
+    ensures { λ r. ⌜ r ≡ checked (ValueAnswer.At (monthAt a i)) ⌝ }
+{
+    if i == 0 {
+        return at_midnight(first_day(a));
+    }
+    let first = first_date(a);
+    let k = i + (first.month - 1);
+    month_start(first.year + k / 12, k % 12 + 1)
+}
+
+// January 1, or the start with its time where that is no earlier.
+fn year_at(a: Axis, i: u64) -> ValueAnswer
+    requires { ⌜ Counted a × (i ≤ 3652059) ⌝ }
+    ensures { λ r. ⌜ r ≡ checked (ValueAnswer.At (yearAt a i)) ⌝ }
+{
+    let first = first_date(a);
+    let year = first.year + i;
+    if 9999 < year {
+        return ValueAnswer::Refused(10);
+    }
+    let day = calendar::day_number(year, 1, 1);
+    if day <= day_of(axis::start(a)) {
+        return ValueAnswer::At(axis::start(a));
+    }
+    at_midnight(day)
+}
+
+// The value of an index, and question 10 of it.
+pub fn value_at(a: Axis, i: u64) -> ValueAnswer
+    requires { ⌜ Counted a × (i ≤ 3652059) ⌝ }
+    ensures { λ r. ⌜ r ≡ checked (ValueAnswer.At (valueAt a i)) ⌝ }
+{
+    if monthly(a) {
+        return month_at(a, i);
+    }
+    if yearly(a) {
+        return year_at(a, i);
+    }
+    at_midnight(day_of(axis::start(a)) + i)
+}
+
+// The value of the next index, where that is below the size.
+fn next_in(a: Axis, v: Value) -> ValueAnswer
+    requires { ⌜ Counted a × (valueOn a v ≡ true) ⌝ }
+    ensures { λ r. ⌜ r ≡ checked (nextIn a v) ⌝ }
+{
+    let p = place_of(a, v);
+    if p.at < p.from {
+        return ValueAnswer::None;
+    }
+    let i = p.at - p.from + 1;
+    if i < size_of(a) {
+        return value_at(a, i);
+    }
+    ValueAnswer::None
+}
+
+// The value of the index before.
+fn previous_in(a: Axis, v: Value) -> ValueAnswer
+    requires { ⌜ Counted a × (valueOn a v ≡ true) ⌝ }
+    ensures { λ r. ⌜ r ≡ checked (previousIn a v) ⌝ }
+{
+    let p = place_of(a, v);
+    if p.at <= p.from {
+        return ValueAnswer::None;
+    }
+    value_at(a, p.at - p.from - 1)
+}
+
+// The value at the cursor's place; none at or past the size.
+fn value_in(a: Axis, i: u64) -> ValueAnswer
+    requires { ⌜ Counted a × (i ≤ 3652059) ⌝ }
+    ensures { λ r. ⌜ r ≡ checked (valueIn a i) ⌝ }
+{
+    if i < size_of(a) {
+        return value_at(a, i);
+    }
+    ValueAnswer::None
+}
+
+// The floor of offset × size ÷ width, and 0 below 0. The product is below 2^53, so no float step moves the quotient
+// across a whole number.
+fn index_at(offset: i64, size: u64, width: i64) -> u64
+    requires { ⌜ (natAbs offset ≤ 65534) × (size ≤ 3652059) × (natAbs width ≤ 65534) × (0 < natAbs width) ⌝ }
+    ensures { λ r. ⌜ r ≡ indexAt offset size width ⌝ }
+{
+    if (offset < 0) != (width < 0) {
+        return 0;
+    }
+    floats::size_of(offset) * size / floats::size_of(width)
+}
+
+fn place_under(a: Axis, l: Limits, p: i64) -> u64
+    requires { ⌜ Counted a × (unmapPixels l p ≡ true) ⌝ }
+    ensures { λ r. ⌜ r ≡ placeUnder a l p ⌝ }
+{
+    index_at(p - l.low, size_of(a), l.high - l.low)
+}
+
+// The value under a pixel on a kind that counts.
+fn unmap_in(a: Axis, l: Limits, p: i64) -> ValueAnswer
+    requires { ⌜ Counted a × (unmapPixels l p ≡ true) ⌝ }
+    ensures { λ r. ⌜ r ≡ asked (underQuestions a l p) (unmapIn a l p) ⌝ }
+{
+    let i = place_under(a, l, p);
+    if 3652059 < i {
+        return ValueAnswer::Refused(10);
+    }
+    value_at(a, i)
+}
+
+// The questions, one line for each.
+fn size_refusal(a: Axis) -> u8
+    ensures { λ r. ⌜ r ≡ firstNo (sizeQuestions a) ⌝ }
+{
+    axis::plain_refusal(a, axis::has_index(a))
+}
+
+fn value_refusal(a: Axis, v: Value) -> u8
+    ensures { λ r. ⌜ r ≡ firstNo (valueQuestions a v) ⌝ }
+{
+    let q = axis::plain_refusal(a, axis::has_index(a));
+    axis::ask(q, 8, axis::value_on(a, v))
+}
+
+fn place_refusal(a: Axis, i: i64) -> u8
+    ensures { λ r. ⌜ r ≡ firstNo (placeQuestions a i) ⌝ }
+{
+    let q = axis::plain_refusal(a, axis::has_index(a));
+    axis::ask(q, 8, axis::is_index(i))
+}
+
+fn unmap_refusal(a: Axis, l: Limits, p: i64) -> u8
+    ensures { λ r. ⌜ r ≡ firstNo (unmapQuestions a l p) ⌝ }
+{
+    let q = axis::plain_refusal(a, axis::has_unmap(a));
+    axis::ask(q, 7, axis::unmap_pixels(l, p))
+}
+
+// The size of any axis.
+pub fn size(a: Axis) -> NumberAnswer
+    ensures { λ r. ⌜ r ≡ sizeAnswer a ⌝ }
+{
+    let q = size_refusal(a);
+    if q != 0 {
+        return NumberAnswer::Refused(q);
+    }
+    NumberAnswer::Is(size_of(a))
+}
+
+// The index of any numbers.
+pub fn index_of(a: Axis, v: Value) -> NumberAnswer
+    ensures { λ r. ⌜ r ≡ indexAnswer a v ⌝ }
+{
+    let q = value_refusal(a, v);
+    if q != 0 {
+        return NumberAnswer::Refused(q);
+    }
+    index_in(a, v)
+}
+
+// The value of any index, beyond the size too.
+pub fn from_index(a: Axis, i: i64) -> ValueAnswer
+    ensures { λ r. ⌜ r ≡ fromIndexAnswer a i ⌝ }
+{
+    let q = place_refusal(a, i);
+    if q != 0 {
+        return ValueAnswer::Refused(q);
+    }
+    value_at(a, calendar::count(i))
+}
+
+// The value after a value.
+pub fn next(a: Axis, v: Value) -> ValueAnswer
+    ensures { λ r. ⌜ r ≡ nextAnswer a v ⌝ }
+{
+    let q = value_refusal(a, v);
+    if q != 0 {
+        return ValueAnswer::Refused(q);
+    }
+    next_in(a, v)
+}
+
+// The value before a value.
+pub fn previous(a: Axis, v: Value) -> ValueAnswer
+    ensures { λ r. ⌜ r ≡ previousAnswer a v ⌝ }
+{
+    let q = value_refusal(a, v);
+    if q != 0 {
+        return ValueAnswer::Refused(q);
+    }
+    previous_in(a, v)
+}
+
+// The cursor moves on with a value, and stays where there is none.
+fn stepped(c: Cursor, v: ValueAnswer) -> StepAnswer
+    requires { ⌜ isIndex (c .place) ≡ true ⌝ }
+    ensures { λ r. ⌜ r ≡ stepped c v ⌝ }
+{
+    match v {
+        ValueAnswer::Refused(q) => StepAnswer::Refused(q),
+        ValueAnswer::None => StepAnswer::None(c),
+        ValueAnswer::At(w) => StepAnswer::At(w, Cursor { place: c.place + 1 }),
+    }
+}
+
+// One step of the cursor.
+pub fn values(a: Axis, c: Cursor) -> StepAnswer
+    ensures { λ r. ⌜ r ≡ valuesAnswer a c ⌝ }
+{
+    let q = place_refusal(a, c.place);
+    if q != 0 {
+        return StepAnswer::Refused(q);
+    }
+    stepped(c, value_in(a, calendar::count(c.place)))
+}
+
+fn date_time_under(u: Unmapped) -> ValueAnswer
+    ensures { λ r. ⌜ r ≡ dateTimeUnder u ⌝ }
+{
+    match u {
+        Unmapped::Refused(q) => ValueAnswer::Refused(q),
+        Unmapped::At(v) => ValueAnswer::At(v),
+    }
+}
+
+// The value under any pixel. Kind 4 counts nothing and goes by unmap_coord.
+pub fn unmap(a: Axis, l: Limits, p: i64) -> ValueAnswer
+    ensures { λ r. ⌜ r ≡ unmapAnswer a l p ⌝ }
+{
+    let q = unmap_refusal(a, l, p);
+    if q != 0 {
+        return ValueAnswer::Refused(q);
+    }
+    if (4 <= a.kind) & (a.kind <= 4) {
+        return date_time_under(unmapping::unmap_coord(a, l, p));
+    }
+    unmap_in(a, l, p)
+}
