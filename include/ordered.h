@@ -17,10 +17,12 @@
    5   kind 7: both ends are within 4 * 10^18 ns of zero, or the span is above 2^63 - 1 ns
    6   a hint's numbers are 0 to 4096, and N is at least 1 on the kinds 4 to 7
    7   each limit and pixel is -32767 to 32767; to unmap, the limits differ
-   8   the value is one of the kind; the index or place is 0 to 3652059; the year, month and day are a date of the years 1 to
-       9999; the day number is 1 to 3652059
-   9   to map: start is before end, or the value is start
-   10  the answer fits 32 bits, a date answered is one of the days of 3, an unmapped index one of 8
+   8   the value is one of the kind; a segment is 1 to 3; the index or place is 0 to 3652059; the year, month and day are a
+       date of the years 1 to 9999; the day number is 1 to 3652059
+   9   to map: start is before end, or the value is start; to map a segment, first: the size is at least 1, and the last one is
+       asked only that
+   10  the answer and each sum on the way fit 32 bits, a date answered or mapped is one of the days of 3, an unmapped index
+       one of 8
    11  the lent slice has two numbers for each tick */
 #ifndef ORDERED_H
 #define ORDERED_H
@@ -40,6 +42,7 @@ typedef struct { int64_t status, nanoseconds; } ordered_period;
 typedef struct { int64_t status, head, tail; } ordered_value;
 typedef struct { int64_t status, year, month, day; } ordered_date;
 typedef struct { int64_t status, head, tail, next; } ordered_step; /* next: the next place of the cursor */
+typedef struct { int64_t status, segment, head, tail; } ordered_segment; /* segment: 1 exact, 2 centre, 3 last */
 
 /* The day number of a date of ISO 8601's calendar; 0001-01-01 is 1, 9999-12-31 is 3652059. */
 ordered_number ordered_day_number(int64_t year, int64_t month, int64_t day);
@@ -86,6 +89,25 @@ ordered_value ordered_previous(ORDERED_AXIS, int64_t head, int64_t tail);
 
 /* The values one by one: begin at place 0 and go on with next. None from the size on; next is then the place itself. */
 ordered_step ordered_values(ORDERED_AXIS, int64_t place);
+
+/* Segments: each day, month or year of an axis reaches to its follower, and one more stands after them, the last. A segment is
+   1 exact, the left end of a value's, 2 the centre of a value's, or 3 the last; the head and tail beside 3 are not read. */
+
+/* The pixel of a segment. The limits part the size: the last is at the high limit, the end of the axis a part below it. */
+ordered_pixel ordered_segment_map(ORDERED_AXIS, int64_t low, int64_t high, int64_t segment, int64_t head, int64_t tail);
+
+/* The lists of ordered_ticks_bold and ordered_ticks_light; each value stands for its centre. */
+ordered_number ordered_segment_ticks_bold(ORDERED_AXIS, int64_t n, int64_t *lent, size_t lent_len);
+ordered_number ordered_segment_ticks_light(ORDERED_AXIS, int64_t bold, int64_t n, int64_t *lent, size_t lent_len);
+
+/* The size of the axis and one more, for the last. */
+ordered_number ordered_segment_size(ORDERED_AXIS);
+
+/* The index of a segment's value, as ordered_index_of has it; of the last one the size of the axis. */
+ordered_number ordered_segment_index_of(ORDERED_AXIS, int64_t segment, int64_t head, int64_t tail);
+
+/* The segment with that index: exact with its value, at the size of the axis the last with head and tail 0. None beyond it. */
+ordered_segment ordered_segment_from_index(ORDERED_AXIS, int64_t index);
 
 #ifdef __cplusplus
 }

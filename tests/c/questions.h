@@ -111,20 +111,69 @@ static inline int64_t refuse_by_index(const int64_t *in) {
     return number ? number : in_range(0, in[5], 3652059) ? 0 : 8;
 }
 
-/* Question 10 of an answered date, by the answer's head: is it a day of question 3? */
-static inline bool day_answered(const int64_t *in, int64_t head) {
+/* Question 8 of a segment; the head and tail beside the last one are not asked. */
+static inline bool segment_of_kind(int64_t kind, int64_t segment, int64_t head, int64_t tail) {
+    return in_range(1, segment, 3) && (segment == 3 || value_of_kind(kind, head, tail));
+}
+
+/* in: kind, start, end, low, high, segment, value */
+static inline int64_t refuse_segment_map(const int64_t *in) {
+    int64_t number = refuse_axis(in, INDEX_KINDS);
+    if (number)
+        return number;
+    if (!pixel_in_range(in[5]) || !pixel_in_range(in[6]))
+        return 7;
+    if (!segment_of_kind(in[0], in[7], in[8], in[9]))
+        return 8;
+    bool empty = in[1] == in[3] && in[2] == in[4], at_start = in[8] == in[1] && in[9] == in[2];
+    return size_of(in[0], in) < 1 || (in[7] != 3 && empty && !at_start) ? 9 : 0;
+}
+
+/* in: kind, start, end, N */
+static inline int64_t refuse_segment_ticks_bold(const int64_t *in) {
+    int64_t number = refuse_axis(in, INDEX_KINDS);
+    return number ? number : hint_in_range(in[0], 0, in[5]) ? 0 : 6;
+}
+
+/* in: kind, start, end, bold count, N */
+static inline int64_t refuse_segment_ticks_light(const int64_t *in) {
+    int64_t number = refuse_axis(in, INDEX_KINDS);
+    return number ? number : hint_in_range(in[0], in[5], in[6]) ? 0 : 6;
+}
+
+/* in: kind, start, end, segment, value */
+static inline int64_t refuse_by_segment(const int64_t *in) {
+    int64_t number = refuse_axis(in, INDEX_KINDS);
+    return number ? number : segment_of_kind(in[0], in[5], in[6], in[7]) ? 0 : 8;
+}
+
+/* Question 10 of an answered date, by the answer's numbers, head first: is it a day of question 3? */
+static inline bool day_answered(const int64_t *in, const int64_t *answer) {
     (void)in;
-    return in_range(1, head, 3652059);
+    return in_range(1, answer[0], 3652059);
+}
+
+/* The same where the segment stands before the head. */
+static inline bool segment_answered(const int64_t *in, const int64_t *answer) {
+    return answer[0] == 3 || day_answered(in, answer + 1);
+}
+
+/* The follower of a centre, where it is mapped. Only on kind 5 is it ever past the last day: from 9999-12-31 on, with its
+   ceiling a day later, the size is 12, and each month but December has a follower in the year 10000. */
+static inline bool follower_mapped(const int64_t *in, const int64_t *answer) {
+    (void)answer;
+    bool ceiling_past = in[0] == 5 && date_ceiling(in[1], in[2]) > 3652059;
+    return !(in[7] == 2 && ceiling_past && date_at(in[8]).month < 12);
 }
 
 /* The same to unmap; with indices, the index too: offset * size / W rounded down, below 0 is 0. Kind 4 has none. */
-static inline bool day_unmapped(const int64_t *in, int64_t head) {
+static inline bool day_unmapped(const int64_t *in, const int64_t *answer) {
     if (in[0] != 4) {
         int64_t places = (in[7] - in[5]) * size_of(in[0], in), width = in[6] - in[5];
         if (places / width > 3652059)
             return false;
     }
-    return day_answered(in, head);
+    return day_answered(in, answer);
 }
 
 /* in: year, month, day. On which day a month ends is left to the oracle; it has years before 1 and after 9999 too. */

@@ -318,6 +318,52 @@ static const struct listing {
     {{7, 5, 0, 5, 1}, -1, 1, 2, 0, 0, 1, {5, 0}, "11 mended"},
 };
 
+/* Lists of segments: the same centres, kinds 1, 2, 3, 5 and 6 only; no count without a list. */
+static const struct listing segment_listings[] = {
+    {{1, 1, 0, 3, 0}, -1, 2, 6, 0, 0, 3, {1, 0, 2, 0, 3, 0}, "kind 1"},
+    {{2, 1, 0, 60, 0}, -1, 2, 7, 0, 0, 3, {1, 0, 32, 0, 60, 0}, "kind 2, one number more lent"},
+    {{3, 1, 0, 731, 0}, -1, 4, 6, 0, 0, 3, {1, 0, 366, 0, 731, 0}, "kind 3"},
+    {{5, 1, 0, 60, 0}, -1, 2, 6, 0, 0, 3, {1, 0, 32, 0, 60, 0}, "kind 5"},
+    {{6, 1, 0, 731, 0}, -1, 4, 6, 0, 0, 3, {1, 0, 366, 0, 731, 0}, "kind 6"},
+    {{5, 738155, 36000000000000, 738155, 43200000000000}, -1, 3, 0, 0, 0, 0, {0}, "2021-12-31 10:00 to 12:00 has no ticks"},
+    {{5, 737880, 36000000000000, 737880, 43200000000000}, 0, 2, 4, 0, 0, 2, {737880, 36000000000000, 737880, 39600000000000},
+     "2021-03-31 10:00 to 12:00: hours, of the finer axis"},
+    {{2, 1, 0, 59, 0}, 1, 10, 18, 0, 0, 9, {1, 0, 8, 0, 15, 0}, "size 2, bold count 1: weeks"},
+    {{0, 1, 0, 3, 0}, -1, 2, 16, 1, 0, 0, {0}, "kind 0"},
+    {{4294967297, 1, 0, 3, 0}, -1, 2, 16, 1, 0, 0, {0}, "kind 1 in the low 32 bits"},
+    {{8, 1, 0, 3, 0}, 2, 2, 16, 1, 0, 0, {0}, "kind 8, light"},
+    {{4, 1, 0, 1, 3}, -1, 3, 16, 2, 0, 0, {0}, "kind 4"},
+    {{7, 0, 0, 3, 0}, -1, 3, 16, 2, 0, 0, {0}, "kind 7"},
+    {{4, 1, 0, 1, 3}, 3, 3, 16, 2, 0, 0, {0}, "kind 4, light"},
+    {{7, 0, 0, 3, 0}, 3, 3, 16, 2, 0, 0, {0}, "kind 7, light"},
+    {{1, 0, 0, 3, 0}, -1, 3, 16, 3, 0, 0, {0}, "day 0 as start"},
+    {{5, 1, 0, 3, 86400000000000}, 3, 3, 16, 3, 0, 0, {0}, "24:00 as end, light"},
+    {{1, 6, 0, 5, 0}, -1, 3, 16, 4, 0, 0, {0}, "start a day later"},
+    {{6, 5, 1, 5, 0}, 3, 3, 16, 4, 0, 0, {0}, "start 1 ns later, light"},
+    {{1, 1, 0, 3, 0}, -1, 4097, 16, 6, 0, 0, {0}, "N too large"},
+    {{5, 1, 0, 60, 0}, -1, 0, 16, 6, 0, 0, {0}, "N 0 on kind 5"},
+    {{6, 1, 0, 60, 0}, 5, 0, 16, 6, 0, 0, {0}, "N 0 on kind 6, light"},
+    {{2, 1, 0, 3, 0}, 4097, 2, 16, 6, 0, 0, {0}, "a bold count too large"},
+    {{1, 1, 0, 3, 0}, -1, 2, 5, 11, 0, 0, {0}, "one number short"},
+    {{2, 1, 0, 3, 0}, 4096, 2, 0, 11, 0, 0, {0}, "nothing lent, light"},
+
+    /* Two at once. */
+    {{8, 0, 0, 3, 0}, -1, 3, 16, 1, 3, 0, {0}, "no kind, start day 0"},
+    {{8, 2, 0, 1, 0}, 3, 3, 16, 1, 4, 0, {0}, "no kind, start later"},
+    {{8, 1, 0, 2, 0}, -1, -1, 16, 1, 6, 0, {0}, "no kind, N -1"},
+    {{8, 1, 0, 2, 0}, 3, 3, 0, 1, 11, 0, {0}, "no kind, nothing lent"},
+    {{4, 0, 0, 3, 0}, -1, 3, 16, 2, 3, 0, {0}, "kind 4, start day 0"},
+    {{7, 2, 0, 1, 0}, 3, 3, 16, 2, 4, 0, {0}, "kind 7, start later"},
+    {{4, 1, 0, 2, 0}, -1, 0, 16, 2, 6, 0, {0}, "kind 4, N 0"},
+    {{7, 1, 0, 3, 0}, 3, 3, 0, 2, 11, 0, {0}, "kind 7, nothing lent"},
+    {{1, 2, 0, 0, 0}, -1, 3, 16, 3, 4, 0, {0}, "end day 0, start later"},
+    {{1, 0, 0, 2, 0}, 4097, 3, 16, 3, 6, 0, {0}, "start day 0, the bold count too large"},
+    {{1, 0, 0, 2, 0}, -1, 3, 0, 3, 11, 0, {0}, "start day 0, nothing lent"},
+    {{5, 2, 0, 1, 0}, 3, 0, 16, 4, 6, 0, {0}, "start later, N 0"},
+    {{1, 2, 0, 1, 0}, -1, 3, 0, 4, 11, 0, {0}, "start later, nothing lent"},
+    {{1, 1, 0, 3, 0}, 3, 4097, 0, 6, 11, 0, {0}, "N too large, nothing lent"},
+};
+
 static const struct period {
     int64_t in[6], status, also, nanoseconds;
     const char *why;
@@ -367,19 +413,26 @@ static const struct period {
     {{7, 0, 0, 4000000000, 1, 0}, 5, 6, 0, "end too far, N 0"},
 };
 
-/* The operations on indices, a bit each: a refusal is often asked of several that take the same numbers. */
+/* The operations on indices and segments, a bit each: a refusal is often asked of several that take the same numbers. */
 enum { UNMAP = 1, SIZE = 2, INDEX_OF = 4, FROM_INDEX = 8, NEXT = 16, PREVIOUS = 32, VALUES = 64 };
+enum { SEGMENT_MAP = 128, SEGMENT_SIZE = 256, SEGMENT_INDEX_OF = 512, SEGMENT_FROM_INDEX = 1024 };
 enum { BY_VALUE = INDEX_OF | NEXT | PREVIOUS, BY_INDEX = FROM_INDEX | VALUES };
+enum { SEGMENTS = SEGMENT_MAP | SEGMENT_SIZE | SEGMENT_INDEX_OF | SEGMENT_FROM_INDEX };
+
+/* What all four on segments take: limits 3 and 9 and the exact day 1; the last one, with 9 and 1 beside it; index 3. */
+#define FOR_SEGMENTS 3, 9, 1, 1, 0
 
 /* 9999-12-31 10:00 to 12:00: its ceiling is the day after the last; January 1 of the year 1 has index 0, February 1 has 1. */
 #define LAST_NOON 3652059, 36000000000000, 3652059, 43200000000000
 #define LAST_NOON_REVERSED 3652059, 43200000000000, 3652059, 36000000000000
 #define LAST_NOON_SPOILT 3652059, 36000000000000, 3652059, 86400000000000
+#define LAST_NOON_EMPTY 3652059, 36000000000000, 3652059, 36000000000000
 
-/* The numbers as the operation takes them after the axis: low, high, pixel; nothing; a value; an index or place. */
+/* The numbers as the operation takes them after the axis: low, high, pixel; nothing; a value; an index or place; low, high, a
+   segment and its value; a segment and its value. */
 static const struct asking {
     int operations;
-    int64_t in[8], status, also, out[3];
+    int64_t in[10], status, also, out[3];
     const char *why;
 } askings[] = {
     /* Accepted ones. 737850 is 2021-03-01, 737425 is 2020-01-01, 737880 is 2021-03-31, 738155 is 2021-12-31. */
@@ -510,6 +563,149 @@ static const struct asking {
     {NEXT, {5, LAST_NOON, 1, -1}, 8, 10, {0}, "the value's tail below 0, no date"},
     {PREVIOUS, {5, LAST_NOON, 32, -1}, 8, 10, {0}, "the value's tail below 0, no date"},
     {BY_INDEX, {1, 1, 0, 3652059, 0, 3652060}, 8, 10, {0}, "an index too large, no date"},
+
+    /* Segments, accepted. 2021-03-01 to 03-03: the margin is 33, the days are mapped to 0 to 67. */
+    {SEGMENT_MAP, {1, 737850, 0, 737852, 0, 0, 100, 2, 737850, 0}, 0, 0, {16}, "the centre of the first"},
+    {SEGMENT_MAP, {1, 737850, 0, 737852, 0, 0, 100, 1, 737852, 0}, 0, 0, {67}, "the last day"},
+    {SEGMENT_MAP, {1, 737850, 0, 737852, 0, 0, 100, 2, 737852, 0}, 0, 0, {83}, "its centre: half of the margin more"},
+    {SEGMENT_MAP, {1, 737850, 0, 737852, 0, 0, 100, 3, 0, 0}, 0, 0, {100}, "the last segment"},
+    {SEGMENT_MAP, {1, 737850, 0, 737852, 0, 0, 100, 3, INT64_MIN, INT64_MAX}, 0, 0, {100}, "with junk beside it"},
+    {SEGMENT_MAP, {1, 1, 0, 2, 0, 0, 5, 1, 2, 0}, 0, 0, {2}, "a margin of 5/2 is 3"},
+    {SEGMENT_MAP, {1, 1, 0, 2, 0, 0, 5, 2, 2, 0}, 0, 0, {3}, "its half is 1"},
+    {SEGMENT_MAP, {1, 1, 0, 2, 0, 5, 0, 1, 2, 0}, 0, 0, {3}, "a margin of -5/2 is -3"},
+    {SEGMENT_MAP, {1, 1, 0, 2, 0, 5, 0, 2, 2, 0}, 0, 0, {2}, "its half is -1"},
+    {SEGMENT_MAP, {1, 1, 0, 2, 0, -3, 0, 2, 1, 0}, 0, 0, {-2}, "-3 and -2: half of -5 is -2"},
+    {SEGMENT_MAP, {1, 5, 0, 5, 0, 7, 10, 1, 5, 0}, 0, 0, {7}, "one day"},
+    {SEGMENT_MAP, {1, 5, 0, 5, 0, 7, 10, 2, 5, 0}, 0, 0, {8}, "its centre"},
+    {SEGMENT_MAP, {1, 5, 0, 5, 0, 7, 10, 3, 6, 0}, 0, 0, {10}, "the last after one day"},
+    {SEGMENT_MAP, {1, 5, 0, 9, 0, 4, 4, 2, 7, 0}, 0, 0, {4}, "equal limits"},
+    {SEGMENT_MAP, {1, 5, 0, 9, 0, 0, 100, 2, 4, 0}, 0, 0, {-10}, "before the start: no index"},
+    {SEGMENT_MAP, {1, 5, 0, 9, 0, 0, 100, 2, 11, 0}, 0, 0, {130}, "past the end: no follower"},
+    {SEGMENT_MAP, {2, 737425, 0, 737790, 0, 0, 120, 2, 737424, 0}, 0, 0, {5}, "2019-12-31 on 2020: index 11, no follower"},
+    {SEGMENT_MAP, {2, 737425, 0, 737790, 0, 0, 120, 2, 737060, 0}, 0, 0, {-50}, "2019-01-01 on 2020: its follower 2020-02-01"},
+    {SEGMENT_MAP, {5, LAST_NOON, 0, 100, 2, 3652059, 36000000000000}, 0, 0, {4}, "9999-12-31: index 11, no follower"},
+    {SEGMENT_MAP, {5, LAST_NOON, 0, 100, 1, 3652059, 43200000000000}, 0, 0, {92}, "its end"},
+    {SEGMENT_SIZE, {1, 5, 0, 5, 0}, 0, 0, {2}, "one day and the last"},
+    {SEGMENT_SIZE, {1, 1, 0, 3652059, 0}, 0, 0, {3652060}, "all days and the last"},
+    {SEGMENT_SIZE, {5, 737880, 36000000000000, 737880, 43200000000000}, 0, 0, {1}, "size 0: the last only"},
+    {SEGMENT_SIZE, {5, LAST_NOON}, 0, 0, {13}, "9999-12-31 10:00 to 12:00: 13"},
+    {SEGMENT_INDEX_OF, {1, 5, 0, 9, 0, 1, 7, 0}, 0, 0, {2}, "an exact day"},
+    {SEGMENT_INDEX_OF, {1, 5, 0, 9, 0, 2, 7, 0}, 0, 0, {2}, "its centre"},
+    {SEGMENT_INDEX_OF, {1, 5, 0, 9, 0, 1, 11, 0}, 0, 0, {6}, "past the end"},
+    {SEGMENT_INDEX_OF, {1, 5, 0, 9, 0, 2, 4, 0}, -1, 0, {0}, "before the start: none"},
+    {SEGMENT_INDEX_OF, {1, 5, 0, 9, 0, 3, INT64_MIN, -1}, 0, 0, {5}, "the last: the size"},
+    {SEGMENT_INDEX_OF, {6, LAST_NOON, 3, 0, 0}, 0, 0, {0}, "size 0: the last has index 0"},
+    {SEGMENT_FROM_INDEX, {1, 5, 0, 6, 0, 0}, 0, 0, {1, 5, 0}, "the first"},
+    {SEGMENT_FROM_INDEX, {1, 5, 0, 6, 0, 1}, 0, 0, {1, 6, 0}, "the last day"},
+    {SEGMENT_FROM_INDEX, {1, 5, 0, 6, 0, 2}, 0, 0, {3, 0, 0}, "at the size: the last"},
+    {SEGMENT_FROM_INDEX, {1, 5, 0, 6, 0, 3}, -1, 0, {0}, "beyond it: none"},
+    {SEGMENT_FROM_INDEX, {1, 1, 0, 3652059, 0, 3652059}, 0, 0, {3, 0, 0}, "the largest index"},
+    {SEGMENT_FROM_INDEX, {6, 15, 500000000, 60, 0, 0}, 0, 0, {1, 15, 500000000}, "the start with its tail"},
+    {SEGMENT_FROM_INDEX, {6, LAST_NOON, 0}, 0, 0, {3, 0, 0}, "size 0: the last"},
+    {SEGMENT_FROM_INDEX, {5, LAST_NOON, 12}, 0, 0, {3, 0, 0}, "past dates that are none: the last"},
+    {SEGMENT_FROM_INDEX, {5, LAST_NOON, 13}, -1, 0, {0}, "beyond it: none"},
+
+    /* Segments, 1 to 4. */
+    {SEGMENTS, {0, 1, 0, 2, 0, FOR_SEGMENTS}, 1, 0, {0}, "kind 0"},
+    {SEGMENTS, {8, 1, 0, 2, 0, FOR_SEGMENTS}, 1, 0, {0}, "kind 8"},
+    {SEGMENTS, {4294967297, 1, 0, 2, 0, FOR_SEGMENTS}, 1, 0, {0}, "kind 1 in the low 32 bits"},
+    {SEGMENTS, {4, 1, 0, 2, 0, FOR_SEGMENTS}, 2, 0, {0}, "kind 4"},
+    {SEGMENTS, {7, 1, 0, 2, 0, FOR_SEGMENTS}, 2, 0, {0}, "kind 7"},
+    {SEGMENTS, {1, 0, 0, 2, 0, FOR_SEGMENTS}, 3, 0, {0}, "day 0 as start"},
+    {SEGMENTS, {2, 1, 0, 3652060, 0, FOR_SEGMENTS}, 3, 0, {0}, "10000-01-01 as end"},
+    {SEGMENTS, {3, 1, 1, 2, 0, FOR_SEGMENTS}, 3, 0, {0}, "a date with a tail"},
+    {SEGMENTS, {6, 1, 0, 2, 86400000000000, FOR_SEGMENTS}, 3, 0, {0}, "24:00 as end"},
+    {SEGMENTS, {1, 2, 0, 1, 0, FOR_SEGMENTS}, 4, 0, {0}, "start later"},
+    {SEGMENTS, {5, 1, 1, 1, 0, FOR_SEGMENTS}, 4, 0, {0}, "start 1 ns later"},
+
+    /* Segments, 7: the limits. */
+    {SEGMENT_MAP, {1, 1, 0, 2, 0, 32767, -32767, 1, 1, 0}, 0, 0, {32767}, "the largest and the least"},
+    {SEGMENT_MAP, {1, 1, 0, 2, 0, -32768, 0, 1, 1, 0}, 7, 0, {0}, "low one less"},
+    {SEGMENT_MAP, {1, 1, 0, 2, 0, 0, 32768, 3, 0, 0}, 7, 0, {0}, "high one more, the last segment"},
+    {SEGMENT_MAP, {1, 1, 0, 2, 0, 32768, 0, 3, 0, 0}, 7, 0, {0}, "low one more, the last segment"},
+    {SEGMENT_MAP, {1, 1, 0, 2, 0, 0, 4294967296, 2, 1, 0}, 7, 0, {0}, "high 0 in its low 32 bits"},
+
+    /* Segments, 8: the segment, its value, the index. */
+    {SEGMENT_MAP, {1, 1, 0, 2, 0, 0, 100, 0, 1, 0}, 8, 0, {0}, "segment 0"},
+    {SEGMENT_MAP, {1, 1, 0, 2, 0, 0, 100, 4, 1, 0}, 8, 0, {0}, "segment 4"},
+    {SEGMENT_MAP, {1, 1, 0, 2, 0, 0, 100, 4294967297, 1, 0}, 8, 0, {0}, "segment 1 in the low 32 bits"},
+    {SEGMENT_MAP, {1, 1, 0, 2, 0, 0, 100, 1, 0, 0}, 8, 0, {0}, "exact day 0"},
+    {SEGMENT_MAP, {1, 1, 0, 2, 0, 0, 100, 2, 3652060, 0}, 8, 0, {0}, "the centre of 10000-01-01"},
+    {SEGMENT_MAP, {2, 1, 0, 2, 0, 0, 100, 2, 1, 1}, 8, 0, {0}, "a date with a tail"},
+    {SEGMENT_MAP, {5, 1, 0, 2, 0, 0, 100, 1, 1, 86400000000000}, 8, 0, {0}, "24:00"},
+    {SEGMENT_INDEX_OF, {1, 1, 0, 2, 0, 0, 1, 0}, 8, 0, {0}, "segment 0"},
+    {SEGMENT_INDEX_OF, {1, 1, 0, 2, 0, 4, 1, 0}, 8, 0, {0}, "segment 4"},
+    {SEGMENT_INDEX_OF, {1, 1, 0, 2, 0, INT64_MIN, 1, 0}, 8, 0, {0}, "the least number as segment"},
+    {SEGMENT_INDEX_OF, {1, 1, 0, 2, 0, 4294967299, 1, 0}, 8, 0, {0}, "segment 3 in the low 32 bits"},
+    {SEGMENT_INDEX_OF, {1, 1, 0, 2, 0, 1, 0, 0}, 8, 0, {0}, "exact day 0"},
+    {SEGMENT_INDEX_OF, {6, 1, 0, 2, 0, 2, 1, 86400000000000}, 8, 0, {0}, "the centre of 24:00"},
+    {SEGMENT_FROM_INDEX, {2, 1, 0, 2, 0, -1}, 8, 0, {0}, "-1"},
+    {SEGMENT_FROM_INDEX, {1, 1, 0, 2, 0, 3652060}, 8, 0, {0}, "one more than the largest"},
+    {SEGMENT_FROM_INDEX, {1, 1, 0, 2, 0, 4294967296}, 8, 0, {0}, "0 in its low 32 bits"},
+    {SEGMENT_FROM_INDEX, {1, 1, 0, 2, 0, INT64_MAX}, 8, 0, {0}, "the largest number"},
+
+    /* Segments, 9: the size, of the last one too; then start and end. */
+    {SEGMENT_MAP, {5, 737880, 36000000000000, 737880, 43200000000000, 0, 100, 3, 0, 0}, 9, 0, {0}, "size 0, the last"},
+    {SEGMENT_MAP, {5, 737880, 36000000000000, 737880, 43200000000000, 0, 100, 1, 737880, 36000000000000}, 9, 0, {0},
+     "size 0, the start"},
+    {SEGMENT_MAP, {6, LAST_NOON, 0, 100, 2, 3652059, 36000000000000}, 9, 0, {0}, "size 0, kind 6"},
+    {SEGMENT_MAP, {1, 5, 0, 5, 0, 0, 100, 1, 6, 0}, 9, 0, {0}, "empty, a day later"},
+    {SEGMENT_MAP, {3, 5, 0, 5, 0, 7, 7, 2, 4, 0}, 9, 0, {0}, "empty, the centre of a day earlier, equal limits"},
+    {SEGMENT_MAP, {5, 5, 1, 5, 1, 0, 100, 2, 5, 0}, 9, 0, {0}, "empty, 1 ns earlier"},
+
+    /* Segments, 10: each mapping, each sum, each date. */
+    {SEGMENT_MAP, {1, 1, 0, 3, 0, 0, 32767, 1, 3652059, 0}, 0, 0, {2147483647}, "the cast saturates, low 0"},
+    {SEGMENT_MAP, {1, 1, 0, 3, 0, 1, 32767, 1, 3652059, 0}, 10, 0, {0}, "the same, low 1"},
+    {SEGMENT_MAP, {1, 1, 0, 3, 0, 0, 32767, 2, 3652059, 0}, 10, 0, {0}, "with half of the margin"},
+    {SEGMENT_MAP, {1, 1, 0, 3, 0, -32767, 32767, 2, 3652059, 0}, 0, 0, {2147461802}, "the same, low -32767"},
+    {SEGMENT_MAP, {2, 3651725, 0, 3651726, 0, -32767, -31589, 1, 5850, 0}, 0, 0, {-2147453142}, "0017-01-06 on 9999-01-31"},
+    {SEGMENT_MAP, {2, 3651725, 0, 3651726, 0, -32767, -31589, 2, 5850, 0}, 10, 0, {0}, "the sum with its follower"},
+    {SEGMENT_MAP, {5, LAST_NOON, 0, 100, 2, 1, 0}, 10, 0, {0}, "the follower is 10000-02-01"},
+    {SEGMENT_MAP, {5, LAST_NOON, 5, 5, 2, 320, 0}, 10, 0, {0}, "the follower is 10000-12-01, equal limits"},
+    {SEGMENT_FROM_INDEX, {5, LAST_NOON, 0}, 10, 0, {0}, "the ceiling itself"},
+    {SEGMENT_FROM_INDEX, {5, LAST_NOON, 11}, 10, 0, {0}, "10000-12-01"},
+
+    /* Segments, two at once. */
+    {SEGMENTS, {8, 0, 0, 2, 0, FOR_SEGMENTS}, 1, 3, {0}, "no kind, start day 0"},
+    {SEGMENTS, {8, 2, 0, 1, 0, FOR_SEGMENTS}, 1, 4, {0}, "no kind, start later"},
+    {SEGMENT_MAP, {8, 1, 0, 2, 0, 0, 32768, 1, 1, 0}, 1, 7, {0}, "no kind, high one more"},
+    {SEGMENT_MAP, {8, 1, 0, 2, 0, 0, 100, 4, 1, 0}, 1, 8, {0}, "no kind, segment 4"},
+    {SEGMENT_INDEX_OF, {8, 1, 0, 2, 0, 4, 1, 0}, 1, 8, {0}, "no kind, segment 4"},
+    {SEGMENT_FROM_INDEX, {8, 1, 0, 2, 0, -1}, 1, 8, {0}, "no kind, index -1"},
+    {SEGMENT_MAP, {8, 1, 0, 1, 0, 0, 100, 1, 2, 0}, 1, 9, {0}, "no kind, empty"},
+    {SEGMENT_MAP, {8, LAST_NOON, 0, 100, 2, 1, 0}, 1, 10, {0}, "no kind, no date if it were 5"},
+    {SEGMENT_FROM_INDEX, {8, LAST_NOON, 0}, 1, 10, {0}, "no kind, no date if it were 5"},
+    {SEGMENTS, {4, 0, 0, 2, 0, FOR_SEGMENTS}, 2, 3, {0}, "kind 4, start day 0"},
+    {SEGMENTS, {4, 2, 0, 1, 0, FOR_SEGMENTS}, 2, 4, {0}, "kind 4, start later"},
+    {SEGMENT_MAP, {4, 1, 0, 2, 0, 0, 32768, 1, 1, 0}, 2, 7, {0}, "kind 4, high one more"},
+    {SEGMENT_MAP, {4, 1, 0, 2, 0, 0, 100, 4, 1, 0}, 2, 8, {0}, "kind 4, segment 4"},
+    {SEGMENT_INDEX_OF, {4, 1, 0, 2, 0, 4, 1, 0}, 2, 8, {0}, "kind 4, segment 4"},
+    {SEGMENT_FROM_INDEX, {4, 1, 0, 2, 0, -1}, 2, 8, {0}, "kind 4, index -1"},
+    {SEGMENT_MAP, {4, 1, 0, 1, 0, 0, 100, 1, 2, 0}, 2, 9, {0}, "kind 4, empty"},
+    {SEGMENT_MAP, {4, LAST_NOON, 0, 100, 2, 1, 0}, 2, 10, {0}, "kind 4, no date if it were 5"},
+    {SEGMENT_FROM_INDEX, {4, LAST_NOON, 0}, 2, 10, {0}, "kind 4, no date if it were 5"},
+    {SEGMENTS, {1, 2, 0, 0, 0, FOR_SEGMENTS}, 3, 4, {0}, "end day 0, start later"},
+    {SEGMENT_MAP, {1, 0, 0, 2, 0, 0, 32768, 1, 1, 0}, 3, 7, {0}, "start day 0, high one more"},
+    {SEGMENT_MAP, {1, 0, 0, 2, 0, 0, 100, 4, 1, 0}, 3, 8, {0}, "start day 0, segment 4"},
+    {SEGMENT_INDEX_OF, {1, 0, 0, 2, 0, 4, 1, 0}, 3, 8, {0}, "start day 0, segment 4"},
+    {SEGMENT_FROM_INDEX, {1, 0, 0, 2, 0, -1}, 3, 8, {0}, "start day 0, index -1"},
+    {SEGMENT_MAP, {1, 0, 0, 0, 0, 0, 100, 1, 1, 0}, 3, 9, {0}, "day 0 to day 0, empty"},
+    {SEGMENT_MAP, {5, LAST_NOON_SPOILT, 0, 100, 2, 1, 0}, 3, 10, {0}, "24:00 as end, no date"},
+    {SEGMENT_FROM_INDEX, {5, LAST_NOON_SPOILT, 0}, 3, 10, {0}, "24:00 as end, no date"},
+    {SEGMENT_MAP, {1, 2, 0, 1, 0, 0, 32768, 1, 1, 0}, 4, 7, {0}, "start later, high one more"},
+    {SEGMENT_MAP, {1, 2, 0, 1, 0, 0, 100, 4, 1, 0}, 4, 8, {0}, "start later, segment 4"},
+    {SEGMENT_INDEX_OF, {1, 2, 0, 1, 0, 4, 1, 0}, 4, 8, {0}, "start later, segment 4"},
+    {SEGMENT_FROM_INDEX, {1, 2, 0, 1, 0, -1}, 4, 8, {0}, "start later, index -1"},
+    {SEGMENT_MAP, {1, 2, 0, 1, 0, 0, 100, 3, 0, 0}, 4, 9, {0}, "start later, so size 0"},
+    {SEGMENT_MAP, {5, LAST_NOON_REVERSED, 0, 100, 2, 1, 0}, 4, 10, {0}, "start later, no date"},
+    {SEGMENT_FROM_INDEX, {5, LAST_NOON_REVERSED, 0}, 4, 10, {0}, "start later, no date"},
+    {SEGMENT_MAP, {1, 1, 0, 2, 0, 0, 32768, 4, 1, 0}, 7, 8, {0}, "high one more, segment 4"},
+    {SEGMENT_MAP, {1, 1, 0, 1, 0, 0, 32768, 1, 2, 0}, 7, 9, {0}, "high one more, empty"},
+    {SEGMENT_MAP, {5, LAST_NOON, 0, 32768, 2, 1, 0}, 7, 10, {0}, "high one more, no date"},
+    {SEGMENT_MAP, {6, LAST_NOON, 0, 100, 4, 1, 0}, 8, 9, {0}, "segment 4, size 0"},
+    {SEGMENT_MAP, {5, LAST_NOON, 0, 100, 2, 1, -1}, 8, 10, {0}, "the value's tail below 0, no date"},
+    {SEGMENT_FROM_INDEX, {1, 1, 0, 2, 0, -1}, 8, 10, {0}, "index -1, day 0"},
+    {SEGMENT_MAP, {5, LAST_NOON_EMPTY, 0, 100, 2, 1, 0}, 9, 10, {0}, "empty, no date"},
 };
 
 static const struct numbering {
@@ -593,15 +789,20 @@ static void expect_all_covered(const char *call, const struct seen *seen, const 
     }
 }
 
-/* List and count of a row; the numbers behind the list, or all of a refused call, must be as they were. */
-static void compare_listing(const struct listing *row, int number) {
+/* List and count of a row, of segments the list only; the numbers behind the list, or all of a refused call, must be as they
+   were. */
+static void compare_listing(const struct listing *row, int number, bool segments) {
     const int64_t *in = row->in;
     int64_t lent[LENT], want[LENT];
     for (int i = 0; i < LENT; i++)
         lent[i] = want[i] = -1000 - i;
     bool light = row->bold != -1;
     ordered_number list, count;
-    if (light) {
+    if (segments) {
+        list = light ? ordered_segment_ticks_light(in[0], in[1], in[2], in[3], in[4], row->bold, row->n, lent, row->lent)
+                     : ordered_segment_ticks_bold(in[0], in[1], in[2], in[3], in[4], row->n, lent, row->lent);
+        count = list;
+    } else if (light) {
         list = ordered_ticks_light(in[0], in[1], in[2], in[3], in[4], row->bold, row->n, lent, row->lent);
         count = ordered_count_light(in[0], in[1], in[2], in[3], in[4], row->bold, row->n, row->lent);
     } else {
@@ -618,10 +819,26 @@ static void compare_listing(const struct listing *row, int number) {
         same = same && lent[i] == want[i];
     if (!same) {
         differences++;
-        printf("  %s, row %d, %s: expected %" PRId64 " %" PRId64 ", list %" PRId64 " %" PRId64 ", count %" PRId64 " %" PRId64
-               ", or other numbers lent: %" PRId64 " %" PRId64 " ..\n", light ? "light ticks" : "bold ticks", number, row->why,
+        printf("  %s%s, row %d, %s: expected %" PRId64 " %" PRId64 ", list %" PRId64 " %" PRId64 ", count %" PRId64 " %" PRId64
+               ", or other numbers lent: %" PRId64 " %" PRId64 " ..\n", segments ? "segments, " : "",
+               light ? "light ticks" : "bold ticks", number, row->why,
                row->status, row->count, list.status, list.value, count.status, count.value, lent[0], lent[1]);
     }
+}
+
+/* A table of lists: its rows, and that each question has its rows, with both hints. */
+static void compare_listings(const char *call, const struct listing *table, int rows, bool segments, const int *asked,
+                             int count) {
+    struct seen bold = {0}, light = {0}, both = {0};
+    for (int i = 0; i < rows; i++) {
+        compare_listing(&table[i], i + 1, segments);
+        see(table[i].bold == -1 ? &bold : &light, table[i].status, 0);
+        see(&both, table[i].status, table[i].also);
+    }
+    for (int question = 1; question < QUESTIONS; question++)
+        if (bold.both[question][0] != light.both[question][0])
+            expect(false, call, "a question is tried with one of the two hints only");
+    expect_all_covered(call, &both, asked, count);
 }
 
 /* One operation of a row; the answer as its status and three numbers. */
@@ -629,6 +846,8 @@ static void ask(int operation, const int64_t *in, int64_t out[4]) {
     ordered_value v = {0, 0, 0};
     ordered_number n = {0, 0};
     ordered_step s = {0, 0, 0, 0};
+    ordered_pixel p = {0, 0};
+    ordered_segment g = {0, 0, 0, 0};
     switch (operation) {
     case UNMAP: v = ordered_unmap(in[0], in[1], in[2], in[3], in[4], in[5], in[6], in[7]); break;
     case SIZE: n = ordered_size(in[0], in[1], in[2], in[3], in[4]); break;
@@ -636,21 +855,30 @@ static void ask(int operation, const int64_t *in, int64_t out[4]) {
     case FROM_INDEX: v = ordered_from_index(in[0], in[1], in[2], in[3], in[4], in[5]); break;
     case NEXT: v = ordered_next(in[0], in[1], in[2], in[3], in[4], in[5], in[6]); break;
     case PREVIOUS: v = ordered_previous(in[0], in[1], in[2], in[3], in[4], in[5], in[6]); break;
-    default: s = ordered_values(in[0], in[1], in[2], in[3], in[4], in[5]);
+    case VALUES: s = ordered_values(in[0], in[1], in[2], in[3], in[4], in[5]); break;
+    case SEGMENT_MAP: p = ordered_segment_map(in[0], in[1], in[2], in[3], in[4], in[5], in[6], in[7], in[8], in[9]); break;
+    case SEGMENT_SIZE: n = ordered_segment_size(in[0], in[1], in[2], in[3], in[4]); break;
+    case SEGMENT_INDEX_OF: n = ordered_segment_index_of(in[0], in[1], in[2], in[3], in[4], in[5], in[6], in[7]); break;
+    default: g = ordered_segment_from_index(in[0], in[1], in[2], in[3], in[4], in[5]);
     }
-    out[0] = v.status + n.status + s.status, out[1] = v.head + n.value + s.head, out[2] = v.tail + s.tail, out[3] = s.next;
+    out[0] = v.status + n.status + s.status + p.status + g.status;
+    out[1] = v.head + n.value + s.head + p.pixel + g.segment;
+    out[2] = v.tail + s.tail + g.head;
+    out[3] = s.next + g.tail;
 }
 
-/* All operations on indices: their rows, and that each question of each has its rows. */
+/* All operations on indices and segments: their rows, and that each question of each has its rows. */
 static int compare_askings(void) {
     static const struct {
         const char *name;
-        int asked[6], count;
+        int asked[8], count;
     } operations[] = {
         {"ordered_unmap", {1, 2, 3, 4, 7, 10}, 6},      {"ordered_size", {1, 2, 3, 4}, 4},
         {"ordered_index_of", {1, 2, 3, 4, 8}, 5},       {"ordered_from_index", {1, 2, 3, 4, 8, 10}, 6},
         {"ordered_next", {1, 2, 3, 4, 8, 10}, 6},       {"ordered_previous", {1, 2, 3, 4, 8, 10}, 6},
-        {"ordered_values", {1, 2, 3, 4, 8, 10}, 6},
+        {"ordered_values", {1, 2, 3, 4, 8, 10}, 6},     {"ordered_segment_map", {1, 2, 3, 4, 7, 8, 9, 10}, 8},
+        {"ordered_segment_size", {1, 2, 3, 4}, 4},      {"ordered_segment_index_of", {1, 2, 3, 4, 8}, 5},
+        {"ordered_segment_from_index", {1, 2, 3, 4, 8, 10}, 6},
     };
     int calls = 0;
     for (int bit = 0; bit < COUNT(operations); bit++) {
@@ -690,16 +918,8 @@ int main(void) {
         }
     }
     expect_all_covered("ordered_map", &maps, (const int[]){1, 3, 4, 5, 7, 8, 9, 10}, 8);
-    struct seen bold = {0}, light = {0}, both = {0};
-    for (int i = 0; i < COUNT(listings); i++) {
-        compare_listing(&listings[i], i + 1);
-        see(listings[i].bold == -1 ? &bold : &light, listings[i].status, 0);
-        see(&both, listings[i].status, listings[i].also);
-    }
-    for (int question = 1; question < QUESTIONS; question++)
-        if (bold.both[question][0] != light.both[question][0])
-            expect(false, "ticks", "a question is tried with one of the two hints only");
-    expect_all_covered("ticks", &both, (const int[]){1, 3, 4, 5, 6, 11}, 6);
+    compare_listings("ticks", listings, COUNT(listings), false, (const int[]){1, 3, 4, 5, 6, 11}, 6);
+    compare_listings("segment ticks", segment_listings, COUNT(segment_listings), true, (const int[]){1, 2, 3, 4, 6, 11}, 6);
     struct seen steps = {0};
     for (int i = 0; i < COUNT(periods); i++) {
         const struct period *row = &periods[i];
@@ -725,8 +945,8 @@ int main(void) {
         bool same = r.status == row->status && r.year == row->year && r.month == row->month && r.day == row->day;
         expect(same, "ordered_date_of", row->why);
     }
-    printf("refusals: %d mappings, %d lists and their counts, %d periods, %d of unmapping and indices, %d dates, %d day "
-           "numbers, %d differences\n", COUNT(mappings), COUNT(listings), COUNT(periods), index_calls, COUNT(numberings),
-           COUNT(datings), differences);
+    printf("refusals: %d mappings, %d lists and their counts, %d lists of segments, %d periods, %d of unmapping, indices and "
+           "segments, %d dates, %d day numbers, %d differences\n", COUNT(mappings), COUNT(listings), COUNT(segment_listings),
+           COUNT(periods), index_calls, COUNT(numberings), COUNT(datings), differences);
     return differences > 0;
 }

@@ -17,15 +17,15 @@ enum { ARGUMENTS = 10, NUMBERS = 1 << 15, BEHIND = 7, QUESTIONS = 13, SHOWN = 5,
 /* Calls the archive; fills in the status and the numbers, and gives how many these are. */
 typedef int call(const int64_t *in, int64_t *out);
 
-/* The two calls of a tick list: into the lent numbers, and with nothing lent. */
+/* The two calls of a tick list: into the lent numbers, and with nothing lent; lists of segments have no second one. */
 typedef ordered_number list_call(const int64_t *in, int64_t *lent, size_t lent_len);
 typedef ordered_number count_call(const int64_t *in, size_t lent_len);
 
 /* Fills in document 01's answer where the Rust's logarithm may round it away; gives how many numbers, 0 if it may not. */
 typedef int exact(const int64_t *in, int64_t *out);
 
-/* Question 10 of the oracle's answer, by its head, the second number. */
-typedef bool fits(const int64_t *in, int64_t head);
+/* Question 10 of the oracle's answer, by its numbers after the status. */
+typedef bool fits(const int64_t *in, const int64_t *answer);
 
 /* The question by which document 01 refuses these arguments, 0 if it is the oracle's to say. */
 typedef int64_t refusal(const int64_t *in);
@@ -131,6 +131,34 @@ static int call_values(const int64_t *in, int64_t *out) {
     return 4;
 }
 
+static int call_segment_map(const int64_t *in, int64_t *out) {
+    ordered_pixel r = ordered_segment_map(in[0], in[1], in[2], in[3], in[4], in[5], in[6], in[7], in[8], in[9]);
+    out[0] = r.status, out[1] = r.pixel;
+    return 2;
+}
+
+static ordered_number list_segment_bold(const int64_t *in, int64_t *lent, size_t lent_len) {
+    return ordered_segment_ticks_bold(in[0], in[1], in[2], in[3], in[4], in[5], lent, lent_len);
+}
+
+static ordered_number list_segment_light(const int64_t *in, int64_t *lent, size_t lent_len) {
+    return ordered_segment_ticks_light(in[0], in[1], in[2], in[3], in[4], in[5], in[6], lent, lent_len);
+}
+
+static int call_segment_size(const int64_t *in, int64_t *out) {
+    return numbers_of(ordered_segment_size(in[0], in[1], in[2], in[3], in[4]), out);
+}
+
+static int call_segment_index_of(const int64_t *in, int64_t *out) {
+    return numbers_of(ordered_segment_index_of(in[0], in[1], in[2], in[3], in[4], in[5], in[6], in[7]), out);
+}
+
+static int call_segment_from_index(const int64_t *in, int64_t *out) {
+    ordered_segment r = ordered_segment_from_index(in[0], in[1], in[2], in[3], in[4], in[5]);
+    out[0] = r.status, out[1] = r.segment, out[2] = r.head, out[3] = r.tail;
+    return 4;
+}
+
 /* A new operation is one row, its calls above and its questions in questions.h. */
 static const struct row {
     const char *name;
@@ -142,7 +170,7 @@ static const struct row {
     fits *fits;    /* 10 too where this says no; NULL: all answers fit */
     int place;     /* at none the last number is this argument; 0: none is all zeros */
     exact *exact;
-    list_call *list; /* these two instead of call */
+    list_call *list; /* these two instead of call; no count: NULL */
     count_call *count;
 } rows[] = {
     {"day_number", 3, call_day_number, refuse_day_number, .none = 8},
@@ -158,6 +186,12 @@ static const struct row {
     {"next", 7, call_next, refuse_by_value, .none = -1, .panic = 10, .fits = day_answered},
     {"previous", 7, call_previous, refuse_by_value, .none = -1, .panic = 10, .fits = day_answered},
     {"values", 6, call_values, refuse_by_index, .none = -1, .panic = 10, .fits = day_answered, .place = 5},
+    {"segment_map", 10, call_segment_map, refuse_segment_map, .panic = 10, .fits = follower_mapped},
+    {"segment_ticks_bold", 6, NULL, refuse_segment_ticks_bold, .list = list_segment_bold},
+    {"segment_ticks_light", 7, NULL, refuse_segment_ticks_light, .exact = exact_light, .list = list_segment_light},
+    {"segment_size", 5, call_segment_size, refuse_size, .none = 0},
+    {"segment_index_of", 8, call_segment_index_of, refuse_by_segment, .none = -1},
+    {"segment_from_index", 6, call_segment_from_index, refuse_by_index, .none = -1, .panic = 10, .fits = segment_answered},
 };
 enum { ROWS = sizeof rows / sizeof rows[0] };
 
@@ -192,14 +226,15 @@ static int64_t pattern(size_t place) {
     return INT64_MIN + 7 * (int64_t)place;
 }
 
-/* One call each of list and count with a lent slice of this length; want is 0, the count and the list, or a refusal.
+/* One call each of list and count (where there is one) with a lent slice of this length; want is 0, the count and the list, or
+   a refusal.
    False: one of them says otherwise, or a number behind the list has changed; then got is what the archive said. */
 static bool same_list(const struct row *row, const int64_t *in, const int64_t *want, size_t lent_len, int64_t *got) {
     static int64_t lent[NUMBERS + 2 * BEHIND];
     size_t listed = want[0] ? 0 : 2 * (size_t)want[1], all = lent_len + BEHIND;
     for (size_t i = 0; i < all; i++)
         lent[i] = pattern(i);
-    ordered_number list = row->list(in, lent, lent_len), count = row->count(in, lent_len);
+    ordered_number list = row->list(in, lent, lent_len), count = row->count ? row->count(in, lent_len) : list;
     calls++;
     bool same = list.status == want[0] && list.value == want[1] && count.status == want[0] && count.value == want[1] &&
                 !memcmp(lent, want + 2, listed * sizeof lent[0]);
@@ -223,6 +258,8 @@ static bool same_lists(const struct row *row, const int64_t *in, const int64_t *
         if (!same_list(row, in, *lent_len < exact ? too_short : want, *lent_len, got))
             return false;
     }
+    if (!row->count)
+        return true;
     /* No number of a length is too large. */
     *lent_len = SIZE_MAX;
     ordered_number count = row->count(in, SIZE_MAX);
@@ -248,7 +285,7 @@ static bool replay(const char *request, const char *answer) {
     int64_t number = row->refusal(in);
     int exact_count = !number && row->exact ? row->exact(in, exact) : 0;
     int count = row->call ? row->call(in, got) : number ? 2 : exact_count ? exact_count : told_count;
-    bool known = true, unfit = !number && told_count && row->fits && !row->fits(in, told[1]);
+    bool known = true, unfit = !number && told_count && row->fits && !row->fits(in, told + 1);
     memset(want, 0, sizeof want[0] * (size_t)count);
     if (number)
         want[0] = number;

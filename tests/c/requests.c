@@ -442,18 +442,22 @@ static axis past_the_bound(axis a) {
     return a;
 }
 
-static void ticks_bold(void) {
-    int64_t kind = from(1, 7), n = hint_on(kind);
+static void print_bold(const char *name, int64_t kind) {
+    int64_t n = hint_on(kind);
     axis a = past_the_bound(axis_for(kind, kind, n));
-    printf("ticks_bold");
+    printf("%s", name);
     print_axis(a);
     print_hint(n);
     printf("\n");
 }
 
+static void ticks_bold(void) {
+    print_bold("ticks_bold", from(1, 7));
+}
+
 /* The bold count is often half the size, of the kind or of the months below it, or one off. */
-static void ticks_light(void) {
-    int64_t kind = from(1, 7), n = hint_on(kind), bold = hint_on(1), listed = kind;
+static void print_light(const char *name, int64_t kind) {
+    int64_t n = hint_on(kind), bold = hint_on(1), listed = kind;
     if (kind != 7)
         listed = ONE_OF(kind, kind <= 3 ? 1 : 4, kind <= 3 ? 1 : 4, kind <= 3 ? 2 : 5);
     axis a = past_the_bound(axis_for(kind, listed, n));
@@ -463,11 +467,15 @@ static void ticks_light(void) {
         int64_t size = size_of(chance(2) ? kind : kind <= 3 ? 2 : 5, ends);
         bold = (int64_t)clamp(0, (size + from(-2, 3)) / 2, 4096);
     }
-    printf("ticks_light");
+    printf("%s", name);
     print_axis(a);
     print_hint(bold);
     print_hint(n);
     printf("\n");
+}
+
+static void ticks_light(void) {
+    print_light("ticks_light", from(1, 7));
 }
 
 static void period(void) {
@@ -587,11 +595,15 @@ static void unmap(void) {
     printf("\n");
 }
 
-static void size(void) {
+static void print_by_axis(const char *name) {
     axis a = index_axis(index_kind());
-    printf("size");
+    printf("%s", name);
     print_axis(a);
     printf("\n");
+}
+
+static void size(void) {
+    print_by_axis("size");
 }
 
 static void print_by_value(const char *name) {
@@ -631,6 +643,111 @@ static void values(void) {
     print_by_index("values");
 }
 
+/* A segment and its value; beside a last one junk as often as a value. */
+static void print_segment(int64_t kind, wide place) {
+    int64_t segment = ONE_OF(1, 1, 2, 2, 2, 2, 3);
+    value junk = value_at(kind, place_on(kind, place));
+    if (chance(40)) /* question 8 */
+        segment = ONE_OF(0, -1, 4, -segment, segment + 256, segment + (INT64_C(1) << 32), INT64_MIN, INT64_MAX);
+    printf(" %" PRId64, segment);
+    if (segment == 3 && chance(2)) {
+        junk = spoilt(kind, junk);
+        printf(" %" PRId64 " %" PRId64, junk.head, junk.tail);
+    } else {
+        print_value(kind, place);
+    }
+}
+
+/* Limits that part the size by halves, which are rounded away from zero, and their neighbours; swapped ones too. */
+static void limits_by_halves(int64_t size, int64_t *low, int64_t *high) {
+    int64_t half = (size + 1) / 2;
+    if (size < 1 || half > 65534)
+        return;
+    int64_t width = size * from(0, (65534 - half) / size) + half;
+    width = (int64_t)clamp(0, width + ONE_OF(0, 0, 0, 1, -1), 65534);
+    limits_with(width * ONE_OF(1, 1, -1), low, high);
+}
+
+/* A mapping near an end of i32, with low, half of the margin, or both added to it. */
+static axis far_segment(int64_t kind, int64_t *low, int64_t *high, wide *place) {
+    axis a = axis_with(kind, kind <= 3 ? (wide)from(1, 60) * DAY : 1 + any_size((wide)1000 * DAY));
+    int64_t size = axis_size(a), width = ONE_OF(1, 1, -1), way = ONE_OF(1, -1), step = ONE_OF(0, 1, -1, 2, -2, 40000 * way);
+    width *= from(1000, 65534);
+    limits_with(width, low, high);
+    int64_t margin = size ? (2 * (width < 0 ? -width : width) + size) / (2 * size) : 0;
+    margin *= width < 0 ? -1 : 1;
+    wide pixel = (INT64_C(1) << 31) * way - ONE_OF(0, *low, margin / 2, *low + margin / 2) + step;
+    *place = a.start + (width == margin ? pixel : pixel * (a.end - a.start) / (width - margin));
+    *place += kind <= 3 ? DAY * ONE_OF(0, 1, -1) : ONE_OF(0, 1, -1);
+    return a;
+}
+
+/* A sum near an end of i32, kinds 2 and 5: two days of two months, and a centre in the first one of a year long before, which
+   has the second as its follower. */
+static axis far_sum(int64_t kind, int64_t *low, int64_t *high, wide *place) {
+    int64_t years = from(200, 9998), month = from(12 * years, 119986), way = ONE_OF(1, -1);
+    int64_t start = first_of_month(month + 1) - 1, before = first_of_month(month - 12 * years) + from(0, 27);
+    int64_t margin = ((INT64_C(1) << 31) - from(32700, 65534)) / (start - before);
+    *low = -32767 * way, *high = *low + 2 * margin * way;
+    *place = (wide)before * DAY;
+    return (axis){kind, (wide)start * DAY, (wide)(start + 1) * DAY};
+}
+
+static void segment_map(void) {
+    int64_t kind = index_kind(), low = limit(), high = chance(30) ? low : limit();
+    axis a = index_axis(kind);
+    if (chance(8)) /* often a size of 1 */
+        a = axis_with(kind, (wide)from(0, 3) * DAY);
+    wide place = value_near(a);
+    switch (draw() % 8) {
+    case 0:
+    case 1:
+    case 2: limits_by_halves(axis_size(a), &low, &high); break;
+    case 3:
+        if ((kind == 2 || kind == 5) && chance(3))
+            a = far_sum(kind, &low, &high, &place);
+        else if (kind != 4 && kind != 7)
+            a = far_segment(kind, &low, &high, &place);
+        break;
+    default: break;
+    }
+    if (chance(30)) { /* question 9, unless the place is the start */
+        a.end = a.start;
+        place = chance(2) ? a.start : place;
+    }
+    printf("segment_map");
+    print_axis(a);
+    print_limit(low);
+    print_limit(high);
+    print_segment(kind, place);
+    printf("\n");
+}
+
+static void segment_ticks_bold(void) {
+    print_bold("segment_ticks_bold", index_kind());
+}
+
+static void segment_ticks_light(void) {
+    print_light("segment_ticks_light", index_kind());
+}
+
+static void segment_size(void) {
+    print_by_axis("segment_size");
+}
+
+static void segment_index_of(void) {
+    axis a = index_axis(index_kind());
+    wide place = value_near(a);
+    printf("segment_index_of");
+    print_axis(a);
+    print_segment(a.kind, place);
+    printf("\n");
+}
+
+static void segment_from_index(void) {
+    print_by_index("segment_from_index");
+}
+
 /* A new operation is one function above and one row. */
 static const struct operation {
     const char *name;
@@ -647,6 +764,12 @@ static const struct operation {
     {"next", next},
     {"previous", previous},
     {"values", values},
+    {"segment_map", segment_map},
+    {"segment_ticks_bold", segment_ticks_bold},
+    {"segment_ticks_light", segment_ticks_light},
+    {"segment_size", segment_size},
+    {"segment_index_of", segment_index_of},
+    {"segment_from_index", segment_from_index},
 };
 enum { OPERATIONS = sizeof operations / sizeof operations[0] };
 

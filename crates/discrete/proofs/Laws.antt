@@ -1,8 +1,8 @@
 -- What users lean on: the index of the value of an index, next and previous, each of the other, and the walk of the
 -- cursor. All of them are said of what calls answer. Assumes nothing.
-use mathlib.Core.Path.{_≡_, refl, sym, ap, _∙_}
+use mathlib.Core.Path.{_≡_, refl, sym, ap, subst, _∙_}
 use mathlib.Core.Bool.{Bool, true, false, cond, _&&_, true≢false}
-use mathlib.Core.List.{List, _∷_}
+use mathlib.Core.List.{List, [], _∷_}
 use Prim.Native.Nat.{ℕ, zero, suc, _+_, _-_, _≤_, _<_}
 use native.Mathlib.Omega.{arith}
 use lib.Dec.{ltb, leb}
@@ -23,7 +23,7 @@ use Rattle.axis.proofs.Questions.{index-range}
 use Rattle.discrete.specs.declared.NumberAnswer.the-variants as number
 use Rattle.discrete.specs.declared.ValueAnswer.the-variants as value
 use Rattle.discrete.specs.declared.StepAnswer.the-variants as step
-use Rattle.discrete.specs.Counting.{monthly, yearly, firstDay, origin, position, sizeOf, hasPlace, placeOf, midnight, valueAt}
+use Rattle.discrete.specs.Counting.{Counted, monthly, yearly, firstDay, origin, position, sizeOf, hasPlace, placeOf, midnight, valueAt}
 use Rattle.discrete.specs.Answers.{sizeQuestions, valueQuestions, placeQuestions, numberAnswer, checked, indexIn, nextIn, previousIn, valueIn, stepped, sizeAnswer, indexAnswer, fromIndexAnswer, nextAnswer, previousAnswer, valuesAnswer}
 use Rattle.discrete.specs.Walking.{at, onward, walk, valuesFrom, Inside}
 use Rattle.discrete.proofs.Counting.{size-most, place-most, value-months, value-days, month-first, origin-days, position-days, on-day, is-day}
@@ -37,7 +37,7 @@ one-value v w e = cc
 one-number : (m n : ℕ) → number.Is m ≡ number.Is n → m ≡ n
 one-number m n e = cc
 
-index-in : (a : Axis) (v : Value) (i : ℕ) → indexIn a v ≡ number.Is i → (origin a ≤ position a v) × (position a v - origin a ≡ i)
+pub index-in : (a : Axis) (v : Value) (i : ℕ) → indexIn a v ≡ number.Is i → (origin a ≤ position a v) × (position a v - origin a ≡ i)
 unfolding indexIn hasPlace placeOf
 index-in a v i e = go (leb (origin a) (position a v)) (leb-true (origin a) (position a v)) e
   where
@@ -53,6 +53,13 @@ next-in a v w e = go (leb (origin a) (position a v)) (ltb (position a v - origin
     go true true h e = (h refl, one-value (valueAt a (position a v - origin a + 1)) w e)
     go true false h e = let z : _≡_ {A = ℕ} 0 1 = cc in absurd (let x : ⊥ = omega arith in x)
     go false t h e = let z : _≡_ {A = ℕ} 0 1 = cc in absurd (let x : ⊥ = omega arith in x)
+
+-- a next value is one of the kind
+pub next-on : (a : Axis) (v w : Value) → Counted a → checked (nextIn a v) ≡ value.At w → valueOn a w ≡ true
+next-on a v w c e =
+    let (r, (f, d)) = answered [] (nextIn a v) w (passed [] (nextIn a v) refl ∙ e) in
+    let (l, g) = next-in a v w f in
+    subst (λ (u : Value). valueOn a u ≡ true) g (of-kind a c (position a v - origin a + 1) (rw g d))
 
 previous-in : (a : Axis) (v w : Value) → previousIn a v ≡ value.At w → (0 < position a v - origin a) × (valueAt a (position a v - origin a - 1) ≡ w)
 unfolding previousIn hasPlace placeOf

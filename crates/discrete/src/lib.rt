@@ -238,7 +238,7 @@ pub fn value_at(a: Axis, i: u64) -> ValueAnswer
 }
 
 // The value of the next index, where that is below the size.
-fn next_in(a: Axis, v: Value) -> ValueAnswer
+pub fn next_in(a: Axis, v: Value) -> ValueAnswer
     requires { ⌜ Counted a × (valueOn a v ≡ true) ⌝ }
     ensures { λ r. ⌜ r ≡ checked (nextIn a v) ⌝ }
 {
@@ -308,7 +308,7 @@ fn unmap_in(a: Axis, l: Limits, p: i64) -> ValueAnswer
 }
 
 // The questions, one line for each.
-fn size_refusal(a: Axis) -> u8
+pub fn size_refusal(a: Axis) -> u8
     ensures { λ r. ⌜ r ≡ firstNo (sizeQuestions a) ⌝ }
 {
     axis::plain_refusal(a, axis::has_index(a))
@@ -321,7 +321,7 @@ fn value_refusal(a: Axis, v: Value) -> u8
     axis::ask(q, 8, axis::value_on(a, v))
 }
 
-fn place_refusal(a: Axis, i: i64) -> u8
+pub fn place_refusal(a: Axis, i: i64) -> u8
     ensures { λ r. ⌜ r ≡ firstNo (placeQuestions a i) ⌝ }
 {
     let q = axis::plain_refusal(a, axis::has_index(a));

@@ -177,10 +177,10 @@ upward-le a b B = le-of-suc-le-suc (div-lt-iff-lt-mul B .1 (go (mul-le-mul-left 
     go : a * 1 ≤ a * b → a + (b - 1) < suc a * b
     go h = omega arith
 
-pub halfUp-le : (a b : ℕ) → 0 < b → halfUp a b ≤ a + 1
+pub halfUp-le : (a b : ℕ) → 0 < b → halfUp a b ≤ a
 halfUp-le a b B = le-of-suc-le-suc (div-lt-iff-lt-mul (mul-pos (lit< tt) B) .1 (go (mul-le-mul-left a B)))
   where
-    go : a * 1 ≤ a * b → 2 * a + b < suc (a + 1) * (2 * b)
+    go : a * 1 ≤ a * b → 2 * a + b < suc a * (2 * b)
     go h = omega arith
 
 -- ---- floor and ceil as usize
@@ -212,7 +212,7 @@ module _ (f : Format) (s : Bool) (a b : ℕ) (B : 0 < b) (b-small : b ≤ 2 ^ 10
     fewer : halfUp a b < 2 ^ prec f
     fewer = go (2 ^ prec f) (halfUp a b) (pow-mono (two f)) (halfUp-le a b B) half
       where
-        go : (P k : ℕ) → 4 ≤ P → k ≤ a + 1 → a * 2 < P → k < P
+        go : (P k : ℕ) → 4 ≤ P → k ≤ a → a * 2 < P → k < P
         go P k p q r = omega arith
 
     pub round-cut : toUnsigned 64 (roundF f (round f s a b)) ≡ cond s 0 (halfUp a b)

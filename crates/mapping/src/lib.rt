@@ -98,7 +98,7 @@ fn refusal(a: Axis, l: Limits, v: Value) -> u8
 }
 
 // The pixel of a value, by its kind's mapping.
-fn pixel_of(a: Axis, l: Limits, v: Value) -> i64
+pub fn pixel_of(a: Axis, l: Limits, v: Value) -> i64
     requires { ⌜ (ends a ≡ true) × (pixels l ≡ true) × (valueOn a v ≡ true) ⌝ }
     ensures { λ r. ⌜ r ≡ placed a l v ⌝ }
 {

@@ -19,6 +19,9 @@ use Rattle.discrete.specs.declared.NumberAnswer.{NumberAnswer}
 use Rattle.discrete.specs.declared.NumberAnswer.the-variants as number
 use Rattle.discrete.specs.Answers.{sizeAnswer, indexAnswer}
 use Rattle.discrete.proofs.Laws.{size-range, index-most}
+use Rattle.segmented.specs.declared.Segment.{Segment}
+use Rattle.segmented.specs.Answers.{segmentKindQuestions, ticksAsked, segmentTicksAnswer, segmentSizeAnswer, segmentIndexAnswer}
+use Rattle.segmented.proofs.Answers.{segment-size-range, segment-index-range}
 use Rattle.ordered.specs.Replies.{numberIn}
 use Rattle.ticks.specs.Hints.{Hint, planFor}
 use Rattle.ticks.specs.declared.PeriodAnswer.the-variants as period
@@ -37,6 +40,14 @@ answer-most a h k l = go (firstNo (tickQuestions a h)) (planFor a h)
     go zero s = room-most (leb (2 * s .count) k) (s .count) k l (leb-true (2 * s .count) k)
     go (suc q) s = omega arith
 
+pub segment-answer-most : (a : Axis) (h : Hint) (k : ℕ) → k < 2 ^ 64 → countOf (segmentTicksAnswer a h k) < 2 ^ 63
+unfolding segmentTicksAnswer
+segment-answer-most a h k l = go (firstNo (segmentKindQuestions a))
+  where
+    go : (q : ℕ) → countOf (ticksAsked q (ticksAnswer a h k)) < 2 ^ 63
+    go zero = answer-most a h k l
+    go (suc q) = omega arith
+
 -- ---- a period
 is-most : (q p k : ℕ) → (q ≡ 0 → 0 < p → p < 2 ^ 63) → periodReply q p ≡ period.Is k → k < 2 ^ 63
 is-most zero p k h e = go (ltb 0 p) (ltb-true 0 p) e
@@ -54,13 +65,19 @@ period-most a h k e = is-most (firstNo (periodQuestions a h)) (periodIn a (up (h
     small z l = let (q, k, d) = period-accepted a h z in timed a (up (h .n)) q (period-some a (up (h .n)) q k) l .small
 
 -- ---- a size, an index
-number-fits : (x : NumberAnswer) → ((n : ℕ) → x ≡ number.Is n → n ≤ 3652059) → numberIn x < 2 ^ 63
+number-fits : (x : NumberAnswer) → ((n : ℕ) → x ≡ number.Is n → n ≤ 3652060) → numberIn x < 2 ^ 63
 number-fits (number.Is n) h = omega (arith, h n refl)
 number-fits number.None h = omega arith
 number-fits (number.Refused q) h = omega arith
 
 pub size-fits : (a : Axis) → numberIn (sizeAnswer a) < 2 ^ 63
-size-fits a = number-fits (sizeAnswer a) (size-range a)
+size-fits a = number-fits (sizeAnswer a) (λ n e. omega (arith, size-range a n e))
 
 pub index-fits : (a : Axis) (v : Value) → numberIn (indexAnswer a v) < 2 ^ 63
 index-fits a v = number-fits (indexAnswer a v) (λ n e. omega (arith, index-most a v n e))
+
+pub segment-size-fits : (a : Axis) → numberIn (segmentSizeAnswer a) < 2 ^ 63
+segment-size-fits a = number-fits (segmentSizeAnswer a) (segment-size-range a)
+
+pub segment-index-fits : (a : Axis) (s : Segment) → numberIn (segmentIndexAnswer a s) < 2 ^ 63
+segment-index-fits a s = number-fits (segmentIndexAnswer a s) (λ n e. omega (arith, segment-index-range a s n e))

@@ -18,6 +18,10 @@ use Rattle.discrete.specs.declared.ValueAnswer.{ValueAnswer}
 use Rattle.discrete.specs.declared.ValueAnswer.the-variants as value
 use Rattle.discrete.specs.declared.StepAnswer.{StepAnswer}
 use Rattle.discrete.specs.declared.StepAnswer.the-variants as step
+use Rattle.segmented.specs.declared.SegmentValue.the-variants.{Exact, CenterOf, Last}
+use Rattle.segmented.specs.declared.SegmentAnswer.{SegmentAnswer}
+use Rattle.segmented.specs.declared.SegmentAnswer.the-variants as segment
+use Rattle.ordered.specs.declared.OrderedSegment.{OrderedSegment}
 use Rattle.ordered.specs.declared.OrderedValue.{OrderedValue}
 use Rattle.ordered.specs.declared.OrderedStep.{OrderedStep}
 use Rattle.ordered.specs.declared.OrderedPeriod.{OrderedPeriod}
@@ -67,3 +71,11 @@ abbrev pub stepReply : StepAnswer → OrderedStep
 stepReply (step.At v c) = record { status = pos 0; head = v .head; tail = v .tail; next = c .place }
 stepReply (step.None c) = record { status = negsuc 0; head = pos 0; tail = pos 0; next = c .place }
 stepReply (step.Refused q) = record { status = pos q; head = pos 0; tail = pos 0; next = pos 0 }
+
+-- 1 exact, 2 centre, 3 last
+abbrev pub segmentReply : SegmentAnswer → OrderedSegment
+segmentReply (segment.At (Exact v)) = record { status = pos 0; segment = pos 1; head = v .head; tail = v .tail }
+segmentReply (segment.At (CenterOf v)) = record { status = pos 0; segment = pos 2; head = v .head; tail = v .tail }
+segmentReply (segment.At Last) = record { status = pos 0; segment = pos 3; head = pos 0; tail = pos 0 }
+segmentReply segment.None = record { status = negsuc 0; segment = pos 0; head = pos 0; tail = pos 0 }
+segmentReply (segment.Refused q) = record { status = pos q; segment = pos 0; head = pos 0; tail = pos 0 }

@@ -12,6 +12,9 @@ use discrete::NumberAnswer;
 use discrete::StepAnswer;
 use discrete::ValueAnswer;
 use mapping::Pixel;
+use segmented::Segment;
+use segmented::SegmentAnswer;
+use segmented::SegmentValue;
 use steps::Listed;
 use ticks::PeriodAnswer;
 use values::Value;
@@ -21,10 +24,12 @@ ghost use Prim.Native.Nat.{_^_, _<_};
 ghost use lib.ListN.{length};
 ghost use Rattle.discrete.specs.Answers.{sizeAnswer, indexAnswer, fromIndexAnswer, nextAnswer, previousAnswer, valuesAnswer, unmapAnswer};
 ghost use Rattle.mapping.specs.Mapping.{mapped};
+ghost use Rattle.segmented.specs.declared.SegmentAnswer.the-variants as answer;
+ghost use Rattle.segmented.specs.Answers.{segmentMapAnswer, segmentTicksAnswer, segmentTicksWritten, segmentSizeAnswer, segmentIndexAnswer, segmentFromAnswer};
 ghost use Rattle.steps.specs.Listing.{countOf};
 ghost use Rattle.ticks.specs.Hints.{bold, light};
 ghost use Rattle.ticks.specs.Answers.{ticksAnswer, ticksWritten, periodAnswer};
-ghost use Rattle.ordered.specs.Replies.{dayReply, dateReply, pixelReply, countReply, periodReply, numberIn, numberReply, valueReply, stepReply};
+ghost use Rattle.ordered.specs.Replies.{dayReply, dateReply, pixelReply, countReply, periodReply, numberIn, numberReply, valueReply, stepReply, segmentReply};
 
 // A day number, count, size or index.
 #[repr(C)]
@@ -59,6 +64,15 @@ pub struct OrderedStep {
     pub head: i64,
     pub tail: i64,
     pub next: i64,
+}
+
+// A segment value: 1 exact, 2 centre, 3 last.
+#[repr(C)]
+pub struct OrderedSegment {
+    pub status: i64,
+    pub segment: i64,
+    pub head: i64,
+    pub tail: i64,
 }
 
 #[repr(C)]
@@ -110,6 +124,21 @@ pub extern "C" fn ordered_date_of(day_number: i64) -> OrderedDate
     }
 }
 
+fn placed(a: Pixel) -> OrderedPixel
+    ensures { λ r. ⌜ r ≡ pixelReply a ⌝ }
+{
+    match a {
+        Pixel::At(p) => OrderedPixel {
+            status: 0,
+            pixel: p,
+        },
+        Pixel::Refused(q) => OrderedPixel {
+            status: q as i64,
+            pixel: 0,
+        },
+    }
+}
+
 #[no_mangle]
 pub extern "C" fn ordered_map(
     kind: i64,
@@ -139,16 +168,7 @@ pub extern "C" fn ordered_map(
         head: head,
         tail: tail,
     };
-    match mapping::map(a, l, v) {
-        Pixel::At(p) => OrderedPixel {
-            status: 0,
-            pixel: p,
-        },
-        Pixel::Refused(q) => OrderedPixel {
-            status: q as i64,
-            pixel: 0,
-        },
-    }
+    placed(mapping::map(a, l, v))
 }
 
 fn counted(a: Listed) -> OrderedNumber
@@ -529,4 +549,199 @@ pub extern "C" fn ordered_values(
     };
     let c = Cursor { place: place };
     stepped(discrete::values(a, c))
+}
+
+#[no_mangle]
+pub extern "C" fn ordered_segment_map(
+    kind: i64,
+    start_head: i64,
+    start_tail: i64,
+    end_head: i64,
+    end_tail: i64,
+    low: i64,
+    high: i64,
+    segment: i64,
+    head: i64,
+    tail: i64,
+) -> OrderedPixel
+    ensures { λ r. ⌜ r ≡ pixelReply (segmentMapAnswer (record { kind = kind; «start_head» = «start_head»; «start_tail» = «start_tail»; «end_head» = «end_head»; «end_tail» = «end_tail» }) (record { low = low; high = high }) (record { case = segment; head = head; tail = tail })) ⌝ }
+{
+    let a = Axis {
+        kind: kind,
+        start_head: start_head,
+        start_tail: start_tail,
+        end_head: end_head,
+        end_tail: end_tail,
+    };
+    let l = Limits {
+        low: low,
+        high: high,
+    };
+    let s = Segment {
+        case: segment,
+        head: head,
+        tail: tail,
+    };
+    placed(segmented::map(a, l, s))
+}
+
+#[no_mangle]
+pub extern "C" fn ordered_segment_ticks_bold(
+    kind: i64,
+    start_head: i64,
+    start_tail: i64,
+    end_head: i64,
+    end_tail: i64,
+    n: i64,
+    lent: &mut [i64],
+) -> OrderedNumber
+    ensures { λ r. ⌜ (r ≡ countReply (segmentTicksAnswer (record { kind = kind; «start_head» = «start_head»; «start_tail» = «start_tail»; «end_head» = «end_head»; «end_tail» = «end_tail» }) (bold (record { n = n })) (length (now (lent .entry))))) × (now (lent .exit) ≡ segmentTicksWritten (record { kind = kind; «start_head» = «start_head»; «start_tail» = «start_tail»; «end_head» = «end_head»; «end_tail» = «end_tail» }) (bold (record { n = n })) (now (lent .entry))) ⌝ }
+{
+    let a = Axis {
+        kind: kind,
+        start_head: start_head,
+        start_tail: start_tail,
+        end_head: end_head,
+        end_tail: end_tail,
+    };
+    let h = BoldPoints { n: n };
+    counted(segmented::list_bold(a, h, lent))
+}
+
+#[no_mangle]
+pub extern "C" fn ordered_segment_ticks_light(
+    kind: i64,
+    start_head: i64,
+    start_tail: i64,
+    end_head: i64,
+    end_tail: i64,
+    bold: i64,
+    n: i64,
+    lent: &mut [i64],
+) -> OrderedNumber
+    ensures { λ r. ⌜ (r ≡ countReply (segmentTicksAnswer (record { kind = kind; «start_head» = «start_head»; «start_tail» = «start_tail»; «end_head» = «end_head»; «end_tail» = «end_tail» }) (light (record { bold = bold; n = n })) (length (now (lent .entry))))) × (now (lent .exit) ≡ segmentTicksWritten (record { kind = kind; «start_head» = «start_head»; «start_tail» = «start_tail»; «end_head» = «end_head»; «end_tail» = «end_tail» }) (light (record { bold = bold; n = n })) (now (lent .entry))) ⌝ }
+{
+    let a = Axis {
+        kind: kind,
+        start_head: start_head,
+        start_tail: start_tail,
+        end_head: end_head,
+        end_tail: end_tail,
+    };
+    let h = LightPoints { bold: bold, n: n };
+    counted(segmented::list_light(a, h, lent))
+}
+
+#[no_mangle]
+pub extern "C" fn ordered_segment_size(
+    kind: i64,
+    start_head: i64,
+    start_tail: i64,
+    end_head: i64,
+    end_tail: i64,
+) -> OrderedNumber
+    ensures { λ r. ⌜ r ≡ numberReply (segmentSizeAnswer (record { kind = kind; «start_head» = «start_head»; «start_tail» = «start_tail»; «end_head» = «end_head»; «end_tail» = «end_tail» })) ⌝ }
+{
+    let a = Axis {
+        kind: kind,
+        start_head: start_head,
+        start_tail: start_tail,
+        end_head: end_head,
+        end_tail: end_tail,
+    };
+    numbered(segmented::size(a))
+}
+
+#[no_mangle]
+pub extern "C" fn ordered_segment_index_of(
+    kind: i64,
+    start_head: i64,
+    start_tail: i64,
+    end_head: i64,
+    end_tail: i64,
+    segment: i64,
+    head: i64,
+    tail: i64,
+) -> OrderedNumber
+    ensures { λ r. ⌜ r ≡ numberReply (segmentIndexAnswer (record { kind = kind; «start_head» = «start_head»; «start_tail» = «start_tail»; «end_head» = «end_head»; «end_tail» = «end_tail» }) (record { case = segment; head = head; tail = tail })) ⌝ }
+{
+    let a = Axis {
+        kind: kind,
+        start_head: start_head,
+        start_tail: start_tail,
+        end_head: end_head,
+        end_tail: end_tail,
+    };
+    let s = Segment {
+        case: segment,
+        head: head,
+        tail: tail,
+    };
+    numbered(segmented::index_of(a, s))
+}
+
+fn segment_at(v: SegmentValue) -> OrderedSegment
+    ensures { λ r. ⌜ r ≡ segmentReply (answer.At v) ⌝ }
+{
+    match v {
+        SegmentValue::Exact(w) => OrderedSegment {
+            status: 0,
+            segment: 1,
+            head: w.head,
+            tail: w.tail,
+        },
+        SegmentValue::CenterOf(w) => OrderedSegment {
+            status: 0,
+            segment: 2,
+            head: w.head,
+            tail: w.tail,
+        },
+        SegmentValue::Last => OrderedSegment {
+            status: 0,
+            segment: 3,
+            head: 0,
+            tail: 0,
+        },
+    }
+}
+
+fn segmented_by(a: SegmentAnswer) -> OrderedSegment
+    ensures { λ r. ⌜ r ≡ segmentReply a ⌝ }
+{
+    match a {
+        SegmentAnswer::At(v) => segment_at(v),
+        SegmentAnswer::None => OrderedSegment {
+            status: -1,
+            segment: 0,
+            head: 0,
+            tail: 0,
+        },
+        SegmentAnswer::Refused(q) => OrderedSegment {
+            status: q as i64,
+            segment: 0,
+            head: 0,
+            tail: 0,
+        },
+    }
+}
+
+#[no_mangle]
+pub extern "C" fn ordered_segment_from_index(
+    kind: i64,
+    start_head: i64,
+    start_tail: i64,
+    end_head: i64,
+    end_tail: i64,
+    index: i64,
+) -> OrderedSegment
+    ensures { λ r. ⌜ r ≡ segmentReply (segmentFromAnswer (record { kind = kind; «start_head» = «start_head»; «start_tail» = «start_tail»; «end_head» = «end_head»; «end_tail» = «end_tail» }) index) ⌝ }
+{
+    let a = Axis {
+        kind: kind,
+        start_head: start_head,
+        start_tail: start_tail,
+        end_head: end_head,
+        end_tail: end_tail,
+    };
+    segmented_by(segmented::from_index(a, index))
 }

@@ -1,0 +1,35 @@
+-- `ordered::placed` meets its contract: each number, read back from its bits, is itself. Assumes nothing.
+use borrow.Author.Needs.{needs}
+use mathlib.Core.Path.{_∙_, sym, ap}
+use native.Mathlib.Omega.{arith}
+use lib.IntN.{ℤ, pos}
+use mir.Syntax.{w64}
+use mir.Val.{SFits}
+use mir.Facts.{toZ-ofZ}
+use Rattle.laws.proofs.Signed.{read-count}
+use Rattle.ordered.specs.Replies.{pixelReply}
+use Rattle.ordered.proofs.placed.Statement.{statement}
+use Rattle.ordered.proofs.placed.Tie as tie
+
+enum-known-a : tie.Need-enum-known-a
+enum-known-a c = search needs
+
+enum-known-a-2 : tie.Need-enum-known-a-2
+enum-known-a-2 c = search needs
+
+cast-t5 : tie.Need-cast-t5
+cast-t5 c = search needs
+
+returns : tie.Need-returns
+returns c =
+    let g = c .before .a .given in
+    let p-fits : SFits w64 (g .0 .0) = search needs in
+    rw (toZ-ofZ p-fits) (ap pixelReply (sym (g .1)))
+
+returns-2 : tie.Need-returns-2
+returns-2 c =
+    let g = c .before .a2 .given in
+    ap (λ (z : ℤ). record { status = z; pixel = pos 0 }) (read-count (g .0 .0) (omega arith)) ∙ ap pixelReply (sym (g .1))
+
+pub placed-spec : {M : Type 1} → statement M
+placed-spec = tie.close (tie.spec enum-known-a enum-known-a-2 cast-t5 returns returns-2)

@@ -1,0 +1,41 @@
+-- `ordered::segment_at` meets its contract: each number, read back from its bits, is itself. Assumes nothing.
+use borrow.Author.Needs.{needs}
+use mathlib.Core.Path.{sym, ap}
+use mir.Syntax.{w64}
+use mir.Val.{SFits}
+use mir.Facts.{toZ-ofZ}
+use Rattle.segmented.specs.declared.SegmentValue.{SegmentValue}
+use Rattle.segmented.specs.declared.SegmentAnswer.the-variants as segment
+use Rattle.ordered.specs.Replies.{segmentReply}
+use Rattle.ordered.proofs.segment_at.Statement.{statement}
+use Rattle.ordered.proofs.segment_at.Tie as tie
+
+enum-known-v : tie.Need-enum-known-v
+enum-known-v c = search needs
+
+enum-known-v-2 : tie.Need-enum-known-v-2
+enum-known-v-2 c = search needs
+
+enum-told : tie.Need-enum-told
+enum-told c = search needs
+
+returns : tie.Need-returns
+returns c =
+    let g = c .before .before .v .given in
+    let head-fits : SFits w64 (g .0 .0 .head) = search needs in
+    let tail-fits : SFits w64 (g .0 .0 .tail) = search needs in
+    rw (toZ-ofZ head-fits, toZ-ofZ tail-fits) (ap (λ (v : SegmentValue). segmentReply (segment.At v)) (sym (g .1)))
+
+returns-2 : tie.Need-returns-2
+returns-2 c =
+    let g = c .before .before .v2 .given in
+    let head-fits : SFits w64 (g .0 .0 .head) = search needs in
+    let tail-fits : SFits w64 (g .0 .0 .tail) = search needs in
+    rw (toZ-ofZ head-fits, toZ-ofZ tail-fits) (ap (λ (v : SegmentValue). segmentReply (segment.At v)) (sym (g .1)))
+
+returns-3 : tie.Need-returns-3
+returns-3 c = ap (λ (v : SegmentValue). segmentReply (segment.At v)) (sym (c .enum-told .given .1))
+
+pub segment-at-spec : {M : Type 1} → statement M
+segment-at-spec =
+    tie.close (tie.spec enum-known-v enum-known-v-2 enum-told returns returns-2 returns-3)

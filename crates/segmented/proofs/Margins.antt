@@ -1,0 +1,82 @@
+-- The margin as whole-number work. It goes no further than the width, so the inner limits are pixels too. Assumes nothing.
+use mathlib.Core.Path.{_≡_, refl, _∙_, ap}
+use mathlib.Core.Logic.{inl, inr}
+use mathlib.Core.Bool.{true, _&&_}
+use Prim.Native.Nat.{ℕ, _+_, _≤_, _<_}
+use native.Mathlib.Omega.{arith}
+use lib.IntN.{ℤ, pos, negsuc, _-ℤ_, natAbs}
+use lib.Signed.{leZ}
+use lib.Ieee.{binary32}
+use mir.Syntax.{w64}
+use mir.Val.{SFits}
+use Rattle.laws.specs.Numbers.{up, dn}
+use Rattle.laws.proofs.Signed.{sub, fits, neg-up, neg-dn, one-is-zero}
+use Rattle.floats.specs.Rounding.{withSign, halfUp}
+use Rattle.floats.proofs.Values.{below-zero}
+use Rattle.floats.proofs.Quotients.{halfUp-le, ratio-round}
+use Rattle.values.proofs.Numbers.{is-le}
+use Rattle.axis.specs.declared.Axis.{Axis}
+use Rattle.axis.specs.declared.Limits.{Limits}
+use Rattle.axis.specs.Questions.{isPixel, pixels}
+use Rattle.axis.proofs.Questions.{pixel-range}
+use Rattle.axis.proofs.PixelRanges.{limits-are, between-few}
+use Rattle.discrete.specs.Counting.{Counted, sizeOf}
+use Rattle.discrete.proofs.Counting.{size-most}
+use Rattle.segmented.specs.Segments.{marginOf, inner}
+
+-- no further than W, and to its side
+no-further : (W : ℤ) (n : ℕ) → n ≤ natAbs W → (up (withSign (below-zero W) n) ≤ up W) × (dn (withSign (below-zero W) n) ≤ dn W)
+no-further (pos w) n h = (h, omega arith)
+no-further (negsuc w) n h = (omega (arith, neg-up (pos n)), omega (arith, neg-dn (pos n)))
+
+is-pixel : (p : ℤ) → up p ≤ 32767 + dn p → dn p ≤ 32767 + up p → isPixel p ≡ true
+is-pixel p a b = rw (is-le (negsuc 32766) p (omega arith), is-le p (pos 32767) (omega arith))
+
+-- from high back by m, which goes no further than to low
+module _ (low high m : ℤ) (p : isPixel low ≡ true) (q : isPixel high ≡ true) (u : up m ≤ up (high -ℤ low)) (d : dn m ≤ dn (high -ℤ low)) where
+  back-range : (up (high -ℤ m) ≤ 32767 + dn (high -ℤ m)) × (dn (high -ℤ m) ≤ 32767 + up (high -ℤ m))
+  back-range =
+      let (a, b) = pixel-range low p in
+      let (x, y) = pixel-range high q in
+      elim (one-is-zero (high -ℤ low)) [
+        | inl z ↦ (omega (arith, sub high m, sub high low), omega (arith, sub high m, sub high low))
+        | inr z ↦ (omega (arith, sub high m, sub high low), omega (arith, sub high m, sub high low))
+      ]
+
+module _ (a : Axis) (l : Limits) (k : Counted a) (p : pixels l ≡ true) (s : 0 < sizeOf a) where
+  abbrev width : ℤ
+  width = l .high -ℤ l .low
+
+  abbrev pub whole : ℕ
+  whole = halfUp (natAbs width) (sizeOf a)
+
+  pub width-few : natAbs width ≤ 65534
+  width-few = let (x, y) = limits-are l p in between-few (l .high) (l .low) y x
+
+  pub margin-few : whole ≤ 65534
+  margin-few = omega (arith, halfUp-le (natAbs width) (sizeOf a) s, width-few)
+
+  pub margin-is : marginOf a l ≡ withSign (below-zero width) whole
+  unfolding marginOf
+  margin-is = ratio-round binary32 width (sizeOf a) 31 (omega (arith, width-few)) s (omega (arith, size-most a k)) (omega (arith, margin-few))
+
+  back : (up (l .high -ℤ marginOf a l) ≤ 32767 + dn (l .high -ℤ marginOf a l)) × (dn (l .high -ℤ marginOf a l) ≤ 32767 + up (l .high -ℤ marginOf a l))
+  back =
+      let (x, y) = limits-are l p in
+      let (u, d) = no-further width whole (halfUp-le (natAbs width) (sizeOf a) s) in
+      rw margin-is (back-range (l .low) (l .high) (withSign (below-zero width) whole) x y u d)
+
+  pub inner-fits : SFits w64 (l .high -ℤ marginOf a l)
+  inner-fits =
+      let z = l .high -ℤ marginOf a l in
+      let (u, d) = back in
+      fits z (up z) (dn z) refl (omega arith) (omega arith)
+
+  pub inner-pixels : pixels (inner a l) ≡ true
+  unfolding pixels inner
+  inner-pixels =
+      let z = l .high -ℤ marginOf a l in
+      let (x, y) = limits-are l p in
+      let (u, d) = back in
+      let e : isPixel z ≡ true = is-pixel z u d in
+      rw (x, e)

@@ -1,0 +1,61 @@
+-- `segmented::from_index` meets its contract. Assumes nothing.
+use borrow.Author.Needs.{needs}
+use mathlib.Core.Path.{_≡_, sym, _∙_, ap}
+use native.Mathlib.Omega.{arith}
+use Prim.Native.Nat.{ℕ}
+use mir.Facts.{toZ-ofZ}
+use Rattle.laws.specs.Numbers.{up}
+use Rattle.laws.specs.Asking.{firstNo}
+use Rattle.laws.proofs.Asked.{told}
+use Rattle.axis.proofs.Questions.{index-range}
+use Rattle.discrete.specs.Answers.{placeQuestions}
+use Rattle.segmented.specs.Answers.{segmentAt, segmentAsked, segmentFromAnswer}
+use Rattle.discrete.proofs.Counting.{no-less}
+use Rattle.segmented.proofs.Answers.{segment-refused}
+use Rattle.segmented.proofs.from_index.Statement.{statement}
+use Rattle.segmented.proofs.from_index.Tie as tie
+
+place-refusal-requires : tie.Need-place-refusal-requires
+place-refusal-requires c κs = search needs
+
+asked-of : (c : tie.After-place-refusal) → c .place-refusal .result ≡ firstNo (placeQuestions (c .before .args .a) (c .before .args .i))
+asked-of c = rw (toZ-ofZ (c .before .fits .i)) at (c .place-refusal .ensures)
+
+returns : tie.Need-returns
+unfolding segmentFromAnswer
+returns c =
+    let r = c .before in
+    let x = r .before .args in
+    segment-refused (firstNo (placeQuestions (x .a) (x .i))) (r .place-refusal .result) (segmentAt (x .a) (up (x .i))) (asked-of r) (c .if1 .taken)
+
+none : (c : tie.Else1) → firstNo (placeQuestions (c .before .before .args .a) (c .before .before .args .i)) ≡ 0
+none c = sym (asked-of (c .before)) ∙ c .if1 .left
+
+count-requires : tie.Need-count-requires
+count-requires c κs =
+    let s = c .before .before in
+    let row = placeQuestions (s .args .a) (s .args .i) in
+    rw (toZ-ofZ (s .fits .i)) (no-less (s .args .i) (index-range (s .args .i) (told 8 row tt (none c)) .0))
+
+counted : (c : tie.After-count) → c .count .result ≡ up (c .before .before .before .args .i)
+counted c = c .count .ensures ∙ ap up (toZ-ofZ (c .before .before .before .fits .i))
+
+segment-at-requires : tie.Need-segment-at-requires
+segment-at-requires c κs =
+    let e = c .before in
+    let x = e .before .before .args in
+    let row = placeQuestions (x .a) (x .i) in
+    (record { has = told 2 row tt (none e); real = told 3 row tt (none e) }, omega (arith, counted c, index-range (x .i) (told 8 row tt (none e)) .1))
+
+returns-2 : tie.Need-returns-2
+unfolding segmentFromAnswer
+returns-2 c =
+    let n = c .before in
+    let x = n .before .before .before .args in
+    c .segment-at .ensures
+    ∙ ap (segmentAt (x .a)) (counted n)
+    ∙ sym (ap (λ (k : ℕ). segmentAsked k (segmentAt (x .a) (up (x .i)))) (none (n .before)))
+
+pub from-index-spec : {M : Type 1} → statement M
+from-index-spec =
+    tie.close (tie.spec place-refusal-requires returns count-requires segment-at-requires returns-2)

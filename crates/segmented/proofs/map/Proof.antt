@@ -1,0 +1,84 @@
+-- `segmented::map` meets its contract. Assumes nothing.
+use borrow.Author.Needs.{needs}
+use mathlib.Core.Path.{_≡_, sym, _∙_, ap, subst}
+use mathlib.Core.Bool.{Bool, true}
+use Prim.Native.Nat.{ℕ}
+use borrow.Author.Tests.{not-true, not-false}
+use Rattle.laws.specs.Asking.{firstNo}
+use Rattle.laws.proofs.Asked.{told}
+use Rattle.discrete.specs.Counting.{Counted}
+use Rattle.segmented.specs.declared.SegmentValue.{SegmentValue}
+use Rattle.segmented.specs.Segments.{SegmentOn, segmentOf, segmentMappable, segmentPixel}
+use Rattle.segmented.specs.Answers.{segmentValueQuestions, segmentMapAnswer}
+use Rattle.segmented.proofs.Answers.{on-kind, some-size, map-refused, map-nine, map-is}
+use Rattle.segmented.proofs.map.Statement.{statement}
+use Rattle.segmented.proofs.map.Tie as tie
+
+map-refusal-requires : tie.Need-map-refusal-requires
+map-refusal-requires c κs = search needs
+
+returns : tie.Need-returns
+returns c = let x = c .before .before .args in map-refused (x .a) (x .l) (x .s) (c .before .map-refusal .result) (c .before .map-refusal .ensures) (c .if1 .taken)
+
+none : (c : tie.Else1) → firstNo (segmentValueQuestions (c .before .before .args .a) (c .before .before .args .l) (c .before .before .args .s)) ≡ 0
+none c = sym (c .before .map-refusal .ensures) ∙ c .if1 .left
+
+segment-of-requires : tie.Need-segment-of-requires
+segment-of-requires c κs = search needs
+
+real : (c : tie.Else1) → Counted (c .before .before .args .a)
+real c =
+    let x = c .before .before .args in
+    let row = segmentValueQuestions (x .a) (x .l) (x .s) in
+    record { has = told 2 row tt (none c); real = told 3 row tt (none c) }
+
+segment-mappable-requires : tie.Need-segment-mappable-requires
+segment-mappable-requires c κs = real (c .before)
+
+-- question 9's test
+nine : (c : tie.After-segment-mappable) → let x = c .before .before .before .before .args in c .segment-mappable .result ≡ segmentMappable (x .a) (segmentOf (x .s))
+nine c = let x = c .before .before .before .before .args in c .segment-mappable .ensures ∙ ap (segmentMappable (x .a)) (c .before .segment-of .ensures)
+
+returns-2 : tie.Need-returns-2
+returns-2 c =
+    let t = c .before in
+    let e = t .before .before in
+    let x = e .before .before .args in
+    map-nine (x .a) (x .l) (x .s) (none e) (sym (nine t) ∙ not-true _ (c .if2 .taken))
+
+yes : (c : tie.Else2) → let x = c .before .before .before .before .before .args in segmentMappable (x .a) (segmentOf (x .s)) ≡ true
+yes c = sym (nine (c .before)) ∙ not-false _ (c .if2 .left)
+
+segment-pixel-requires : tie.Need-segment-pixel-requires
+segment-pixel-requires c κs =
+    let n = c .before .before in
+    let e = n .before in
+    let x = e .before .before .args in
+    let row = segmentValueQuestions (x .a) (x .l) (x .s) in (
+      real e,
+      told 7 row tt (none e),
+      some-size (x .a) (segmentOf (x .s)) (yes c),
+      subst (λ (y : SegmentValue). SegmentOn (x .a) y) (sym (n .segment-of .ensures)) (on-kind (x .a) (x .s) (told 8 row tt (none e))),
+    )
+
+returns-3 : tie.Need-returns-3
+returns-3 c =
+    let t = c .before in
+    let n = t .before .before in
+    let e = n .before in
+    let x = e .before .before .args in
+    c .segment-pixel .ensures
+    ∙ ap (segmentPixel (x .a) (x .l)) (n .segment-of .ensures)
+    ∙ map-is (x .a) (x .l) (x .s) (none e) (yes t)
+
+pub map-spec : {M : Type 1} → statement M
+map-spec =
+    tie.close
+    (tie.spec
+    map-refusal-requires
+    returns
+    segment-of-requires
+    segment-mappable-requires
+    returns-2
+    segment-pixel-requires
+    returns-3)

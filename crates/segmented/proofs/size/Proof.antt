@@ -1,0 +1,45 @@
+-- `segmented::size` meets its contract. Assumes nothing.
+use borrow.Author.Needs.{needs}
+use mathlib.Core.Path.{_≡_, sym, _∙_, ap}
+use native.Mathlib.Omega.{arith}
+use Prim.Native.Nat.{ℕ, _+_}
+use Rattle.laws.specs.Asking.{firstNo}
+use Rattle.discrete.specs.declared.NumberAnswer.the-variants as number
+use Rattle.discrete.specs.Counting.{sizeOf}
+use Rattle.discrete.specs.Answers.{sizeQuestions, numberAnswer}
+use Rattle.discrete.proofs.Counting.{size-most}
+use Rattle.discrete.proofs.Answers.{number-refused, counted}
+use Rattle.segmented.specs.Answers.{segmentSizeAnswer}
+use Rattle.segmented.proofs.size.Statement.{statement}
+use Rattle.segmented.proofs.size.Tie as tie
+
+size-refusal-requires : tie.Need-size-refusal-requires
+size-refusal-requires c κs = search needs
+
+returns : tie.Need-returns
+unfolding segmentSizeAnswer
+returns c =
+    let r = c .before in
+    number-refused (firstNo (sizeQuestions (r .before .args .a))) (r .size-refusal .result) (number.Is (sizeOf (r .before .args .a) + 1)) (r .size-refusal .ensures) (c .if1 .taken)
+
+none : (c : tie.Else1) → firstNo (sizeQuestions (c .before .before .args .a)) ≡ 0
+none c = sym (c .before .size-refusal .ensures) ∙ c .if1 .left
+
+size-of-requires : tie.Need-size-of-requires
+size-of-requires c κs = counted (c .before .before .args .a) (none c)
+
+add-t5 : tie.Need-add-t5
+add-t5 c =
+    let e = c .before in
+    let a = e .before .before .args .a in
+    omega (arith, c .size-of .ensures, size-most a (counted a (none e)))
+
+returns-2 : tie.Need-returns-2
+unfolding segmentSizeAnswer
+returns-2 c =
+    let e = c .before in
+    let a = e .before .before .args .a in
+    ap (λ (n : ℕ). number.Is (n + 1)) (c .size-of .ensures) ∙ sym (ap (λ (k : ℕ). numberAnswer k (number.Is (sizeOf a + 1))) (none e))
+
+pub size-spec : {M : Type 1} → statement M
+size-spec = tie.close (tie.spec size-refusal-requires returns size-of-requires add-t5 returns-2)
