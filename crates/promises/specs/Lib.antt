@@ -1,2 +1,3 @@
--- What the claim says.
+-- What the claim says, and the settled examples.
 pub mod Demand
+pub mod Examples
