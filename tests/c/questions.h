@@ -9,6 +9,9 @@
 
 #include "months.h"
 
+/* The first no of an operation's arguments, 0 if there is none. */
+typedef int64_t refusal(const int64_t *in);
+
 static inline bool in_range(int64_t low, int64_t x, int64_t high) {
     return low <= x && x <= high;
 }

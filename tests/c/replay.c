@@ -7,6 +7,7 @@
 #include <stdlib.h>
 #include <string.h>
 
+#include "calls.h"
 #include "exact.h"
 #include "ordered.h"
 #include "questions.h"
@@ -14,65 +15,15 @@
 /* BEHIND: the longest lent slice has that many numbers more than the list, and as many stand behind it, not lent. */
 enum { ARGUMENTS = 10, NUMBERS = 1 << 15, BEHIND = 7, QUESTIONS = 13, SHOWN = 5, SHOWN_NUMBERS = 12, SHOWN_BYTES = 160 };
 
-/* Calls the archive; fills in the status and the numbers, and gives how many these are. */
-typedef int call(const int64_t *in, int64_t *out);
-
-/* The two calls of a tick list: into the lent numbers, and with nothing lent; lists of segments have no second one. */
-typedef ordered_number list_call(const int64_t *in, int64_t *lent, size_t lent_len);
-typedef ordered_number count_call(const int64_t *in, size_t lent_len);
-
 /* Fills in document 01's answer where the Rust's logarithm may round it away; gives how many numbers, 0 if it may not. */
 typedef int exact(const int64_t *in, int64_t *out);
 
 /* Question 10 of the oracle's answer, by its numbers after the status. */
 typedef bool fits(const int64_t *in, const int64_t *answer);
 
-/* The question by which document 01 refuses these arguments, 0 if it is the oracle's to say. */
-typedef int64_t refusal(const int64_t *in);
-
-static int call_day_number(const int64_t *in, int64_t *out) {
-    ordered_number r = ordered_day_number(in[0], in[1], in[2]);
-    out[0] = r.status, out[1] = r.value;
-    return 2;
-}
-
-static int call_date_of(const int64_t *in, int64_t *out) {
-    ordered_date r = ordered_date_of(in[0]);
-    out[0] = r.status, out[1] = r.year, out[2] = r.month, out[3] = r.day;
-    return 4;
-}
-
-static int call_map(const int64_t *in, int64_t *out) {
-    ordered_pixel r = ordered_map(in[0], in[1], in[2], in[3], in[4], in[5], in[6], in[7], in[8]);
-    out[0] = r.status, out[1] = r.pixel;
-    return 2;
-}
-
-static int call_period(const int64_t *in, int64_t *out) {
-    ordered_period r = ordered_period_per_point(in[0], in[1], in[2], in[3], in[4], in[5]);
-    out[0] = r.status, out[1] = r.nanoseconds;
-    return 2;
-}
-
 static int exact_period_answer(const int64_t *in, int64_t *out) {
     out[0] = 0, out[1] = doubtful_period(in[0], in, in[5]);
     return out[1] ? 2 : 0;
-}
-
-static ordered_number list_bold(const int64_t *in, int64_t *lent, size_t lent_len) {
-    return ordered_ticks_bold(in[0], in[1], in[2], in[3], in[4], in[5], lent, lent_len);
-}
-
-static ordered_number count_bold(const int64_t *in, size_t lent_len) {
-    return ordered_count_bold(in[0], in[1], in[2], in[3], in[4], in[5], lent_len);
-}
-
-static ordered_number list_light(const int64_t *in, int64_t *lent, size_t lent_len) {
-    return ordered_ticks_light(in[0], in[1], in[2], in[3], in[4], in[5], in[6], lent, lent_len);
-}
-
-static ordered_number count_light(const int64_t *in, size_t lent_len) {
-    return ordered_count_light(in[0], in[1], in[2], in[3], in[4], in[5], in[6], lent_len);
 }
 
 static int exact_list(const int64_t *in, int64_t kind, int64_t n, int64_t *out) {
@@ -91,75 +42,7 @@ static int exact_light(const int64_t *in, int64_t *out) {
     return exact_list(in, listed_kind(in, in[5]), in[6], out);
 }
 
-static int numbers_of(ordered_number r, int64_t *out) {
-    out[0] = r.status, out[1] = r.value;
-    return 2;
-}
-
-static int numbers_of_value(ordered_value r, int64_t *out) {
-    out[0] = r.status, out[1] = r.head, out[2] = r.tail;
-    return 3;
-}
-
-static int call_unmap(const int64_t *in, int64_t *out) {
-    return numbers_of_value(ordered_unmap(in[0], in[1], in[2], in[3], in[4], in[5], in[6], in[7]), out);
-}
-
-static int call_size(const int64_t *in, int64_t *out) {
-    return numbers_of(ordered_size(in[0], in[1], in[2], in[3], in[4]), out);
-}
-
-static int call_index_of(const int64_t *in, int64_t *out) {
-    return numbers_of(ordered_index_of(in[0], in[1], in[2], in[3], in[4], in[5], in[6]), out);
-}
-
-static int call_from_index(const int64_t *in, int64_t *out) {
-    return numbers_of_value(ordered_from_index(in[0], in[1], in[2], in[3], in[4], in[5]), out);
-}
-
-static int call_next(const int64_t *in, int64_t *out) {
-    return numbers_of_value(ordered_next(in[0], in[1], in[2], in[3], in[4], in[5], in[6]), out);
-}
-
-static int call_previous(const int64_t *in, int64_t *out) {
-    return numbers_of_value(ordered_previous(in[0], in[1], in[2], in[3], in[4], in[5], in[6]), out);
-}
-
-static int call_values(const int64_t *in, int64_t *out) {
-    ordered_step r = ordered_values(in[0], in[1], in[2], in[3], in[4], in[5]);
-    out[0] = r.status, out[1] = r.head, out[2] = r.tail, out[3] = r.next;
-    return 4;
-}
-
-static int call_segment_map(const int64_t *in, int64_t *out) {
-    ordered_pixel r = ordered_segment_map(in[0], in[1], in[2], in[3], in[4], in[5], in[6], in[7], in[8], in[9]);
-    out[0] = r.status, out[1] = r.pixel;
-    return 2;
-}
-
-static ordered_number list_segment_bold(const int64_t *in, int64_t *lent, size_t lent_len) {
-    return ordered_segment_ticks_bold(in[0], in[1], in[2], in[3], in[4], in[5], lent, lent_len);
-}
-
-static ordered_number list_segment_light(const int64_t *in, int64_t *lent, size_t lent_len) {
-    return ordered_segment_ticks_light(in[0], in[1], in[2], in[3], in[4], in[5], in[6], lent, lent_len);
-}
-
-static int call_segment_size(const int64_t *in, int64_t *out) {
-    return numbers_of(ordered_segment_size(in[0], in[1], in[2], in[3], in[4]), out);
-}
-
-static int call_segment_index_of(const int64_t *in, int64_t *out) {
-    return numbers_of(ordered_segment_index_of(in[0], in[1], in[2], in[3], in[4], in[5], in[6], in[7]), out);
-}
-
-static int call_segment_from_index(const int64_t *in, int64_t *out) {
-    ordered_segment r = ordered_segment_from_index(in[0], in[1], in[2], in[3], in[4], in[5]);
-    out[0] = r.status, out[1] = r.segment, out[2] = r.head, out[3] = r.tail;
-    return 4;
-}
-
-/* A new operation is one row, its calls above and its questions in questions.h. */
+/* A new operation is one row, its calls in calls.h and its questions in questions.h. */
 static const struct row {
     const char *name;
     int arguments;

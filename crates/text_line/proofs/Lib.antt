@@ -1,0 +1,2 @@
+-- Laws of the lines' definitions.
+pub mod Lines

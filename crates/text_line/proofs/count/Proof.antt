@@ -1,0 +1,58 @@
+-- `text_line::count` meets its contract: n of the bytes before i are c. Assumes nothing.
+use borrow.Author.Needs.{needs}
+use mathlib.Core.Path.{_≡_}
+use mathlib.Core.Logic.{⊎-elim}
+use Prim.Native.Nat.{_+_, _-_, _≤_}
+use native.Mathlib.Omega.{arith}
+use lib.ListN.{length, drop}
+use Rattle.text_line.specs.Line.{countOf}
+use Rattle.text_line.proofs.Lines.{count-here, count-on, count-end}
+use Rattle.text_line.proofs.count.Statement.{statement}
+use Rattle.text_line.proofs.count.Tie as tie
+
+abbrev Inv-loop : tie.InvT-loop
+Inv-loop s c n₀ i₀ n i = (i ≤ length s) × ((n ≤ i) × (countOf c s ≡ n + countOf c (drop i s)))
+
+abbrev μ-loop : tie.MeasureT-loop
+μ-loop s c n₀ i₀ n i = length s - i
+
+loop-holds : tie.Need-loop-holds Inv-loop μ-loop
+loop-holds c = search needs
+
+shared-slice-read-if1 : tie.Need-shared-slice-read-if1 Inv-loop μ-loop
+shared-slice-read-if1 c = search needs
+
+add-n : tie.Need-add-n Inv-loop μ-loop
+add-n c = search needs
+
+add-i : tie.Need-add-i Inv-loop μ-loop
+add-i c = search needs
+
+loop-less : tie.Need-loop-less Inv-loop μ-loop
+loop-less c = search needs
+
+loop-again : tie.Need-loop-again Inv-loop μ-loop
+loop-again c =
+    let l = c .before .before .before .loop in
+    let x = c .before .before .before .before .args in
+    let h = c .before .before .loop-test .taken in
+    ⊎-elim (λ w. (omega arith, (omega arith, omega (arith, count-here (x .s .now) (l .i) (x .c) h (w .0 .taken)))))
+    (λ w. (omega arith, (omega arith, omega (arith, count-on (x .s .now) (l .i) (x .c) h (w .0 .left)))))
+    (c .if1 .came)
+
+returns : tie.Need-returns Inv-loop μ-loop
+returns c = omega (arith, count-end (c .before .before .args .s .now) (c .before .loop .i) (c .before .before .args .c) (c .loop-test .left))
+
+pub count-spec : {M : Type 1} → statement M
+count-spec =
+    tie.close
+    (tie.spec
+    Inv-loop
+    μ-loop
+    loop-holds
+    shared-slice-read-if1
+    add-n
+    add-i
+    loop-less
+    loop-again
+    returns)

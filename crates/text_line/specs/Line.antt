@@ -1,0 +1,159 @@
+-- The names line, which lines of values read, and the request that such a line makes. Definitions only.
+-- A line is its bytes without the LF. Its fields are kind start end hint low high, with one space between them.
+use mathlib.Core.Bool.{Bool, true, false, _&&_, cond}
+use mathlib.Core.List.{List, [], _∷_}
+use Prim.Native.Nat.{ℕ, zero, suc, _+_, _*_}
+use lib.Dec.{leb, ltb, eqb}
+use lib.IntN.{ℤ, pos}
+use lib.ListN.{length, drop}
+use Rattle.calendar.specs.Questions.{numberOf}
+use Rattle.calendar.specs.declared.DayAnswer.{DayAnswer}
+use Rattle.calendar.specs.declared.DayAnswer.the-variants as day
+use Rattle.values.specs.declared.Value.{Value}
+use Rattle.axis.specs.declared.Axis.{Axis}
+use Rattle.text_read.specs.Fields.{space, untilOf, fieldOf, readNumber, readDate, readStamp}
+use Rattle.text_read.specs.declared.Day.{Day}
+use Rattle.text_read.specs.declared.Moment.{Moment}
+use Rattle.text_read.specs.declared.NumberField.{NumberField}
+use Rattle.text_read.specs.declared.NumberField.the-variants as number
+use Rattle.text_read.specs.declared.DateField.{DateField}
+use Rattle.text_read.specs.declared.DateField.the-variants as date
+use Rattle.text_read.specs.declared.StampField.{StampField}
+use Rattle.text_read.specs.declared.StampField.the-variants as stamp
+use Rattle.text_line.specs.declared.ValueField.{ValueField}
+use Rattle.text_line.specs.declared.ValueField.the-variants as value
+use Rattle.text_line.specs.declared.Request.{Request}
+use Rattle.text_line.specs.declared.Line.{Line}
+use Rattle.text_line.specs.declared.Line.the-variants as line
+
+-- ---- words
+-- the same bytes
+unfoldable pub sameAs : List ℕ → List ℕ → Bool
+sameAs [] [] = true
+sameAs [] (b ∷ t) = false
+sameAs (a ∷ s) [] = false
+sameAs (a ∷ s) (b ∷ t) = cond (eqb a b) (sameAs s t) false
+
+-- "kind start end hint low high"
+abbrev pub names : List ℕ
+names =
+    107 ∷ 105 ∷ 110 ∷ 100 ∷ 32 ∷ 115 ∷ 116 ∷ 97 ∷ 114 ∷ 116 ∷ 32 ∷ 101 ∷ 110 ∷ 100 ∷ 32 ∷ 104 ∷ 105 ∷ 110 ∷ 116
+    ∷ 32 ∷ 108 ∷ 111 ∷ 119 ∷ 32 ∷ 104 ∷ 105 ∷ 103 ∷ 104 ∷ []
+
+abbrev pub isNames : List ℕ → Bool
+isNames s = sameAs s names
+
+-- the kinds' names in order: date, month, year, stamp, stampmonth, stampyear, span
+abbrev pub kinds : List (List ℕ)
+kinds =
+    (100 ∷ 97 ∷ 116 ∷ 101 ∷ [])
+    ∷ (109 ∷ 111 ∷ 110 ∷ 116 ∷ 104 ∷ [])
+    ∷ (121 ∷ 101 ∷ 97 ∷ 114 ∷ [])
+    ∷ (115 ∷ 116 ∷ 97 ∷ 109 ∷ 112 ∷ [])
+    ∷ (115 ∷ 116 ∷ 97 ∷ 109 ∷ 112 ∷ 109 ∷ 111 ∷ 110 ∷ 116 ∷ 104 ∷ [])
+    ∷ (115 ∷ 116 ∷ 97 ∷ 109 ∷ 112 ∷ 121 ∷ 101 ∷ 97 ∷ 114 ∷ [])
+    ∷ (115 ∷ 112 ∷ 97 ∷ 110 ∷ [])
+    ∷ []
+
+-- where w stands among words of which the first counts as k; 0: it is none of them
+abbrev pub placeIn : ℕ → List (List ℕ) → List ℕ → ℕ
+placeIn k [] w = 0
+placeIn k (v ∷ vs) w = cond (sameAs w v) k (placeIn (suc k) vs w)
+
+-- 1 to 7, or 0
+unfoldable pub kindOf : List ℕ → ℕ
+kindOf w = placeIn 1 kinds w
+
+-- ---- fields
+-- how often c stands in s
+unfoldable pub countOf : ℕ → List ℕ → ℕ
+countOf c [] = 0
+countOf c (b ∷ s) = cond (eqb b c) (suc (countOf c s)) (countOf c s)
+
+-- at most 120 bytes, and six fields
+unfoldable pub inForm : List ℕ → Bool
+inForm s = leb (length s) 120 && eqb (countOf space s) 5
+
+-- what stands after the first space
+abbrev pub restOf : List ℕ → List ℕ
+restOf s = drop (untilOf space s + 1) s
+
+-- the line from its field k on; the kind is its field 0
+abbrev pub fieldsFrom : ℕ → List ℕ → List ℕ
+fieldsFrom zero s = s
+fieldsFrom (suc k) s = restOf (fieldsFrom k s)
+
+-- ---- a start or an end as a value
+-- what is typed in form and is not real: no value of kinds 1 to 6, whose heads begin at 1
+abbrev pub unreal : Value
+unreal = record { head = pos 0; tail = pos 0 }
+
+abbrev pub dayAt : DayAnswer → ℕ → Value
+dayAt (day.Answered n) nano = record { head = pos n; tail = pos nano }
+dayAt (day.Refused q) nano = unreal
+
+-- the day number of a real date of the years 1 to 9999, and a nanosecond of that day
+unfoldable pub onDay : Day → ℕ → Value
+onDay d nano = dayAt (numberOf (record { year = pos (d .year); month = pos (d .month); day = pos (d .day) })) nano
+
+abbrev pub dateValue : Day → Value
+dateValue d = onDay d 0
+
+-- 00:00:00 to 23:59:59
+abbrev pub isTime : Moment → Bool
+isTime m = (ltb (m .hour) 24 && ltb (m .minute) 60) && ltb (m .second) 60
+
+-- the second of the day, in nanoseconds
+unfoldable pub stampValue : Moment → Value
+stampValue m = cond (isTime m) (onDay (m .date) (((m .hour * 60 + m .minute) * 60 + m .second) * 1000000000)) unreal
+
+-- whole seconds
+abbrev pub spanValue : ℤ → Value
+spanValue n = record { head = n; tail = pos 0 }
+
+abbrev pub ofDate : DateField → ValueField
+ofDate (date.Read d) = value.Read (dateValue d)
+ofDate date.Unread = value.Unread
+
+abbrev pub ofStamp : StampField → ValueField
+ofStamp (stamp.Read m) = value.Read (stampValue m)
+ofStamp stamp.Unread = value.Unread
+
+abbrev pub ofSpan : NumberField → ValueField
+ofSpan (number.Read n) = value.Read (spanValue n)
+ofSpan number.Unread = value.Unread
+
+-- dates on kinds 1 to 3, date-times on 4 to 6, seconds on 7
+unfoldable pub valueOf : ℕ → List ℕ → ValueField
+valueOf kind s = cond (leb kind 3) (ofDate (readDate s)) (cond (leb kind 6) (ofStamp (readStamp s)) (ofSpan (readNumber s)))
+
+-- ---- the line
+abbrev pub axisOf : ℕ → Value → Value → Axis
+axisOf kind a b = record { kind = pos kind; «start_head» = a .head; «start_tail» = a .tail; «end_head» = b .head; «end_tail» = b .tail }
+
+abbrev pub request : ℕ → Value → Value → ℤ → ℤ → ℤ → Request
+request kind a b n l h = record { axis = axisOf kind a b; hint = record { n = n }; limits = record { low = l; high = h } }
+
+abbrev pub allOf : ℕ → ValueField → ValueField → NumberField → NumberField → NumberField → Line
+allOf kind (value.Read a) (value.Read b) (number.Read n) (number.Read l) (number.Read h) = line.Read (request kind a b n l h)
+allOf kind (value.Read a) (value.Read b) (number.Read n) (number.Read l) number.Unread = line.Unread
+allOf kind (value.Read a) (value.Read b) (number.Read n) number.Unread h = line.Unread
+allOf kind (value.Read a) (value.Read b) number.Unread l h = line.Unread
+allOf kind (value.Read a) value.Unread n l h = line.Unread
+allOf kind value.Unread b n l h = line.Unread
+
+-- the kind is known, and every field has its form
+unfoldable pub requestOf : ℕ → ValueField → ValueField → NumberField → NumberField → NumberField → Line
+requestOf kind a b n l h = cond (eqb kind 0) line.Unread (allOf kind a b n l h)
+
+-- start, end, hint, low and high
+abbrev pub fieldsOf : ℕ → List ℕ → Line
+fieldsOf kind s =
+    requestOf kind (valueOf kind (fieldsFrom 1 s)) (valueOf kind (fieldsFrom 2 s))
+    (readNumber (fieldsFrom 3 s))
+    (readNumber (fieldsFrom 4 s))
+    (readNumber (fieldsFrom 5 s))
+
+-- the request that a line makes, or that it does not read
+unfoldable pub readLine : List ℕ → Line
+readLine s = cond (inForm s) (fieldsOf (kindOf (fieldOf s)) s) line.Unread

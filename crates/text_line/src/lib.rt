@@ -1,0 +1,259 @@
+// The lines of plate's input: the names line, and a line of values with the request that it makes. A line is its bytes
+// without the LF; its fields are kind start end hint low high, with one space between them.
+use axis::Axis;
+use axis::BoldPoints;
+use axis::Limits;
+use calendar::DayAnswer;
+use calendar::Ymd;
+use text_read::DateField;
+use text_read::Day;
+use text_read::Moment;
+use text_read::NumberField;
+use text_read::StampField;
+use values::Value;
+ghost use mathlib.Core.Path.{_≡_};
+ghost use Prim.Native.Nat.{_≤_, _<_};
+ghost use Rattle.text_read.specs.Fields.{fieldOf, Typed};
+ghost use Rattle.text_line.specs.Line.{sameAs, isNames, countOf, inForm, kindOf, restOf};
+ghost use Rattle.text_line.specs.Line.{onDay, isTime, stampValue, valueOf, axisOf, requestOf, readLine};
+
+// The numbers of a line. No question was asked of them yet.
+pub struct Request {
+    pub axis: Axis,
+    pub hint: BoldPoints,
+    pub limits: Limits,
+}
+
+pub enum Line {
+    Read(Request),
+    Unread,
+}
+
+// A start or an end.
+enum ValueField {
+    Read(Value),
+    Unread,
+}
+
+// Are the two the same bytes?
+fn same(a: &[u8], b: &[u8]) -> bool
+    ensures { λ r. ⌜ r ≡ sameAs (now (a .entry)) (now (b .entry)) ⌝ }
+{
+    if a.len() != b.len() {
+        return false;
+    }
+    let mut i: usize = 0;
+    while i < a.len() {
+        if a[i] != b[i] {
+            return false;
+        }
+        i += 1;
+    }
+    true
+}
+
+// Is it the names line?
+pub fn is_names(s: &[u8]) -> bool
+    ensures { λ r. ⌜ r ≡ isNames (now (s .entry)) ⌝ }
+{
+    same(s, b"kind start end hint low high")
+}
+
+// How often c stands in s.
+fn count(s: &[u8], c: u8) -> usize
+    ensures { λ r. ⌜ r ≡ countOf c (now (s .entry)) ⌝ }
+{
+    let mut n: usize = 0;
+    let mut i: usize = 0;
+    while i < s.len() {
+        if s[i] == c {
+            n += 1;
+        }
+        i += 1;
+    }
+    n
+}
+
+// At most 120 bytes, and six fields.
+fn in_form(s: &[u8]) -> bool
+    ensures { λ r. ⌜ r ≡ inForm (now (s .entry)) ⌝ }
+{
+    (s.len() <= 120) & (count(s, b' ') == 5)
+}
+
+// The kind that the word names, or 0.
+fn named(w: &[u8]) -> u64
+    ensures { λ r. ⌜ r ≡ kindOf (now (w .entry)) ⌝ }
+{
+    if same(w, b"date") {
+        return 1;
+    }
+    if same(w, b"month") {
+        return 2;
+    }
+    if same(w, b"year") {
+        return 3;
+    }
+    if same(w, b"stamp") {
+        return 4;
+    }
+    if same(w, b"stampmonth") {
+        return 5;
+    }
+    if same(w, b"stampyear") {
+        return 6;
+    }
+    if same(w, b"span") {
+        return 7;
+    }
+    0
+}
+
+// The kind that the field at the front of s names, or 0.
+fn kind(s: &[u8]) -> u64
+    ensures { λ r. ⌜ r ≡ kindOf (fieldOf (now (s .entry))) ⌝ }
+{
+    let k = text_read::until(s, b' ');
+    named(&s[..k])
+}
+
+// The part after the first space, or an empty part.
+fn after(s: &[u8]) -> &[u8]
+    ensures { λ r. ⌜ now r ≡ restOf (now (s .entry)) ⌝ }
+{
+    let k = text_read::until(s, b' ');
+    if k == s.len() {
+        return &s[k..];
+    }
+    let at = k + 1;
+    &s[at..]
+}
+
+// A day and a nanosecond of it. A date that is not real gets 0 and 0, which is no value of kinds 1 to 6.
+fn on_day(d: Day, nano: u64) -> Value
+    requires { ⌜ Typed d × (nano < 86400000000000) ⌝ }
+    ensures { λ r. ⌜ r ≡ onDay d nano ⌝ }
+{
+    let t = Ymd {
+        year: d.year as i64,
+        month: d.month as i64,
+        day: d.day as i64,
+    };
+    let DayAnswer::Answered(n) = calendar::number_of(t) else {
+        return Value { head: 0, tail: 0 };
+    };
+    Value {
+        head: n as i64,
+        tail: nano as i64,
+    }
+}
+
+// Is the time of day real?
+fn is_time(m: Moment) -> bool
+    ensures { λ r. ⌜ r ≡ isTime m ⌝ }
+{
+    (m.hour < 24) & (m.minute < 60) & (m.second < 60)
+}
+
+fn stamp_value(m: Moment) -> Value
+    requires { ⌜ Typed (m .date) ⌝ }
+    ensures { λ r. ⌜ r ≡ stampValue m ⌝ }
+{
+    if !is_time(m) {
+        return Value { head: 0, tail: 0 };
+    }
+    let d = m.date;
+    on_day(d, ((m.hour * 60 + m.minute) * 60 + m.second) * 1000000000)
+}
+
+// A start or an end of the kind, from the field's start.
+fn value(kind: u64, s: &[u8]) -> ValueField
+    ensures { λ r. ⌜ r ≡ valueOf kind (now (s .entry)) ⌝ }
+{
+    if kind <= 3 {
+        let DateField::Read(d) = text_read::date(s) else {
+            return ValueField::Unread;
+        };
+        return ValueField::Read(on_day(d, 0));
+    }
+    if kind <= 6 {
+        let StampField::Read(m) = text_read::stamp(s) else {
+            return ValueField::Unread;
+        };
+        return ValueField::Read(stamp_value(m));
+    }
+    let NumberField::Read(n) = text_read::number(s) else {
+        return ValueField::Unread;
+    };
+    ValueField::Read(Value { head: n, tail: 0 })
+}
+
+fn axis_of(kind: u64, a: Value, b: Value) -> Axis
+    requires { ⌜ kind ≤ 7 ⌝ }
+    ensures { λ r. ⌜ r ≡ axisOf kind a b ⌝ }
+{
+    Axis {
+        kind: kind as i64,
+        start_head: a.head,
+        start_tail: a.tail,
+        end_head: b.head,
+        end_tail: b.tail,
+    }
+}
+
+// The request, if the kind is known and every field has its form.
+fn together(
+    kind: u64,
+    start: ValueField,
+    end: ValueField,
+    hint: NumberField,
+    low: NumberField,
+    high: NumberField,
+) -> Line
+    requires { ⌜ kind ≤ 7 ⌝ }
+    ensures { λ r. ⌜ r ≡ requestOf kind start end hint low high ⌝ }
+{
+    if kind == 0 {
+        return Line::Unread;
+    }
+    let ValueField::Read(a) = start else {
+        return Line::Unread;
+    };
+    let ValueField::Read(b) = end else {
+        return Line::Unread;
+    };
+    let NumberField::Read(n) = hint else {
+        return Line::Unread;
+    };
+    let NumberField::Read(l) = low else {
+        return Line::Unread;
+    };
+    let NumberField::Read(h) = high else {
+        return Line::Unread;
+    };
+    Line::Read(Request {
+        axis: axis_of(kind, a, b),
+        hint: BoldPoints { n: n },
+        limits: Limits { low: l, high: h },
+    })
+}
+
+pub fn read_line(s: &[u8]) -> Line
+    ensures { λ r. ⌜ r ≡ readLine (now (s .entry)) ⌝ }
+{
+    if !in_form(s) {
+        return Line::Unread;
+    }
+    let a = after(s);
+    let b = after(a);
+    let c = after(b);
+    let d = after(c);
+    let e = after(d);
+    let k = kind(s);
+    let start = value(k, a);
+    let end = value(k, b);
+    let hint = text_read::number(c);
+    let low = text_read::number(d);
+    let high = text_read::number(e);
+    together(k, start, end, hint, low, high)
+}

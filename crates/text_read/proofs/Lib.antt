@@ -1,0 +1,2 @@
+-- Laws of the fields' definitions.
+pub mod Fields

@@ -1,0 +1,334 @@
+"""Runs plate on many inputs and compares every byte with reading.py. Usage: checks.py PLATE TOOLS
+TOOLS is the folder with the compiled answers and peak. One line for each group; exits 1 on any difference.
+"""
+
+import fcntl
+import itertools
+import os
+import random
+import subprocess
+import sys
+import tempfile
+import termios
+import time
+
+from reading import HEADING, NAMES, Reading
+
+SHOWN = 3  # differences that a group shows
+PATIENCE = 60  # seconds for one run
+WRONG_NAMES = b"line tick pixel\n0 - !12\n"
+START = NAMES + b"\n"
+
+EXAMPLE = b"""kind start end hint low high
+date 2021-03-01 2021-03-08 3 0 70
+month 2021-05-10 2021-12-31 2 0 100
+date 2021-03-08 2021-03-01 3 0 70
+"""
+EXAMPLE_OUTPUT = b"""line tick pixel
+1 2021-03-01 0
+1 2021-03-08 70
+2 2021-06-01 9
+2 2021-09-01 48
+2 2021-12-01 87
+3 - !4
+"""
+
+# One and more for each kind; ticks at the second, a list without ticks, signs, leading zeros, both ends of the hint.
+GOOD = [
+    b"date 2021-03-01 2021-03-08 3 0 70",
+    b"date 2020-02-29 2021-03-01 4096 -100 100",
+    b"month 2021-05-10 2021-12-31 2 0 100",
+    b"year 1999-12-31 2024-01-01 5 100 -100",
+    b"stamp 2021-03-01T00:00:00 2021-03-01T12:30:59 3 0 70",
+    b"stamp 2021-03-01T23:59:59 2021-03-02T00:00:01 4 0 32767",
+    b"stampmonth 2021-12-31T10:00:00 2021-12-31T12:00:00 3 0 70",
+    b"stampyear 2019-12-31T23:59:59 2024-01-01T00:00:00 6 -0 00070",
+    b"span -90 3600 7 0 500",
+    b"span -315576000000 315576000000 3 -32767 32767",
+]
+LONGEST_READ = b"stampmonth 2021-03-01T00:00:00 2021-06-01T00:00:00 -000000000003 -000000000007 -000000000070"
+
+
+class Plate:
+    def __init__(self, program):
+        self.program = program
+
+    def output(self, data):
+        try:
+            done = subprocess.run([self.program], input=data, capture_output=True, timeout=PATIENCE)
+        except subprocess.TimeoutExpired:
+            return b"no end after %d seconds" % PATIENCE
+        if done.returncode or done.stderr:
+            return b"exit status %d, on standard error: %s" % (done.returncode, done.stderr[:200])
+        return done.stdout
+
+    def output_of_pieces(self, data, size):
+        """Each piece is taken by plate before the next one comes. The output must fit a pipe."""
+        with subprocess.Popen([self.program], stdin=subprocess.PIPE, stdout=subprocess.PIPE) as child:
+            end, give_up = child.stdin.fileno(), time.monotonic() + PATIENCE
+            try:
+                for at in range(0, len(data), size):
+                    os.write(end, data[at : at + size])
+                    while waiting_in(end) and time.monotonic() < give_up:
+                        time.sleep(0)
+            except BrokenPipeError:
+                pass  # it has ended before
+            child.stdin.close()
+            out = child.stdout.read()
+        return out if child.returncode == 0 else b"exit status %d" % child.returncode
+
+
+def waiting_in(pipe):
+    return int.from_bytes(fcntl.ioctl(pipe, termios.FIONREAD, bytes(4)), sys.byteorder)
+
+
+class Group:
+    """Compares, counts, and shows the first differences."""
+
+    failed = False
+
+    def __init__(self, name):
+        self.name, self.inputs, self.rows, self.differences = name, 0, 0, 0
+
+    def same(self, what, expected, got):
+        self.inputs += 1
+        self.rows += expected.count(b"\n")
+        if expected != got:
+            self.difference(what, first_difference(expected, got))
+
+    def difference(self, what, text):
+        self.differences += 1
+        if self.differences <= SHOWN:
+            print("  %s: %s: %s" % (self.name, what, text))
+
+    def done(self, more=""):
+        print("plate: %s: %d inputs, %d rows, %d differences%s" % (self.name, self.inputs, self.rows, self.differences, more))
+        Group.failed |= self.differences > 0 or self.inputs == 0
+
+
+def first_difference(expected, got):
+    for row, (a, b) in enumerate(itertools.zip_longest(expected.split(b"\n"), got.split(b"\n"))):
+        if a != b:
+            return "row %d: expected %.80r, got %.80r" % (row, a, b)
+    return "none"
+
+
+def example(plate, reading):
+    group = Group("example")
+    group.same("the reading", EXAMPLE_OUTPUT, reading.expected(EXAMPLE))
+    group.same("plate", EXAMPLE_OUTPUT, plate.output(EXAMPLE))
+    group.same("names alone", HEADING, plate.output(START))
+    group.done()
+
+
+def edits(text, to):
+    """Each byte removed, doubled, and replaced by each of the bytes given."""
+    for i in range(len(text)):
+        yield text[:i] + text[i + 1 :]
+        yield text[: i + 1] + text[i:]
+        for byte in to:
+            if byte != text[i]:
+                yield text[:i] + bytes([byte]) + text[i + 1 :]
+
+
+def names(plate, reading):
+    """Nothing but the names line itself will do, and nothing is read after another one."""
+    group = Group("names line")
+    rest = b"\n" + GOOD[0] + b"\n"
+    wrong = [b"", b"\n", b"\n\n", NAMES, NAMES + b"\r\n", b"\n" + NAMES + rest, b"\xef\xbb\xbf" + NAMES + rest, GOOD[0] + b"\n"]
+    wrong += [NAMES + b" " + rest, b" " + NAMES + rest, NAMES + b" more" + rest, NAMES.upper() + rest, b"#" + rest + NAMES + rest]
+    wrong += [b" ".join(order) + rest for order in itertools.permutations(NAMES.split()) if b" ".join(order) != NAMES][:40]
+    wrong += [NAMES + b" " * n + rest for n in (92, 93, 2**20)] + [NAMES * 2 + rest, NAMES + b"\0" + rest]
+    wrong += [line + rest for line in edits(NAMES, b"e \n\0")]
+    for data in wrong:
+        group.same("the reading of %.60r" % data, WRONG_NAMES, reading.expected(data))
+        group.same("%.60r" % data, WRONG_NAMES, plate.output(data))
+    group.done()
+
+
+def broken_off(plate, reading):
+    """Each beginning of an input, so each line without its LF."""
+    group = Group("broken off")
+    whole = EXAMPLE + GOOD[4] + b"\n" + GOOD[8] + b"\n"
+    for end in range(len(whole) + 1):
+        group.same("%d bytes" % end, reading.expected(whole[:end]), plate.output(whole[:end]))
+    group.done()
+
+
+def pieces(plate, reading):
+    group = Group("in pieces")
+    whole = EXAMPLE + b"x" * 300 + b"\n" + GOOD[6] + b"\n" + GOOD[4] + b"\n" + GOOD[8]
+    for size in (1, 2, 3, 7, 34, 120, 121):
+        group.same("of %d bytes" % size, reading.expected(whole), plate.output_of_pieces(whole, size))
+    group.done()
+
+
+def damaged(plate, reading):
+    """All edits of the good lines, with every byte, all in one input."""
+    group = Group("damaged lines")
+    undamaged = reading.expected(START + b"\n".join(GOOD) + b"\n")
+    if b"!" in undamaged:
+        group.difference("undamaged", "a line is refused")
+    data = START + b"".join(line + b"\n" for good in GOOD for line in [good, *edits(good, range(256))])
+    expected = reading.expected(data)
+    group.same("one input", expected, plate.output(data))
+    group.done(", %d lines, %d of them unread" % (data.count(b"\n") - 1, expected.count(b" !12\n")))
+
+
+def line_ends(plate, reading):
+    group = Group("line ends, spaces, NUL")
+    lines = []
+    for good in GOOD:
+        lines += [good + end for end in (b"\r", b"\0", b" ", b"\t", b"\v", b"\x1a", b" 1", b"\x85", b"\xa0")]
+        lines += [b"\0" + good, b" " + good, good.replace(b" ", b"  "), good.replace(b" ", b"\t"), good.replace(b" ", b"\0")]
+        lines += [b"", b"\0", b"\r", b" ", good]
+    data = START + b"\n".join(lines) + b"\n"
+    group.same("one input", reading.expected(data), plate.output(data))
+    for cut in (START + b"\0", START + b"\n", START + b"\r", START + b"\r\n", START + b"\n\n\n", START + GOOD[0] + b"\r\n"):
+        group.same("%r" % cut, reading.expected(cut), plate.output(cut))
+    group.done()
+
+
+def lengths(plate, reading):
+    """Lines of every length around 120 and around powers of two, of letters and of a good line made longer; each between
+    good ones."""
+    group = Group("lengths")
+    sizes = [*range(300), *(2**k + d for k in range(9, 18) for d in range(-2, 3))]
+    for fill in (b"x", b" ", b"0", b"\0"):
+        for begin in (b"", GOOD[0], GOOD[0] + b" "):
+            lines = itertools.chain.from_iterable((begin.ljust(size, fill), GOOD[2]) for size in sizes if size > len(begin))
+            data = START + b"\n".join(lines) + b"\n"
+            group.same("lines from %r with %r" % (begin, fill), reading.expected(data), plate.output(data))
+    lines = itertools.chain.from_iterable((b"x" * size + GOOD[0], GOOD[2]) for size in sizes)
+    data = START + b"\n".join(lines) + b"\n"
+    group.same("lines that end in a good one", reading.expected(data), plate.output(data))
+    data = START + LONGEST_READ + b"\n" + LONGEST_READ + b"0\n"
+    group.same("the longest line that reads", reading.expected(data), plate.output(data))
+    for size in (119, 120, 121):  # exactly, alone, with and without LF
+        for data in (START + b"x" * size, START + b"x" * size + b"\n", START + GOOD[0].ljust(size) + b"\n" + GOOD[0] + b"\n"):
+            group.same("%d bytes" % size, reading.expected(data), plate.output(data))
+    group.done()
+
+
+def long_lines(plate, reading):
+    group = Group("lines of 1 MiB")
+    mebibyte, good = b"7" * 2**20, GOOD[0] + b"\n"
+    for what, data in {
+        "names, no LF": mebibyte,
+        "names": mebibyte + b"\n" + START + good,
+        "no LF": START + mebibyte,
+        "a good line before, no LF": START + good + mebibyte,
+        "a good line after": START + mebibyte + b"\n" + good,
+        "good lines around, twice": START + (good + mebibyte + b"\n" + good) * 2,
+        "a good line's bytes at its end": START + mebibyte + good + good,
+        "LF only": START + b"\n" * 2**16,
+    }.items():
+        group.same(what, reading.expected(data), plate.output(data))
+    group.done()
+
+
+def random_value(draw, kind):
+    if kind == "span":
+        edge = draw.choice([0, 1, 60, 86400, 4 * 10**9, 315576 * 10**6, 10**12 - 1])
+        number = draw.choice([edge, -edge, edge + 1, -edge - 1, edge - 1, draw.randint(-edge, edge), draw.randint(-9999, 9999)])
+        return "%d" % max(-(10**12) + 1, min(number, 10**12 - 1))
+    year = draw.choice([2020, 2021, 2021, 2021, 2022, 1, 9999, 1900, draw.randint(1, 9999)])
+    date = "%04d-%02d-%02d" % (year, draw.randint(1, 12), draw.randint(1, 28))
+    if draw.random() < 0.15:
+        date = "%04d-%s" % (draw.choice([0, 1, 1900, 2000, 2023, 2024, 9999]), draw.choice(["02-28", "02-29", "02-30",
+                            "04-30", "04-31", "12-31", "12-32", "00-10", "13-01", "01-00", "01-01"]))
+    if not kind.startswith("stamp"):
+        return date
+    time_of_day = "%02d:%02d:%02d" % (draw.randint(0, 23), draw.randint(0, 59), draw.randint(0, 59))
+    if draw.random() < 0.25:
+        time_of_day = draw.choice(["00:00:00", "00:00:01", "23:59:59", "24:00:00", "23:60:00", "23:59:60", "99:99:99"])
+    return date + "T" + time_of_day
+
+
+def random_line(draw):
+    kind = draw.choice(["date", "month", "year", "stamp", "stampmonth", "stampyear", "span"])
+    start, end = random_value(draw, kind), random_value(draw, kind)
+    if draw.random() < 0.8 and (int(start) > int(end) if kind == "span" else start > end):
+        start, end = end, start
+    if draw.random() < 0.05:
+        end = start
+    hint = draw.choice(["0", "1", "2", "3", "5", "10", "-1", "4096", "4097", "007", str(draw.randint(0, 40))])
+    limits = [draw.choice(["0", "-0", "100", "-32767", "32767", "32768", "-32768", "4294967296", "-999999999999",
+                           str(draw.randint(-1000, 1000))]) for _ in range(2)]
+    return " ".join([kind, start, end, hint, *limits]).encode()
+
+
+def random_lines(plate, reading):
+    """Well-formed lines around the bounds; every refusal that a line can get must come."""
+    group, draw = Group("random lines"), random.Random(20260401)
+    data = START + b"".join(random_line(draw) + b"\n" for _ in range(6000))
+    expected = reading.expected(data)
+    group.same("one input", expected, plate.output(data))
+    for refusal in (3, 4, 5, 6, 7):
+        if b" !%d\n" % refusal not in expected:
+            group.difference("the lines", "none is refused by %d" % refusal)
+    group.done()
+
+
+def random_bytes(plate, reading):
+    group, draw = Group("random bytes"), random.Random(20260402)
+    alphabets = [bytes(range(256)), b"0123456789-: T\n", b"datespn 2021-03\n", b" \n", b"\0\r\n \xff"]
+    for alphabet in alphabets:
+        data = bytes(draw.choices(alphabet, k=2**16))
+        group.same("all of %.20r" % alphabet, reading.expected(data), plate.output(data))
+        group.same("after the names, %.20r" % alphabet, reading.expected(START + data), plate.output(START + data))
+    # Good lines with a few random bytes in them.
+    lines = []
+    for _ in range(4000):
+        line = bytearray(draw.choice(GOOD))
+        for _ in range(draw.randint(1, 3)):
+            line[draw.randrange(len(line))] = draw.choice(alphabets[draw.randrange(3)])
+        lines.append(bytes(line))
+    data = START + b"\n".join(lines) + b"\n"
+    group.same("good lines spoilt", reading.expected(data), plate.output(data))
+    group.done()
+
+
+def output_and_peak(plate, peak, data, folder):
+    """From file to file, so that no other process slows plate down; the output, the largest memory in KiB, and the seconds."""
+    put, got, report = (os.path.join(folder, name) for name in ("in", "out", "peak"))
+    with open(put, "wb") as file:
+        file.write(data)
+    begin = time.monotonic()
+    with open(put, "rb") as source, open(got, "wb") as sink:
+        status = subprocess.run([peak, report, plate.program], stdin=source, stdout=sink, timeout=10 * PATIENCE).returncode
+    seconds = time.monotonic() - begin
+    with open(got, "rb") as out, open(report) as number:
+        return out.read() if status == 0 else b"exit status %d" % status, int(number.read()), seconds
+
+
+def many_lines(plate, reading, tools):
+    """A thousand lines, a few times, and a million: the same bytes as expected, and no more memory but for the noise of pages
+    that the system shares or not; a byte kept for each line is 976 KiB."""
+    group, draw = Group("a million lines"), random.Random(20260403)
+    pool = [random_line(draw) for _ in range(3000)]
+    reading.expected(START + b"\n".join(pool) + b"\n")
+    short = [line for line in pool if len(reading.rows[line]) <= 3][:1000]
+    peaks = []
+    with tempfile.TemporaryDirectory() as folder:
+        for count in (10**3, 10**3, 10**3, 10**6):
+            data = START + b"\n".join(draw.choices(short, k=count)) + b"\n"
+            got, peak, seconds = output_and_peak(plate, os.path.join(tools, "peak"), data, folder)
+            group.same("%d lines" % count, reading.expected(data), got)
+            peaks.append(peak)
+    few, many = max(peaks[:3]), peaks[3]
+    if many > few + 400:
+        group.difference("memory", "%d KiB for 10^3 lines, %d KiB for 10^6" % (few, many))
+    group.done(", %d KiB and %d KiB, %d lines a second" % (few, many, 10**6 / seconds))
+
+
+def main(program, tools):
+    plate, reading = Plate(program), Reading(os.path.join(tools, "answers"))
+    for check in (example, names, broken_off, pieces, damaged, line_ends, lengths, long_lines, random_lines, random_bytes):
+        check(plate, reading)
+    many_lines(plate, reading, tools)
+    return Group.failed
+
+
+if __name__ == "__main__":
+    sys.exit(main(os.path.realpath(sys.argv[1]), sys.argv[2]))
