@@ -1,3 +1,4 @@
 -- The claim, proved.
 pub mod Demand
 pub mod Examples
+pub mod WrongAnswers

@@ -1,15 +1,14 @@
 -- Question 10 of pixels and of their sums. Assumes nothing.
 use mathlib.Core.Path.{_≡_}
 use mathlib.Core.Bool.{true, false}
-use Prim.Native.Nat.{suc, _+_, _^_, _≤_, _/_}
+use Prim.Native.Nat.{_+_, _^_, _≤_}
 use native.Mathlib.Omega.{arith}
-use lib.IntN.{ℤ, pos, negsuc, _+ℤ_}
+use lib.IntN.{ℤ, _+ℤ_}
 use mir.Syntax.{w64}
 use mir.Val.{SFits}
 use Rattle.laws.specs.Numbers.{up, dn}
-use Rattle.laws.proofs.Signed.{add, fits, neg-up, neg-dn, up-fits, dn-fits}
+use Rattle.laws.proofs.Signed.{add, fits, quot-up, quot-dn, up-fits, dn-fits}
 use Rattle.laws.proofs.Tests.{and-false}
-use Rattle.floats.proofs.Signs.{sign-is}
 use Rattle.axis.specs.Questions.{fitsI32}
 use Rattle.axis.proofs.Questions.{i32-range}
 use Rattle.mapping.specs.declared.Pixel.the-variants as pixel
@@ -23,8 +22,7 @@ sum-fits x y p q =
     fits (x +ℤ y) (up x + up y) (dn x + dn y) (omega (arith, add x y)) (omega arith) (omega arith)
 
 half-range : (z : ℤ) → SFits w64 z → (dn (half z) ≤ 2 ^ 62) × (up (half z) ≤ 2 ^ 62)
-half-range (pos n) f = rw (sign-is (pos n)) (omega arith, omega (arith, up-fits (pos n) f))
-half-range (negsuc n) f = (omega (arith, dn-fits (negsuc n) f, neg-dn (pos (suc n / 2))), omega (arith, neg-up (pos (suc n / 2))))
+half-range z f = (omega (arith, dn-fits z f, quot-dn z 2), omega (arith, up-fits z f, quot-up z 2))
 
 pub half-sum-fits : (x z : ℤ) → fitsI32 x ≡ true → SFits w64 z → SFits w64 (x +ℤ half z)
 half-sum-fits x z p f =

@@ -2,13 +2,13 @@
 -- value, a centre and the last end stand between two limits. Definitions only.
 use mathlib.Core.Path.{_≡_}
 use mathlib.Core.Bool.{Bool, true, cond, _&&_, _||_}
-use Prim.Native.Nat.{ℕ, _/_}
+use Prim.Native.Nat.{ℕ}
 use lib.Dec.{ltb}
-use lib.IntN.{ℤ, pos, _+ℤ_, _-ℤ_, natAbs}
-use lib.Signed.{ltZ}
+use lib.IntN.{ℤ, pos, _+ℤ_, _-ℤ_}
+use lib.Signed.{quotZ}
 use lib.Ieee.{binary32, ofInt, div, toSigned}
 use Rattle.laws.specs.Numbers.{within}
-use Rattle.floats.specs.Rounding.{withSign, roundF}
+use Rattle.floats.specs.Rounding.{roundF}
 use Rattle.values.specs.declared.Value.{Value}
 use Rattle.axis.specs.declared.Axis.{Axis}
 use Rattle.axis.specs.declared.Limits.{Limits}
@@ -61,7 +61,7 @@ inner a l = record { low = l .low; high = l .high -ℤ marginOf a l }
 
 -- a half, cut toward zero
 abbrev pub half : ℤ → ℤ
-half z = withSign (ltZ z (pos 0)) (natAbs z / 2)
+half z = quotZ z (pos 2)
 
 -- 10, of a pixel and of a sum
 abbrev pub fitting : Bool → ℤ → Pixel

@@ -70,14 +70,14 @@ fn segment_of(s: Segment) -> SegmentValue
     SegmentValue::Last
 }
 
-// The width by the size, rounded half away from zero: in these ranges the f32 quotient is never moved across a half.
+// The f32 quotient of width and size, rounded half away from zero.
 fn margin_of(a: Axis, l: Limits) -> i64
     requires { ⌜ Counted a × (pixels l ≡ true) × (0 < sizeOf a) ⌝ }
     ensures { λ r. ⌜ r ≡ marginOf a l ⌝ }
 {
     let width = l.high - l.low;
     let size = discrete::size_of(a);
-    floats::signed(width < 0, (2 * floats::size_of(width) + size) / (2 * size))
+    floats::signed(width < 0, floats::half_up(floats::size_of(width), size))
 }
 
 // Values are mapped between the low limit and the high one less a segment.
@@ -95,7 +95,7 @@ fn inner(a: Axis, l: Limits) -> Limits
 fn half(z: i64) -> i64
     ensures { λ r. ⌜ r ≡ half z ⌝ }
 {
-    floats::signed(z < 0, floats::size_of(z) / 2)
+    z / 2
 }
 
 fn segment_refusal(a: Axis, s: Segment) -> u8

@@ -6,11 +6,13 @@ use native.Mathlib.Omega.{arith}
 use Prim.Native.Nat.{ℕ, _≤_, _<_, _^_}
 use lib.IntN.{ℤ, pos, _-ℤ_, natAbs}
 use lib.Signed.{ltZ}
+use lib.Ieee.{binary32, ofInt, div, toUnsigned}
 use mir.Syntax.{w64}
 use mir.Val.{SFits, toZ, ofZ}
 use mir.Facts.{toZ-ofZ}
-use Rattle.floats.specs.Rounding.{withSign, halfUp}
+use Rattle.floats.specs.Rounding.{withSign, halfUp, roundF}
 use Rattle.floats.proofs.Signs.{sign-is}
+use Rattle.floats.proofs.Quotients.{ratio-half}
 use Rattle.axis.proofs.PixelRanges.{limits-are, between-fits}
 use Rattle.discrete.specs.Counting.{sizeOf}
 use Rattle.discrete.proofs.Counting.{size-most}
@@ -57,42 +59,35 @@ most c = size-most (from c .args .a) (from c .pre .0)
 few : (c : tie.After-size-of2) → natAbs (width (from c)) ≤ 65534
 few c = let s = from c in width-few (s .args .a) (s .args .l) (s .pre .0) (s .pre .1) (s .pre .2)
 
-mul-signed : tie.Need-mul-signed
-mul-signed c = omega (arith, wide c, few c)
+half-up-requires : tie.Need-half-up-requires
+half-up-requires c κs = (omega (arith, wide c, few c), omega (arith, many c, from c .pre .2), omega (arith, many c, most c))
 
-add-signed : tie.Need-add-signed
-add-signed c = omega (arith, wide c, few c, many c, most c)
-
-mul-signed-2 : tie.Need-mul-signed-2
-mul-signed-2 c = omega (arith, many c, most c)
-
-div-signed : tie.Need-div-signed
-div-signed c = omega (arith, many c, from c .pre .2)
+-- the quotient in whole numbers
+whole-is : (c : tie.After-half-up) → c .half-up .result ≡ halfUp (natAbs (width (from (c .before)))) (sizeOf (from (c .before) .args .a))
+whole-is c =
+    let n = c .before in
+    let s = from n in
+    c .half-up .ensures
+    ∙ (λ i. toUnsigned 64 (roundF binary32 (div binary32 (ofInt binary32 (pos (wide n i))) (ofInt binary32 (pos (many n i))))))
+    ∙ ratio-half binary32 (natAbs (width s)) (sizeOf (s .args .a)) (omega (arith, few n)) (s .pre .2) (omega (arith, most n)) (omega (arith, few n))
 
 signed-requires : tie.Need-signed-requires
-signed-requires c κs = subst (λ (k : ℕ). k < 2 ^ 63) (sym (λ i. halfUp (wide c i) (many c i))) (let x = from c in omega (arith, margin-few (x .args .a) (x .args .l) (x .pre .0) (x .pre .1) (x .pre .2)))
+signed-requires c κs =
+    let x = from (c .before) in
+    subst (λ (k : ℕ). k < 2 ^ 63) (sym (whole-is c)) (omega (arith, margin-few (x .args .a) (x .args .l) (x .pre .0) (x .pre .1) (x .pre .2)))
 
 returns : tie.Need-returns
 returns c =
-    let n = c .before in
-    let s = from n in
+    let h = c .before in
+    let s = from (h .before) in
     let W = width s in
     toZ-ofZ {w = w64} {z = c .signed .result} (search needs)
     ∙ c .signed .ensures
-    ∙ (λ i. withSign (ltZ (width-is s i) (pos 0)) (halfUp (wide n i) (many n i)))
+    ∙ (λ i. withSign (ltZ (width-is s i) (pos 0)) (whole-is h i))
     ∙ ap (λ (b : Bool). withSign b (halfUp (natAbs W) (sizeOf (s .args .a)))) (sign-is W)
     ∙ sym (margin-is (s .args .a) (s .args .l) (s .pre .0) (s .pre .1) (s .pre .2))
 
 pub margin-of-spec : {M : Type 1} → statement M
 margin-of-spec =
     tie.close
-    (tie.spec
-    sub-width
-    size-of-requires
-    size-of-requires-2
-    mul-signed
-    add-signed
-    mul-signed-2
-    div-signed
-    signed-requires
-    returns)
+    (tie.spec sub-width size-of-requires size-of-requires-2 half-up-requires signed-requires returns)
