@@ -14,6 +14,7 @@ use Rattle.values.specs.declared.Value.{Value}
 use Rattle.values.specs.Values.{isDay}
 use Rattle.values.proofs.Numbers.{is-le, is-gt}
 use Rattle.axis.specs.declared.Axis.{Axis}
+use Rattle.axis.specs.Axes.{end}
 use Rattle.discrete.specs.declared.NumberAnswer.{NumberAnswer}
 use Rattle.discrete.specs.declared.NumberAnswer.the-variants as number
 use Rattle.discrete.specs.declared.ValueAnswer.{ValueAnswer}
@@ -136,6 +137,15 @@ module _ (a : Axis) (v : Value) where
   pub next-is : origin a ≤ position a v → position a v - origin a + 1 < sizeOf a → nextIn a v ≡ value.At (valueAt a (position a v - origin a + 1))
   unfolding nextIn hasPlace placeOf
   next-is h l = rw (le-leb (origin a) (position a v) h, lt-ltb (position a v - origin a + 1) (sizeOf a) l)
+
+  -- the same by where the end stands
+  pub next-end : origin a ≤ position a v → position a (end a) ≤ position a v → nextIn a v ≡ value.None
+  unfolding sizeOf
+  next-end h l = next-last h (omega arith)
+
+  pub next-inside : origin a ≤ position a v → position a v < position a (end a) → nextIn a v ≡ value.At (valueAt a (position a v - origin a + 1))
+  unfolding sizeOf
+  next-inside h l = next-is h (omega arith)
 
   pub previous-none : position a v ≤ origin a → previousIn a v ≡ value.None
   unfolding previousIn hasPlace placeOf

@@ -21,7 +21,7 @@ use Rattle.axis.specs.declared.Axis.{Axis}
 use Rattle.axis.specs.Axes.{start, end}
 use Rattle.axis.specs.Questions.{hasIndex, valueOn}
 use Rattle.axis.proofs.Axes.{both-ends}
-use Rattle.discrete.specs.Counting.{Counted, monthly, yearly, firstDay, firstDate, dateOn, origin, position, sizeOf, placeOf, midnight, monthAt, yearAt, valueAt}
+use Rattle.discrete.specs.Counting.{Counted, monthly, yearly, firstDay, firstDate, dateOn, origin, position, sizeOf, placeOf, midnight, monthAt, january, yearAt, valueAt}
 use Rattle.discrete.proofs.Dates.{ranges, year-9999, year-onward}
 
 -- a kind that counts is one of 1 to 6
@@ -127,13 +127,19 @@ module _ (a : Axis) where
   unfolding monthAt
   month-later i e = rw (ne-eqb i 0 e)
 
+  pub january-start : (y : ℕ) → dayNumber y 1 1 ≤ up (a .«start_head») → january a y ≡ start a
+  unfolding january
+  january-start y h = rw (le-leb (dayNumber y 1 1) (up (a .«start_head»)) h)
+
+  pub january-later : (y : ℕ) → up (a .«start_head») < dayNumber y 1 1 → january a y ≡ midnight (dayNumber y 1 1)
+  unfolding january
+  january-later y h = rw (lt-leb (dayNumber y 1 1) (up (a .«start_head»)) h)
+
   pub year-start : (i : ℕ) → dayNumber (firstDate a .year + i) 1 1 ≤ up (a .«start_head») → yearAt a i ≡ start a
-  unfolding yearAt
-  year-start i h = rw (le-leb (dayNumber (firstDate a .year + i) 1 1) (up (a .«start_head»)) h)
+  year-start i h = january-start (firstDate a .year + i) h
 
   pub year-later : (i : ℕ) → up (a .«start_head») < dayNumber (firstDate a .year + i) 1 1 → yearAt a i ≡ midnight (dayNumber (firstDate a .year + i) 1 1)
-  unfolding yearAt
-  year-later i h = rw (lt-leb (dayNumber (firstDate a .year + i) 1 1) (up (a .«start_head»)) h)
+  year-later i h = january-later (firstDate a .year + i) h
 
 module _ (a : Axis) (c : Counted a) where
   pub on-day : (v : Value) → valueOn a v ≡ true → DayValue v

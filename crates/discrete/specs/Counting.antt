@@ -78,11 +78,12 @@ monthAt a i =
     cond (eqb i 0) (midnight (firstDay a))
     (let k = i + (firstDate a .month - 1) in midnight (dayNumber (firstDate a .year + k / 12) (k % 12 + 1) 1))
 
--- January 1, or the start with its time where that is no earlier
-unfoldable pub yearAt : Axis → ℕ → Value
-yearAt a i =
-    let day = dayNumber (firstDate a .year + i) 1 1 in
-    cond (leb day (up (a .«start_head»))) (start a) (midnight day)
+-- January 1 of a year, or the start with its time where that is no earlier
+unfoldable pub january : Axis → ℕ → Value
+january a year = let day = dayNumber year 1 1 in cond (leb day (up (a .«start_head»))) (start a) (midnight day)
+
+abbrev pub yearAt : Axis → ℕ → Value
+yearAt a i = january a (firstDate a .year + i)
 
 -- the value of a place
 unfoldable pub valueAt : Axis → ℕ → Value

@@ -7,8 +7,8 @@ use calendar::DateTime;
 use unmapping::Unmapped;
 use values::Value;
 ghost use mathlib.Core.Path.{_≡_};
-ghost use mathlib.Core.Bool.{true};
-ghost use Prim.Native.Nat.{_-_, _≤_, _<_, max};
+ghost use mathlib.Core.Bool.{true, false};
+ghost use Prim.Native.Nat.{_+_, _*_, _-_, _≤_, _<_, max};
 ghost use lib.IntN.{natAbs};
 ghost use Rattle.laws.specs.Asking.{firstNo};
 ghost use Rattle.laws.specs.Numbers.{up};
@@ -16,7 +16,7 @@ ghost use Rattle.calendar.specs.Gregorian.{dayNumber};
 ghost use Rattle.values.specs.Values.{isDay};
 ghost use Rattle.axis.specs.Questions.{valueOn, isIndex, unmapPixels};
 ghost use Rattle.discrete.specs.Counting.{Counted, monthly, yearly, firstDay, firstDate, dateOn, origin, position};
-ghost use Rattle.discrete.specs.Counting.{sizeOf, midnight, monthAt, yearAt, valueAt, indexAt, placeUnder};
+ghost use Rattle.discrete.specs.Counting.{sizeOf, midnight, monthAt, january, yearAt, valueAt, indexAt, placeUnder};
 ghost use Rattle.discrete.specs.Answers.{sizeQuestions, valueQuestions, placeQuestions, unmapQuestions, underQuestions, checked, asked};
 ghost use Rattle.discrete.specs.Answers.{indexIn, nextIn, previousIn, valueIn, sizeAnswer, indexAnswer};
 ghost use Rattle.discrete.specs.Answers.{fromIndexAnswer, nextAnswer, previousAnswer, stepped, valuesAnswer, unmapIn, dateTimeUnder, unmapAnswer};
@@ -206,13 +206,11 @@ fn month_at(a: Axis, i: u64) -> ValueAnswer
     month_start(first.year + k / 12, k % 12 + 1)
 }
 
-// January 1, or the start with its time where that is no earlier.
-fn year_at(a: Axis, i: u64) -> ValueAnswer
-    requires { ⌜ Counted a × (i ≤ 3652059) ⌝ }
-    ensures { λ r. ⌜ r ≡ checked (ValueAnswer.At (yearAt a i)) ⌝ }
+// January 1 of a year, or the start with its time where that is no earlier.
+fn january(a: Axis, year: u64) -> ValueAnswer
+    requires { ⌜ Counted a × (1 ≤ year) ⌝ }
+    ensures { λ r. ⌜ r ≡ checked (ValueAnswer.At (january a year)) ⌝ }
 {
-    let first = first_date(a);
-    let year = first.year + i;
     if 9999 < year {
         return ValueAnswer::Refused(10);
     }
@@ -221,6 +219,14 @@ fn year_at(a: Axis, i: u64) -> ValueAnswer
         return ValueAnswer::At(axis::start(a));
     }
     at_midnight(day)
+}
+
+fn year_at(a: Axis, i: u64) -> ValueAnswer
+    requires { ⌜ Counted a × (i ≤ 3652059) ⌝ }
+    ensures { λ r. ⌜ r ≡ checked (ValueAnswer.At (yearAt a i)) ⌝ }
+{
+    let first = first_date(a);
+    january(a, first.year + i)
 }
 
 // The value of an index, and question 10 of it.
@@ -237,20 +243,74 @@ pub fn value_at(a: Axis, i: u64) -> ValueAnswer
     at_midnight(day_of(axis::start(a)) + i)
 }
 
+// The months to a date from before January of the first date's year on.
+fn months_from(first: Date, date: Date) -> u64
+    requires { ⌜ (date .year ≤ 9999) × (date .month ≤ 12) ⌝ }
+    ensures { λ r. ⌜ r ≡ 12 * (date .year - first .year) + date .month ⌝ }
+{
+    12 * excess(date.year, first.year) + date.month
+}
+
+// The next month's first, up to the end's month. The first date is asked for once.
+fn next_month(a: Axis, v: Value) -> ValueAnswer
+    requires { ⌜ Counted a × (valueOn a v ≡ true) × (monthly a ≡ true) ⌝ }
+    ensures { λ r. ⌜ r ≡ checked (nextIn a v) ⌝ }
+{
+    let first = first_date(a);
+    let at = months_from(first, date_on(v));
+    if at < first.month {
+        return ValueAnswer::None;
+    }
+    if months_from(first, date_on(axis::end(a))) <= at {
+        return ValueAnswer::None;
+    }
+    month_start(first.year + at / 12, at % 12 + 1)
+}
+
+// The next January 1, up to the end's year.
+fn next_year(a: Axis, v: Value) -> ValueAnswer
+    requires { ⌜ Counted a × (valueOn a v ≡ true) × (monthly a ≡ false) × (yearly a ≡ true) ⌝ }
+    ensures { λ r. ⌜ r ≡ checked (nextIn a v) ⌝ }
+{
+    let first = first_date(a);
+    let date = date_on(v);
+    if date.year < first.year {
+        return ValueAnswer::None;
+    }
+    let last = date_on(axis::end(a));
+    if last.year <= date.year {
+        return ValueAnswer::None;
+    }
+    january(a, date.year + 1)
+}
+
+// The next day, up to the end.
+fn next_day(a: Axis, v: Value) -> ValueAnswer
+    requires { ⌜ Counted a × (valueOn a v ≡ true) × (monthly a ≡ false) × (yearly a ≡ false) ⌝ }
+    ensures { λ r. ⌜ r ≡ checked (nextIn a v) ⌝ }
+{
+    let at = day_of(v);
+    if at < day_of(axis::start(a)) {
+        return ValueAnswer::None;
+    }
+    if day_of(axis::end(a)) <= at {
+        return ValueAnswer::None;
+    }
+    at_midnight(at + 1)
+}
+
 // The value of the next index, where that is below the size.
 pub fn next_in(a: Axis, v: Value) -> ValueAnswer
     requires { ⌜ Counted a × (valueOn a v ≡ true) ⌝ }
     ensures { λ r. ⌜ r ≡ checked (nextIn a v) ⌝ }
 {
-    let p = place_of(a, v);
-    if p.at < p.from {
-        return ValueAnswer::None;
+    if monthly(a) {
+        return next_month(a, v);
     }
-    let i = p.at - p.from + 1;
-    if i < size_of(a) {
-        return value_at(a, i);
+    if yearly(a) {
+        return next_year(a, v);
     }
-    ValueAnswer::None
+    next_day(a, v)
 }
 
 // The value of the index before.

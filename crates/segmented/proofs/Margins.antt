@@ -15,14 +15,11 @@ use Rattle.floats.specs.Rounding.{withSign, halfUp}
 use Rattle.floats.proofs.Values.{below-zero}
 use Rattle.floats.proofs.Quotients.{halfUp-le, ratio-round}
 use Rattle.values.proofs.Numbers.{is-le}
-use Rattle.axis.specs.declared.Axis.{Axis}
 use Rattle.axis.specs.declared.Limits.{Limits}
 use Rattle.axis.specs.Questions.{isPixel, pixels}
 use Rattle.axis.proofs.Questions.{pixel-range}
 use Rattle.axis.proofs.PixelRanges.{limits-are, between-few}
-use Rattle.discrete.specs.Counting.{Counted, sizeOf}
-use Rattle.discrete.proofs.Counting.{size-most}
-use Rattle.segmented.specs.Segments.{marginOf, inner}
+use Rattle.segmented.specs.Segments.{Some, marginOf, inner}
 
 -- no further than W, and to its side
 no-further : (W : ℤ) (n : ℕ) → n ≤ natAbs W → (up (withSign (below-zero W) n) ≤ up W) × (dn (withSign (below-zero W) n) ≤ dn W)
@@ -43,39 +40,39 @@ module _ (low high m : ℤ) (p : isPixel low ≡ true) (q : isPixel high ≡ tru
         | inr z ↦ (omega (arith, sub high m, sub high low), omega (arith, sub high m, sub high low))
       ]
 
-module _ (a : Axis) (l : Limits) (k : Counted a) (p : pixels l ≡ true) (s : 0 < sizeOf a) where
+module _ (size : ℕ) (l : Limits) (s : Some size) (p : pixels l ≡ true) where
   abbrev width : ℤ
   width = l .high -ℤ l .low
 
   abbrev pub whole : ℕ
-  whole = halfUp (natAbs width) (sizeOf a)
+  whole = halfUp (natAbs width) size
 
   pub width-few : natAbs width ≤ 65534
   width-few = let (x, y) = limits-are l p in between-few (l .high) (l .low) y x
 
   pub margin-few : whole ≤ 65534
-  margin-few = omega (arith, halfUp-le (natAbs width) (sizeOf a) s, width-few)
+  margin-few = omega (arith, halfUp-le (natAbs width) size (s .least), width-few)
 
-  pub margin-is : marginOf a l ≡ withSign (below-zero width) whole
+  pub margin-is : marginOf size l ≡ withSign (below-zero width) whole
   unfolding marginOf
-  margin-is = ratio-round binary32 width (sizeOf a) 31 (omega (arith, width-few)) s (omega (arith, size-most a k)) (omega (arith, margin-few))
+  margin-is = ratio-round binary32 width size 31 (omega (arith, width-few)) (s .least) (omega (arith, s .most)) (omega (arith, margin-few))
 
-  back : (up (l .high -ℤ marginOf a l) ≤ 32767 + dn (l .high -ℤ marginOf a l)) × (dn (l .high -ℤ marginOf a l) ≤ 32767 + up (l .high -ℤ marginOf a l))
+  back : (up (l .high -ℤ marginOf size l) ≤ 32767 + dn (l .high -ℤ marginOf size l)) × (dn (l .high -ℤ marginOf size l) ≤ 32767 + up (l .high -ℤ marginOf size l))
   back =
       let (x, y) = limits-are l p in
-      let (u, d) = no-further width whole (halfUp-le (natAbs width) (sizeOf a) s) in
+      let (u, d) = no-further width whole (halfUp-le (natAbs width) size (s .least)) in
       rw margin-is (back-range (l .low) (l .high) (withSign (below-zero width) whole) x y u d)
 
-  pub inner-fits : SFits w64 (l .high -ℤ marginOf a l)
+  pub inner-fits : SFits w64 (l .high -ℤ marginOf size l)
   inner-fits =
-      let z = l .high -ℤ marginOf a l in
+      let z = l .high -ℤ marginOf size l in
       let (u, d) = back in
       fits z (up z) (dn z) refl (omega arith) (omega arith)
 
-  pub inner-pixels : pixels (inner a l) ≡ true
+  pub inner-pixels : pixels (inner size l) ≡ true
   unfolding pixels inner
   inner-pixels =
-      let z = l .high -ℤ marginOf a l in
+      let z = l .high -ℤ marginOf size l in
       let (x, y) = limits-are l p in
       let (u, d) = back in
       let e : isPixel z ≡ true = is-pixel z u d in

@@ -2,7 +2,7 @@
 -- value, a centre and the last end stand between two limits. Definitions only.
 use mathlib.Core.Path.{_≡_}
 use mathlib.Core.Bool.{Bool, true, cond, _&&_, _||_}
-use Prim.Native.Nat.{ℕ}
+use Prim.Native.Nat.{ℕ, _≤_, _<_}
 use lib.Dec.{ltb}
 use lib.IntN.{ℤ, pos, _+ℤ_, _-ℤ_}
 use lib.Signed.{quotZ}
@@ -50,14 +50,19 @@ segmentMappable a (Exact v) = ltb 0 (sizeOf a) && mappable a v
 segmentMappable a (CenterOf v) = ltb 0 (sizeOf a) && mappable a v
 segmentMappable a Last = ltb 0 (sizeOf a)
 
+-- a size that has room for a segment
+pub record Some (size : ℕ) : Type 0 where
+  pub least : 0 < size
+  pub most : size ≤ 3652059
+
 -- ---- pixels
 -- the room of a segment: (W as f32 / size as f32).round() as i32
-unfoldable pub marginOf : Axis → Limits → ℤ
-marginOf a l = toSigned 31 (roundF binary32 (div binary32 (ofInt binary32 (l .high -ℤ l .low)) (ofInt binary32 (pos (sizeOf a)))))
+unfoldable pub marginOf : ℕ → Limits → ℤ
+marginOf size l = toSigned 31 (roundF binary32 (div binary32 (ofInt binary32 (l .high -ℤ l .low)) (ofInt binary32 (pos size))))
 
 -- values are mapped between the low limit and the high one less a segment
-unfoldable pub inner : Axis → Limits → Limits
-inner a l = record { low = l .low; high = l .high -ℤ marginOf a l }
+unfoldable pub inner : ℕ → Limits → Limits
+inner size l = record { low = l .low; high = l .high -ℤ marginOf size l }
 
 -- a half, cut toward zero
 abbrev pub half : ℤ → ℤ
@@ -77,13 +82,13 @@ beside left margin = fitting (fitsI32 left && fitsI32 (left +ℤ half margin)) (
 
 abbrev pub centred : Axis → Limits → ℤ → ValueAnswer → Pixel
 centred a l left (value.Refused q) = pixel.Refused q
-centred a l left value.None = beside left (marginOf a l)
-centred a l left (value.At w) = between left (placed a (inner a l) w)
+centred a l left value.None = beside left (marginOf (sizeOf a) l)
+centred a l left (value.At w) = between left (placed a (inner (sizeOf a) l) w)
 
 unfoldable pub centreOf : Axis → Limits → Value → Pixel
-centreOf a l v = centred a l (placed a (inner a l) v) (checked (nextIn a v))
+centreOf a l v = centred a l (placed a (inner (sizeOf a) l) v) (checked (nextIn a v))
 
 unfoldable pub segmentPixel : Axis → Limits → SegmentValue → Pixel
-segmentPixel a l (Exact v) = let p = placed a (inner a l) v in fitting (fitsI32 p) p
+segmentPixel a l (Exact v) = let p = placed a (inner (sizeOf a) l) v in fitting (fitsI32 p) p
 segmentPixel a l (CenterOf v) = centreOf a l v
 segmentPixel a l Last = pixel.At (l .high)

@@ -19,7 +19,7 @@ ghost use Rattle.mapping.specs.Mapping.{placed};
 ghost use Rattle.discrete.specs.Counting.{Counted, sizeOf};
 ghost use Rattle.discrete.specs.Answers.{sizeQuestions, placeQuestions};
 ghost use Rattle.ticks.specs.Hints.{bold, light};
-ghost use Rattle.segmented.specs.Segments.{segmentOn, SegmentOn, segmentOf, segmentMappable, marginOf, inner, half, fitting, between, beside, centreOf, segmentPixel};
+ghost use Rattle.segmented.specs.Segments.{segmentOn, SegmentOn, segmentOf, segmentMappable, Some, marginOf, inner, half, fitting, between, beside, centreOf, segmentPixel};
 ghost use Rattle.segmented.specs.Answers.{segmentQuestions, segmentValueQuestions, segmentKindQuestions, segmentMapAnswer, segmentSizeAnswer, segmentIndexIn, segmentIndexAnswer, exactly, segmentAt, segmentFromAnswer, segmentTicksAnswer, segmentTicksWritten};
 
 // The three numbers of a segment value: case 1 exact, 2 centre, 3 last.
@@ -71,23 +71,22 @@ fn segment_of(s: Segment) -> SegmentValue
 }
 
 // The f32 quotient of width and size, rounded half away from zero.
-fn margin_of(a: Axis, l: Limits) -> i64
-    requires { ⌜ Counted a × (pixels l ≡ true) × (0 < sizeOf a) ⌝ }
-    ensures { λ r. ⌜ r ≡ marginOf a l ⌝ }
+fn margin_of(size: u64, l: Limits) -> i64
+    requires { ⌜ Some size × (pixels l ≡ true) ⌝ }
+    ensures { λ r. ⌜ r ≡ marginOf size l ⌝ }
 {
     let width = l.high - l.low;
-    let size = discrete::size_of(a);
     floats::signed(width < 0, floats::half_up(floats::size_of(width), size))
 }
 
 // Values are mapped between the low limit and the high one less a segment.
-fn inner(a: Axis, l: Limits) -> Limits
-    requires { ⌜ Counted a × (pixels l ≡ true) × (0 < sizeOf a) ⌝ }
-    ensures { λ r. ⌜ r ≡ inner a l ⌝ }
+fn inner(size: u64, l: Limits) -> Limits
+    requires { ⌜ Some size × (pixels l ≡ true) ⌝ }
+    ensures { λ r. ⌜ r ≡ inner size l ⌝ }
 {
     Limits {
         low: l.low,
-        high: l.high - margin_of(a, l),
+        high: l.high - margin_of(size, l),
     }
 }
 
@@ -175,11 +174,11 @@ pub fn from_index(a: Axis, i: i64) -> SegmentAnswer
 }
 
 // Question 9: the size, and then the question of mapping; the last is asked only for the size.
-fn segment_mappable(a: Axis, v: SegmentValue) -> bool
-    requires { ⌜ Counted a ⌝ }
+fn segment_mappable(a: Axis, size: u64, v: SegmentValue) -> bool
+    requires { ⌜ size ≡ sizeOf a ⌝ }
     ensures { λ r. ⌜ r ≡ segmentMappable a v ⌝ }
 {
-    let some = 0 < discrete::size_of(a);
+    let some = 0 < size;
     match v {
         SegmentValue::Exact(w) => some & axis::mappable(a, w),
         SegmentValue::CenterOf(w) => some & axis::mappable(a, w),
@@ -225,26 +224,26 @@ fn beside(left: i64, margin: i64) -> Pixel
 }
 
 // The centre of a value's segment, which ends where the next value stands.
-fn centre(a: Axis, l: Limits, v: Value) -> Pixel
-    requires { ⌜ Counted a × (pixels l ≡ true) × (0 < sizeOf a) × (valueOn a v ≡ true) ⌝ }
+fn centre(a: Axis, size: u64, l: Limits, v: Value) -> Pixel
+    requires { ⌜ Counted a × (pixels l ≡ true) × Some size × (valueOn a v ≡ true) × (size ≡ sizeOf a) ⌝ }
     ensures { λ r. ⌜ r ≡ centreOf a l v ⌝ }
 {
-    let m = inner(a, l);
+    let m = inner(size, l);
     let left = mapping::pixel_of(a, m, v);
     match discrete::next_in(a, v) {
         ValueAnswer::Refused(q) => Pixel::Refused(q),
-        ValueAnswer::None => beside(left, margin_of(a, l)),
+        ValueAnswer::None => beside(left, margin_of(size, l)),
         ValueAnswer::At(w) => between(left, mapping::pixel_of(a, m, w)),
     }
 }
 
-fn segment_pixel(a: Axis, l: Limits, v: SegmentValue) -> Pixel
-    requires { ⌜ Counted a × (pixels l ≡ true) × (0 < sizeOf a) × SegmentOn a v ⌝ }
+fn segment_pixel(a: Axis, size: u64, l: Limits, v: SegmentValue) -> Pixel
+    requires { ⌜ Counted a × (pixels l ≡ true) × Some size × SegmentOn a v × (size ≡ sizeOf a) ⌝ }
     ensures { λ r. ⌜ r ≡ segmentPixel a l v ⌝ }
 {
     match v {
-        SegmentValue::Exact(w) => fitting(mapping::pixel_of(a, inner(a, l), w)),
-        SegmentValue::CenterOf(w) => centre(a, l, w),
+        SegmentValue::Exact(w) => fitting(mapping::pixel_of(a, inner(size, l), w)),
+        SegmentValue::CenterOf(w) => centre(a, size, l, w),
         SegmentValue::Last => Pixel::At(l.high),
     }
 }
@@ -266,10 +265,11 @@ pub fn map(a: Axis, l: Limits, s: Segment) -> Pixel
         return Pixel::Refused(q);
     }
     let v = segment_of(s);
-    if !segment_mappable(a, v) {
+    let size = discrete::size_of(a);
+    if !segment_mappable(a, size, v) {
         return Pixel::Refused(9);
     }
-    segment_pixel(a, l, v)
+    segment_pixel(a, size, l, v)
 }
 
 fn kind_refusal(a: Axis) -> u8

@@ -1,71 +1,48 @@
--- `discrete::next_in` meets its contract. Assumes nothing.
+-- `discrete::next_in` meets its contract: by what the axis counts. Assumes nothing.
 use borrow.Author.Needs.{needs}
-use mathlib.Core.Path.{_≡_, sym, _∙_, ap}
-use native.Mathlib.Omega.{arith}
-use Prim.Native.Nat.{_+_, _-_}
-use Rattle.discrete.specs.declared.Place.{Place}
-use Rattle.discrete.specs.declared.ValueAnswer.the-variants as value
-use Rattle.discrete.specs.Counting.{origin, position, valueAt}
-use Rattle.discrete.specs.Answers.{checked}
-use Rattle.discrete.proofs.Counting.{position-most, size-most}
-use Rattle.discrete.proofs.Answers.{no-value, next-before, next-last, next-is}
+use mathlib.Core.Path.{sym, _∙_}
 use Rattle.discrete.proofs.next_in.Statement.{statement}
 use Rattle.discrete.proofs.next_in.Tie as tie
 
-place-of-requires : tie.Need-place-of-requires
-place-of-requires c κs = search needs
+monthly-requires : tie.Need-monthly-requires
+monthly-requires c κs = search needs
 
-from-is : (c : tie.After-place-of) → c .place-of .result .from ≡ origin (c .before .args .a)
-from-is c = ap (λ (x : Place). x .from) (c .place-of .ensures)
-
-at-is : (c : tie.After-place-of) → c .place-of .result .at ≡ position (c .before .args .a) (c .before .args .v)
-at-is c = ap (λ (x : Place). x .at) (c .place-of .ensures)
+next-month-requires : tie.Need-next-month-requires
+next-month-requires c κs = let s = c .before .before in (s .pre .0, s .pre .1, sym (c .before .monthly .ensures) ∙ c .if1 .taken)
 
 returns : tie.Need-returns
-returns c =
-    let p = c .before .before in
-    let x = p .before .args in
-    no-value ∙ ap checked (sym (next-before (x .a) (x .v) (omega (arith, from-is p, at-is p))))
+returns c = search needs
 
-add-i : tie.Need-add-i
-add-i c =
-    let p = c .before .before .before in
-    let s = p .before in
-    omega (arith, at-is p, position-most (s .args .a) (s .pre .0) (s .args .v) (s .pre .1))
+yearly-requires : tie.Need-yearly-requires
+yearly-requires c κs = search needs
 
-size-of-requires : tie.Need-size-of-requires
-size-of-requires c κs = search needs
-
-value-at-requires : tie.Need-value-at-requires
-value-at-requires c κs =
-    let n = c .before in
-    let s = c .before .before .before .before .before .before in
-    (s .pre .0, omega (arith, n .size-of .ensures, size-most (s .args .a) (s .pre .0)))
+next-year-requires : tie.Need-next-year-requires
+next-year-requires c κs =
+    let e = c .before .before in
+    let s = e .before .before in
+    (s .pre .0, s .pre .1, sym (e .before .monthly .ensures) ∙ e .if1 .left, sym (c .before .yearly .ensures) ∙ c .if2 .taken)
 
 returns-2 : tie.Need-returns-2
-returns-2 c =
-    let n = c .before .before in
-    let p = n .before .before .before .before in
-    let x = p .before .args in
-    c .value-at .ensures
-    ∙ ap (λ (y : Place). checked (value.At (valueAt (x .a) (y .at - y .from + 1)))) (p .place-of .ensures)
-    ∙ ap checked (sym (next-is (x .a) (x .v) (omega (arith, from-is p, at-is p)) (omega (arith, from-is p, at-is p, n .size-of .ensures))))
+returns-2 c = search needs
+
+next-day-requires : tie.Need-next-day-requires
+next-day-requires c κs =
+    let e = c .before .before in
+    let s = e .before .before in
+    (s .pre .0, s .pre .1, sym (e .before .monthly .ensures) ∙ e .if1 .left, sym (c .before .yearly .ensures) ∙ c .if2 .left)
 
 returns-3 : tie.Need-returns-3
-returns-3 c =
-    let n = c .before in
-    let p = n .before .before .before .before in
-    let x = p .before .args in
-    no-value ∙ ap checked (sym (next-last (x .a) (x .v) (omega (arith, from-is p, at-is p)) (omega (arith, from-is p, at-is p, n .size-of .ensures))))
+returns-3 c = search needs
 
 pub next-in-spec : {M : Type 1} → statement M
 next-in-spec =
     tie.close
     (tie.spec
-    place-of-requires
+    monthly-requires
+    next-month-requires
     returns
-    add-i
-    size-of-requires
-    value-at-requires
+    yearly-requires
+    next-year-requires
     returns-2
+    next-day-requires
     returns-3)

@@ -19,11 +19,11 @@ high-fits s = search needs
 margin-of-requires : tie.Need-margin-of-requires
 margin-of-requires c κs = search needs
 
-high-is : (c : tie.After-margin-of) → toZ w64 (ofZ w64 (c .before .args .l .high)) -ℤ toZ w64 (ofZ w64 (c .margin-of .result)) ≡ c .before .args .l .high -ℤ marginOf (c .before .args .a) (c .before .args .l)
+high-is : (c : tie.After-margin-of) → toZ w64 (ofZ w64 (c .before .args .l .high)) -ℤ toZ w64 (ofZ w64 (c .margin-of .result)) ≡ c .before .args .l .high -ℤ marginOf (c .before .args .size) (c .before .args .l)
 high-is c = λ i. toZ-ofZ (high-fits (c .before)) i -ℤ (toZ-ofZ {w = w64} {z = c .margin-of .result} (search needs) ∙ c .margin-of .ensures) i
 
-fits : (c : tie.After-margin-of) → SFits w64 (c .before .args .l .high -ℤ marginOf (c .before .args .a) (c .before .args .l))
-fits c = let s = c .before in inner-fits (s .args .a) (s .args .l) (s .pre .0) (s .pre .1) (s .pre .2)
+fits : (c : tie.After-margin-of) → SFits w64 (c .before .args .l .high -ℤ marginOf (c .before .args .size) (c .before .args .l))
+fits c = let s = c .before in inner-fits (s .args .size) (s .args .l) (s .pre .0) (s .pre .1)
 
 sub-t4 : tie.Need-sub-t4
 sub-t4 c = subst (SFits w64) (sym (high-is (c .before .before))) (fits (c .before .before))

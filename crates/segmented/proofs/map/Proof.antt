@@ -7,6 +7,7 @@ use borrow.Author.Tests.{not-true, not-false}
 use Rattle.laws.specs.Asking.{firstNo}
 use Rattle.laws.proofs.Asked.{told}
 use Rattle.discrete.specs.Counting.{Counted}
+use Rattle.discrete.proofs.Counting.{size-most}
 use Rattle.segmented.specs.declared.SegmentValue.{SegmentValue}
 use Rattle.segmented.specs.Segments.{SegmentOn, segmentOf, segmentMappable, segmentPixel}
 use Rattle.segmented.specs.Answers.{segmentValueQuestions, segmentMapAnswer}
@@ -32,39 +33,44 @@ real c =
     let row = segmentValueQuestions (x .a) (x .l) (x .s) in
     record { has = told 2 row tt (none c); real = told 3 row tt (none c) }
 
+size-of-requires : tie.Need-size-of-requires
+size-of-requires c κs = real (c .before)
+
 segment-mappable-requires : tie.Need-segment-mappable-requires
-segment-mappable-requires c κs = real (c .before)
+segment-mappable-requires c κs = c .size-of .ensures
 
 -- question 9's test
-nine : (c : tie.After-segment-mappable) → let x = c .before .before .before .before .args in c .segment-mappable .result ≡ segmentMappable (x .a) (segmentOf (x .s))
-nine c = let x = c .before .before .before .before .args in c .segment-mappable .ensures ∙ ap (segmentMappable (x .a)) (c .before .segment-of .ensures)
+nine : (c : tie.After-segment-mappable) → let x = c .before .before .before .before .before .args in c .segment-mappable .result ≡ segmentMappable (x .a) (segmentOf (x .s))
+nine c = let x = c .before .before .before .before .before .args in c .segment-mappable .ensures ∙ ap (segmentMappable (x .a)) (c .before .before .segment-of .ensures)
 
 returns-2 : tie.Need-returns-2
 returns-2 c =
     let t = c .before in
-    let e = t .before .before in
+    let e = t .before .before .before in
     let x = e .before .before .args in
     map-nine (x .a) (x .l) (x .s) (none e) (sym (nine t) ∙ not-true _ (c .if2 .taken))
 
-yes : (c : tie.Else2) → let x = c .before .before .before .before .before .args in segmentMappable (x .a) (segmentOf (x .s)) ≡ true
+yes : (c : tie.Else2) → let x = c .before .before .before .before .before .before .args in segmentMappable (x .a) (segmentOf (x .s)) ≡ true
 yes c = sym (nine (c .before)) ∙ not-false _ (c .if2 .left)
 
 segment-pixel-requires : tie.Need-segment-pixel-requires
 segment-pixel-requires c κs =
-    let n = c .before .before in
+    let m = c .before .before in
+    let n = m .before in
     let e = n .before in
     let x = e .before .before .args in
     let row = segmentValueQuestions (x .a) (x .l) (x .s) in (
       real e,
       told 7 row tt (none e),
-      some-size (x .a) (segmentOf (x .s)) (yes c),
+      record { least = rw (m .size-of .ensures) (some-size (x .a) (segmentOf (x .s)) (yes c)); most = rw (m .size-of .ensures) (size-most (x .a) (real e)) },
       subst (λ (y : SegmentValue). SegmentOn (x .a) y) (sym (n .segment-of .ensures)) (on-kind (x .a) (x .s) (told 8 row tt (none e))),
+      m .size-of .ensures,
     )
 
 returns-3 : tie.Need-returns-3
 returns-3 c =
     let t = c .before in
-    let n = t .before .before in
+    let n = t .before .before .before in
     let e = n .before in
     let x = e .before .before .args in
     c .segment-pixel .ensures
@@ -78,6 +84,7 @@ map-spec =
     map-refusal-requires
     returns
     segment-of-requires
+    size-of-requires
     segment-mappable-requires
     returns-2
     segment-pixel-requires

@@ -14,17 +14,15 @@ use Rattle.floats.specs.Rounding.{withSign, halfUp, roundF}
 use Rattle.floats.proofs.Signs.{sign-is}
 use Rattle.floats.proofs.Quotients.{ratio-half}
 use Rattle.axis.proofs.PixelRanges.{limits-are, between-fits}
-use Rattle.discrete.specs.Counting.{sizeOf}
-use Rattle.discrete.proofs.Counting.{size-most}
 use Rattle.segmented.proofs.Margins.{width-few, margin-few, margin-is}
 use Rattle.segmented.proofs.margin_of.Statement.{statement}
 use Rattle.segmented.proofs.margin_of.Tie as tie
 
-low-fits : (c : tie.Start) → SFits w64 (c .args .l .low)
-low-fits c = search needs
+low-fits : (s : tie.Start) → SFits w64 (s .args .l .low)
+low-fits s = search needs
 
-high-fits : (c : tie.Start) → SFits w64 (c .args .l .high)
-high-fits c = search needs
+high-fits : (s : tie.Start) → SFits w64 (s .args .l .high)
+high-fits s = search needs
 
 abbrev width : tie.Start → ℤ
 width s = s .args .l .high -ℤ s .args .l .low
@@ -35,46 +33,36 @@ width-fits s = let (p, q) = limits-are (s .args .l) (s .pre .1) in between-fits 
 width-is : (s : tie.Start) → toZ w64 (ofZ w64 (toZ w64 (ofZ w64 (s .args .l .high)) -ℤ toZ w64 (ofZ w64 (s .args .l .low)))) ≡ width s
 width-is s = rw (toZ-ofZ (high-fits s), toZ-ofZ (low-fits s)) (toZ-ofZ (width-fits s))
 
+few : (s : tie.Start) → natAbs (width s) ≤ 65534
+few s = width-few (s .args .size) (s .args .l) (s .pre .0) (s .pre .1)
+
 sub-width : tie.Need-sub-width
 sub-width c = let s = c .before .before in rw (toZ-ofZ (high-fits s), toZ-ofZ (low-fits s)) (width-fits s)
 
 size-of-requires : tie.Need-size-of-requires
 size-of-requires c κs = search needs
 
-size-of-requires-2 : tie.Need-size-of-requires-2
-size-of-requires-2 c κs = search needs
+abbrev from : tie.After-size-of → tie.Start
+from c = c .before .before .before
 
-abbrev from : tie.After-size-of2 → tie.Start
-from c = c .before .before .before .before
-
-wide : (c : tie.After-size-of2) → c .size-of2 .result ≡ natAbs (width (from c))
-wide c = c .size-of2 .ensures ∙ ap natAbs (width-is (from c))
-
-many : (c : tie.After-size-of2) → c .before .size-of .result ≡ sizeOf (from c .args .a)
-many c = c .before .size-of .ensures
-
-most : (c : tie.After-size-of2) → sizeOf (from c .args .a) ≤ 3652059
-most c = size-most (from c .args .a) (from c .pre .0)
-
-few : (c : tie.After-size-of2) → natAbs (width (from c)) ≤ 65534
-few c = let s = from c in width-few (s .args .a) (s .args .l) (s .pre .0) (s .pre .1) (s .pre .2)
+wide : (c : tie.After-size-of) → c .size-of .result ≡ natAbs (width (from c))
+wide c = c .size-of .ensures ∙ ap natAbs (width-is (from c))
 
 half-up-requires : tie.Need-half-up-requires
-half-up-requires c κs = (omega (arith, wide c, few c), omega (arith, many c, from c .pre .2), omega (arith, many c, most c))
+half-up-requires c κs = let s = from c in (omega (arith, wide c, few s), s .pre .0 .least, omega (arith, s .pre .0 .most))
 
 -- the quotient in whole numbers
-whole-is : (c : tie.After-half-up) → c .half-up .result ≡ halfUp (natAbs (width (from (c .before)))) (sizeOf (from (c .before) .args .a))
+whole-is : (c : tie.After-half-up) → c .half-up .result ≡ halfUp (natAbs (width (from (c .before)))) (from (c .before) .args .size)
 whole-is c =
-    let n = c .before in
-    let s = from n in
+    let s = from (c .before) in
     c .half-up .ensures
-    ∙ (λ i. toUnsigned 64 (roundF binary32 (div binary32 (ofInt binary32 (pos (wide n i))) (ofInt binary32 (pos (many n i))))))
-    ∙ ratio-half binary32 (natAbs (width s)) (sizeOf (s .args .a)) (omega (arith, few n)) (s .pre .2) (omega (arith, most n)) (omega (arith, few n))
+    ∙ ap (λ (n : ℕ). toUnsigned 64 (roundF binary32 (div binary32 (ofInt binary32 (pos n)) (ofInt binary32 (pos (s .args .size)))))) (wide (c .before))
+    ∙ ratio-half binary32 (natAbs (width s)) (s .args .size) (omega (arith, few s)) (s .pre .0 .least) (omega (arith, s .pre .0 .most)) (omega (arith, few s))
 
 signed-requires : tie.Need-signed-requires
 signed-requires c κs =
-    let x = from (c .before) in
-    subst (λ (k : ℕ). k < 2 ^ 63) (sym (whole-is c)) (omega (arith, margin-few (x .args .a) (x .args .l) (x .pre .0) (x .pre .1) (x .pre .2)))
+    let s = from (c .before) in
+    subst (λ (k : ℕ). k < 2 ^ 63) (sym (whole-is c)) (omega (arith, margin-few (s .args .size) (s .args .l) (s .pre .0) (s .pre .1)))
 
 returns : tie.Need-returns
 returns c =
@@ -84,10 +72,10 @@ returns c =
     toZ-ofZ {w = w64} {z = c .signed .result} (search needs)
     ∙ c .signed .ensures
     ∙ (λ i. withSign (ltZ (width-is s i) (pos 0)) (whole-is h i))
-    ∙ ap (λ (b : Bool). withSign b (halfUp (natAbs W) (sizeOf (s .args .a)))) (sign-is W)
-    ∙ sym (margin-is (s .args .a) (s .args .l) (s .pre .0) (s .pre .1) (s .pre .2))
+    ∙ ap (λ (b : Bool). withSign b (halfUp (natAbs W) (s .args .size))) (sign-is W)
+    ∙ sym (margin-is (s .args .size) (s .args .l) (s .pre .0) (s .pre .1))
 
 pub margin-of-spec : {M : Type 1} → statement M
 margin-of-spec =
     tie.close
-    (tie.spec sub-width size-of-requires size-of-requires-2 half-up-requires signed-requires returns)
+    (tie.spec sub-width size-of-requires half-up-requires signed-requires returns)

@@ -7,9 +7,6 @@ use Rattle.segmented.specs.Segments.{segmentMappable}
 use Rattle.segmented.proofs.segment_mappable.Statement.{statement}
 use Rattle.segmented.proofs.segment_mappable.Tie as tie
 
-size-of-requires : tie.Need-size-of-requires
-size-of-requires c κs = search needs
-
 enum-known-v : tie.Need-enum-known-v
 enum-known-v c = search needs
 
@@ -30,26 +27,25 @@ unfolding segmentMappable
 returns c =
     let k = c .before .before in
     let s = k .before .before in
-    (λ i. ltb 0 (s .size-of .ensures i) && c .mappable .ensures i) ∙ ap (segmentMappable (s .before .args .a)) (sym (k .v .given .1))
+    (λ i. ltb 0 (s .pre i) && c .mappable .ensures i) ∙ ap (segmentMappable (s .args .a)) (sym (k .v .given .1))
 
 returns-2 : tie.Need-returns-2
 unfolding segmentMappable
 returns-2 c =
     let k = c .before .before in
     let s = k .before .before in
-    (λ i. ltb 0 (s .size-of .ensures i) && c .mappable2 .ensures i) ∙ ap (segmentMappable (s .before .args .a)) (sym (k .v2 .given .1))
+    (λ i. ltb 0 (s .pre i) && c .mappable2 .ensures i) ∙ ap (segmentMappable (s .args .a)) (sym (k .v2 .given .1))
 
 returns-3 : tie.Need-returns-3
 unfolding segmentMappable
 returns-3 c =
     let s = c .before .before in
-    ap (ltb 0) (s .size-of .ensures) ∙ ap (segmentMappable (s .before .args .a)) (sym (c .enum-told .given .1))
+    ap (ltb 0) (s .pre) ∙ ap (segmentMappable (s .args .a)) (sym (c .enum-told .given .1))
 
 pub segment-mappable-spec : {M : Type 1} → statement M
 segment-mappable-spec =
     tie.close
     (tie.spec
-    size-of-requires
     enum-known-v
     mappable-requires
     enum-known-v-2

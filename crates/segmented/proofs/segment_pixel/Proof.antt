@@ -2,6 +2,7 @@
 use borrow.Author.Needs.{needs}
 use mathlib.Core.Path.{_≡_, sym, _∙_, ap, subst}
 use mathlib.Core.Bool.{true}
+use Prim.Native.Nat.{ℕ}
 use lib.IntN.{ℤ}
 use mir.Syntax.{w64}
 use mir.Val.{SFits, toZ, ofZ}
@@ -30,7 +31,7 @@ pixel-of-requires c κs =
     let k = c .before .before in
     let s = k .before .before in (
       s .pre .0 .real,
-      subst (λ (l : Limits). pixels l ≡ true) (sym (c .inner .ensures)) (inner-pixels (s .args .a) (s .args .l) (s .pre .0) (s .pre .1) (s .pre .2)),
+      subst (λ (l : Limits). pixels l ≡ true) (sym (c .inner .ensures)) (inner-pixels (s .args .size) (s .args .l) (s .pre .2) (s .pre .1)),
       subst (λ (y : SegmentValue). SegmentOn (s .args .a) y) (k .v .given .1) (s .pre .3),
     )
 
@@ -44,7 +45,7 @@ centre-requires : tie.Need-centre-requires
 centre-requires c κs =
     let k = c .before in
     let s = k .before .before in
-    (s .pre .0, s .pre .1, s .pre .2, subst (λ (y : SegmentValue). SegmentOn (s .args .a) y) (k .v2 .given .1) (s .pre .3))
+    (s .pre .0, s .pre .1, s .pre .2, subst (λ (y : SegmentValue). SegmentOn (s .args .a) y) (k .v2 .given .1) (s .pre .3), s .pre .4)
 
 enum-told : tie.Need-enum-told
 enum-told c = search needs
@@ -55,12 +56,13 @@ returns c =
     let p = c .before in
     let n = p .before in
     let k = n .before .before in
-    let x = k .before .before .args in
+    let s = k .before .before in
+    let x = s .args in
     c .fitting .ensures
     ∙ ap (λ (z : ℤ). fitting (fitsI32 z) z)
     (toZ-ofZ {w = w64} {z = p .pixel-of .result} (search needs)
     ∙ p .pixel-of .ensures
-    ∙ ap (λ (l : Limits). placed (x .a) l (k .v .given .0 .0)) (n .inner .ensures))
+    ∙ ap (λ (l : Limits). placed (x .a) l (k .v .given .0 .0)) (n .inner .ensures ∙ ap (λ (m : ℕ). inner m (x .l)) (s .pre .4)))
     ∙ ap (segmentPixel (x .a) (x .l)) (sym (k .v .given .1))
 
 returns-2 : tie.Need-returns-2

@@ -1,0 +1,100 @@
+-- `discrete::next_day` meets its contract. Assumes nothing.
+use borrow.Author.Needs.{needs}
+use mathlib.Core.Path.{_≡_, sym, _∙_, ap}
+use native.Mathlib.Omega.{arith}
+use Prim.Native.Nat.{ℕ, _+_, _-_, _*_, _/_, _%_, _≤_, _<_}
+use Rattle.laws.specs.Numbers.{up}
+use Rattle.calendar.specs.declared.Date.{Date}
+use Rattle.values.specs.declared.Value.{Value}
+use Rattle.axis.specs.Axes.{start, end}
+use Rattle.discrete.specs.declared.ValueAnswer.the-variants as value
+use Rattle.discrete.specs.Counting.{firstDate, dateOn, origin, position, midnight, january, valueAt}
+use Rattle.discrete.specs.Answers.{checked}
+use Rattle.discrete.proofs.Counting.{on-day, starts, end-on, is-day, origin-days, position-days, value-days}
+use Rattle.discrete.proofs.Answers.{no-value, next-before, next-end, next-inside}
+use Rattle.discrete.proofs.next_day.Statement.{statement}
+use Rattle.discrete.proofs.next_day.Tie as tie
+
+day-of-requires : tie.Need-day-of-requires
+day-of-requires c κs = is-day (c .args .v) (on-day (c .args .a) (c .pre .0) (c .args .v) (c .pre .1))
+
+start-requires : tie.Need-start-requires
+start-requires c κs = search needs
+
+day-of-requires-2 : tie.Need-day-of-requires-2
+day-of-requires-2 c κs = let s = c .before .before in rw (c .start .ensures) (is-day (start (s .args .a)) (starts (s .args .a) (s .pre .0)))
+
+at-is : (c : tie.After-day-of) → c .day-of .result ≡ position (c .before .args .a) (c .before .args .v)
+at-is c = let s = c .before in c .day-of .ensures ∙ sym (position-days (s .args .a) (s .args .v) (s .pre .2) (s .pre .3))
+
+from-is : (c : tie.After-day-of2) → c .day-of2 .result ≡ origin (c .before .before .before .args .a)
+from-is c =
+    let s = c .before .before .before in
+    c .day-of2 .ensures ∙ ap (λ (v : Value). up (v .head)) (c .before .start .ensures) ∙ sym (origin-days (s .args .a) (s .pre .2) (s .pre .3))
+
+returns : tie.Need-returns
+returns c =
+    let d = c .before in
+    let t = d .before .before in
+    let x = t .before .args in
+    no-value ∙ ap checked (sym (next-before (x .a) (x .v) (omega (arith, c .if1 .taken, from-is d, at-is t))))
+
+end-requires : tie.Need-end-requires
+end-requires c κs = search needs
+
+day-of-requires-3 : tie.Need-day-of-requires-3
+day-of-requires-3 c κs =
+    let s = c .before .before .before .before .before in
+    rw (c .end .ensures) (is-day (end (s .args .a)) (on-day (s .args .a) (s .pre .0) (end (s .args .a)) (end-on (s .args .a) (s .pre .0))))
+
+to-is : (c : tie.After-day-of3) → c .day-of3 .result ≡ position (c .before .before .before .before .before .before .args .a) (end (c .before .before .before .before .before .before .args .a))
+to-is c =
+    let s = c .before .before .before .before .before .before in
+    c .day-of3 .ensures ∙ ap (λ (v : Value). up (v .head)) (c .before .end .ensures) ∙ sym (position-days (s .args .a) (end (s .args .a)) (s .pre .2) (s .pre .3))
+
+from-to : (c : tie.Else1) → let s = c .before .before .before .before in origin (s .args .a) ≤ position (s .args .a) (s .args .v)
+from-to c = let d = c .before in omega (arith, c .if1 .left, from-is d, at-is (d .before .before))
+
+returns-2 : tie.Need-returns-2
+returns-2 c =
+    let d = c .before in
+    let e = d .before .before in
+    let t = e .before .before .before in
+    let x = t .before .args in
+    no-value ∙ ap checked (sym (next-end (x .a) (x .v) (from-to e) (omega (arith, c .if2 .taken, to-is d, at-is t))))
+
+add-at-midnight : tie.Need-add-at-midnight
+add-at-midnight c = search needs
+
+at-midnight-requires : tie.Need-at-midnight-requires
+at-midnight-requires c κs = search needs
+
+returns-3 : tie.Need-returns-3
+returns-3 c =
+    let n = c .before in
+    let d = n .before in
+    let e = d .before .before in
+    let t = e .before .before .before in
+    let s = t .before in
+    let x = s .args in
+    let place : t .day-of .result + 1 ≡ up (x .a .«start_head») + (position (x .a) (x .v) - origin (x .a) + 1) =
+    omega (arith, at-is t, from-to e, origin-days (x .a) (s .pre .2) (s .pre .3)) in
+    c .at-midnight .ensures
+    ∙ ap (λ (k : ℕ). checked (value.At (midnight k))) place
+    ∙ ap (λ (v : Value). checked (value.At v)) (sym (value-days (x .a) (position (x .a) (x .v) - origin (x .a) + 1) (s .pre .2) (s .pre .3)))
+    ∙ ap checked (sym (next-inside (x .a) (x .v) (from-to e) (omega (arith, n .if2 .left, to-is d, at-is t))))
+
+pub next-day-spec : {M : Type 1} → statement M
+next-day-spec =
+    tie.close
+    (tie.spec
+    day-of-requires
+    start-requires
+    day-of-requires-2
+    returns
+    end-requires
+    day-of-requires-3
+    returns-2
+    add-at-midnight
+    at-midnight-requires
+    returns-3)
