@@ -1,0 +1,2 @@
+-- The lemmas that the proofs share.
+pub mod Keeping

@@ -1,0 +1,208 @@
+-- A chunk moves the output on by what its first line prints, wherever chunks end; and all of it is plate's output.
+-- Assumes nothing.
+use mathlib.Core.Path.{_≡_, refl, sym, ap, _∙_}
+use mathlib.Core.Bool.{Bool, true, false, cond}
+use mathlib.Core.List.{List, [], _∷_, _++_, append-assoc, append-nil}
+use Prim.Native.Nat.{ℕ, zero, suc, _+_, _≤_, _<_}
+use native.Mathlib.Numerals.{add-one}
+use native.Mathlib.Omega.{arith}
+use lib.Dec.{eqb}
+use lib.ListN.{length, take, drop, drop-of-length-le}
+use lib.Seq.{take-all}
+use borrow.Author.Tests.{ltb-true, ltb-false}
+use Rattle.text_read.specs.Fields.{untilOf}
+use Rattle.text_line.specs.Line.{isNames}
+use Rattle.text_write.specs.Texts.{Wrote}
+use Rattle.text_write.proofs.Writing.{in-front}
+use Rattle.feed.specs.declared.Fed.{Fed}
+use Rattle.feed.specs.Feed.{Ate}
+use Rattle.feed.proofs.Keeping.{take-front, used-some}
+use Rattle.text_rows.specs.Answers.{rowsOf}
+use Rattle.text_plate.specs.Plate.{outputNames, noNames, Cut, joined, cut, linesText, plateText, plateOf}
+use Rattle.text_plate.specs.declared.State.{State}
+use Rattle.text_plate.specs.Turns.{finishedText, goesOn, endedText, toCome, Turned}
+use Rattle.text_plate.proofs.Lines.{finished-same, goes-same, ended-same}
+
+-- ---- 121 bytes of a line tell as much as all of them
+same-more : (a b q : List ℕ) → take 121 a ≡ take 121 b → take 121 (a ++ q) ≡ take 121 (b ++ q)
+same-more a b q e = sym (take-front 121 a q) ∙ (ap (λ (l : List ℕ). take 121 (l ++ q)) e ∙ take-front 121 b q)
+
+same-to-come : (s : List ℕ) (n : ℕ) (a b : List ℕ) → take 121 a ≡ take 121 b → toCome n a s ≡ toCome n b s
+unfolding toCome
+same-to-come [] n a b e = ended-same n a b e
+same-to-come (x ∷ s) n a b e = rw (finished-same n a b e, goes-same n a b e, same-to-come s n (a ++ (x ∷ [])) (b ++ (x ∷ [])) (same-more a b (x ∷ []) e))
+
+-- ---- a chunk with no LF, and one up to its first LF
+no-end : (chunk : List ℕ) (n : ℕ) (begun more : List ℕ) → length chunk ≤ untilOf 10 chunk → toCome n begun (chunk ++ more) ≡ toCome n (begun ++ chunk) more
+unfolding toCome untilOf
+no-end [] n begun more h = ap (λ (l : List ℕ). toCome n l more) (sym (append-nil begun))
+no-end (x ∷ s) n begun more h = go (eqb x 10) h (λ l. no-end s n (begun ++ (x ∷ [])) more l)
+  where
+    go : (t : Bool) → suc (length s) ≤ cond t 0 (suc (untilOf 10 s))
+        → (length s ≤ untilOf 10 s → toCome n (begun ++ (x ∷ [])) (s ++ more) ≡ toCome n ((begun ++ (x ∷ [])) ++ s) more)
+        → cond t (finishedText n begun ++ cond (goesOn n begun) (toCome (suc n) [] (s ++ more)) []) (toCome n (begun ++ (x ∷ [])) (s ++ more)) ≡ toCome n (begun ++ (x ∷ s)) more
+    go true l again = absurd (let z : ⊥ = omega arith in z)
+    go false l again = again (omega arith) ∙ ap (λ (b : List ℕ). toCome n b more) (append-assoc begun (x ∷ []) s)
+
+abbrev afterLine : ℕ → List ℕ → List ℕ → List ℕ
+afterLine n line rest = finishedText n line ++ cond (goesOn n line) (toCome (suc n) [] rest) []
+
+to-end : (chunk : List ℕ) (n : ℕ) (begun more : List ℕ) → untilOf 10 chunk < length chunk → toCome n begun (chunk ++ more) ≡ afterLine n (begun ++ take (untilOf 10 chunk) chunk) (drop (suc (untilOf 10 chunk)) chunk ++ more)
+unfolding toCome untilOf
+to-end [] n begun more h = absurd (let z : ⊥ = omega arith in z)
+to-end (x ∷ s) n begun more h = go (eqb x 10) h (λ l. to-end s n (begun ++ (x ∷ [])) more l)
+  where
+    go : (t : Bool) → cond t 0 (suc (untilOf 10 s)) < suc (length s)
+        → (untilOf 10 s < length s → toCome n (begun ++ (x ∷ [])) (s ++ more) ≡ afterLine n ((begun ++ (x ∷ [])) ++ take (untilOf 10 s) s) (drop (suc (untilOf 10 s)) s ++ more))
+        → cond t (finishedText n begun ++ cond (goesOn n begun) (toCome (suc n) [] (s ++ more)) []) (toCome n (begun ++ (x ∷ [])) (s ++ more))
+        ≡ afterLine n (begun ++ take (cond t 0 (suc (untilOf 10 s))) (x ∷ s)) (drop (suc (cond t 0 (suc (untilOf 10 s)))) (x ∷ s) ++ more)
+    go true l again = rw (append-nil begun)
+    go false l again = again (omega arith) ∙ ap (λ (b : List ℕ). afterLine n b (drop (suc (untilOf 10 s)) s ++ more)) (append-assoc begun (x ∷ []) (take (untilOf 10 s) s))
+
+-- ---- a turn
+take-twice : (n : ℕ) (s : List ℕ) → take n (take n s) ≡ take n s
+take-twice zero s = refl
+take-twice (suc n) [] = refl
+take-twice (suc n) (b ∷ s) = ap (λ (l : List ℕ). b ∷ l) (take-twice n s)
+
+module _ (begun chunk : List ℕ) (f : Fed) (after : List ℕ) (h : Ate begun chunk f after) (n : ℕ) (more : List ℕ) where
+  same-line : take 121 (begun ++ take (untilOf 10 chunk) chunk) ≡ take 121 (take (f .len) after)
+  same-line = rw (h .line) (sym (take-twice 121 (begun ++ take (untilOf 10 chunk) chunk)))
+
+  -- the chunk has no LF: all of it goes to the line
+  pub turn-on : f .ended ≡ false → toCome n begun (chunk ++ more) ≡ toCome n (take (f .len) after) (drop (f .used) chunk ++ more)
+  turn-on e =
+      let t = sym (h .ended) ∙ e in
+      let l : length chunk ≤ untilOf 10 chunk = ltb-false (untilOf 10 chunk) (length chunk) t in
+      let u : f .used ≡ untilOf 10 chunk = h .used ∙ ap (λ (b : Bool). cond b (untilOf 10 chunk + 1) (untilOf 10 chunk)) t in
+      let m : length chunk ≤ f .used = omega arith in
+      let none : drop (f .used) chunk ≡ [] = drop-of-length-le chunk m in
+      let all : take (untilOf 10 chunk) chunk ≡ chunk = take-all (untilOf 10 chunk) chunk l in
+      rw none (no-end chunk n begun more l ∙ same-to-come more n (begun ++ chunk) (take (f .len) after) (rw all at same-line))
+
+  -- it has one: the line is finished
+  pub turn-end : f .ended ≡ true → toCome n begun (chunk ++ more) ≡ afterLine n (take (f .len) after) (drop (f .used) chunk ++ more)
+  turn-end e =
+      let t = sym (h .ended) ∙ e in
+      let l : untilOf 10 chunk < length chunk = ltb-true (untilOf 10 chunk) (length chunk) t in
+      let u : f .used ≡ suc (untilOf 10 chunk) = h .used ∙ (ap (λ (b : Bool). cond b (untilOf 10 chunk + 1) (untilOf 10 chunk)) t ∙ add-one (untilOf 10 chunk)) in
+      let line = begun ++ take (untilOf 10 chunk) chunk in
+      to-end chunk n begun more l
+      ∙ rw (u, finished-same n line (take (f .len) after) same-line, goes-same n line (take (f .len) after) same-line)
+
+-- what a turn answers
+abbrev most : ℕ
+most = 18446744073709551615
+
+module _ (s : State) (kept chunk : List ℕ) (f : Fed) (after : List ℕ) (h : Ate (take (s .len) kept) chunk f after) where
+  pub turned-on : (out : List ℕ) → f .ended ≡ false
+      → Turned s kept chunk (record { state = record { number = s .number; len = f .len }; goes = true; used = f .used; written = 0 }) after out
+  turned-on out e =
+      let u = used-some (take (s .len) kept) chunk f after h in
+      record {
+        ready = record { most = h .most; size = h .same-size };
+        some = u .0;
+        within = u .1;
+        room = omega arith;
+        output = λ l more. turn-on (take (s .len) kept) chunk f after h (s .number) more e;
+      }
+
+  pub turned-end : {before out : List ℕ} {n k : ℕ} {g : Bool} → f .ended ≡ true → (s .number < most → n ≡ s .number + 1)
+      → g ≡ goesOn (s .number) (take (f .len) after)
+      → Wrote (finishedText (s .number) (take (f .len) after)) 0 before k out → k ≤ length out
+      → Turned s kept chunk (record { state = record { number = n; len = 0 }; goes = g; used = f .used; written = k }) after out
+  turned-end {before} {out} {n} {k} {g} e next goes w r =
+      let u = used-some (take (s .len) kept) chunk f after h in
+      record {
+        ready = record { most = omega arith; size = h .same-size };
+        some = u .0;
+        within = u .1;
+        room = r;
+        output = λ l more.
+            let m : n ≡ suc (s .number) = next l ∙ add-one (s .number) in
+            rw (in-front w r, goes, m) (turn-end (take (s .len) kept) chunk f after h (s .number) more e);
+      }
+
+-- ---- the whole output
+-- bytes before the first of the lines
+abbrev frontLines : List ℕ → List (List ℕ) → List (List ℕ)
+frontLines p [] = []
+frontLines p (l ∷ ls) = (p ++ l) ∷ ls
+
+abbrev frontLeft : List ℕ → List (List ℕ) → List ℕ → List ℕ
+frontLeft p [] left = p ++ left
+frontLeft p (l ∷ ls) left = left
+
+no-front : (ls : List (List ℕ)) → frontLines [] ls ≡ ls
+no-front [] = refl
+no-front (l ∷ ls) = refl
+
+no-front-left : (ls : List (List ℕ)) (left : List ℕ) → frontLeft [] ls left ≡ left
+no-front-left [] left = refl
+no-front-left (l ∷ ls) left = refl
+
+one-more : (p : List ℕ) (b : ℕ) (ls : List (List ℕ)) (left : List ℕ) → frontLines (p ++ (b ∷ [])) ls ≡ frontLines p (joined b ls left .lines)
+one-more p b [] left = refl
+one-more p b (l ∷ ls) left = ap (λ (x : List ℕ). x ∷ ls) (append-assoc p (b ∷ []) l)
+
+one-more-left : (p : List ℕ) (b : ℕ) (ls : List (List ℕ)) (left : List ℕ) → frontLeft (p ++ (b ∷ [])) ls left ≡ frontLeft p (joined b ls left .lines) (joined b ls left .left)
+one-more-left p b [] left = append-assoc p (b ∷ []) left
+one-more-left p b (l ∷ ls) left = refl
+
+at-end : (n : ℕ) (p : List ℕ) → endedText (suc n) p ≡ linesText (suc n) [] (p ++ [])
+unfolding endedText linesText
+at-end n [] = refl
+at-end n (b ∷ p) = refl
+
+-- from the line n on, where p was begun
+abbrev linesOf : ℕ → List ℕ → Cut → List ℕ
+linesOf n p c = linesText n (frontLines p (c .lines)) (frontLeft p (c .lines) (c .left))
+
+abbrev lineEnded : Cut → Cut
+lineEnded c = record { lines = [] ∷ c .lines; left = c .left }
+
+new-line : (n : ℕ) (p : List ℕ) (c : Cut) → rowsOf n p ++ linesOf (suc n) [] c ≡ linesOf n p (lineEnded c)
+unfolding linesText
+new-line n p c = rw (no-front (c .lines), no-front-left (c .lines) (c .left), append-nil p)
+
+same-lines : (n : ℕ) (p : List ℕ) (b : ℕ) (c : Cut) → linesOf n (p ++ (b ∷ [])) c ≡ linesOf n p (joined b (c .lines) (c .left))
+same-lines n p b c = rw (one-more p b (c .lines) (c .left), one-more-left p b (c .lines) (c .left))
+
+lines-come : (s : List ℕ) (n : ℕ) (p : List ℕ) → toCome (suc n) p s ≡ linesOf (suc n) p (cut s)
+unfolding toCome cut finishedText goesOn
+lines-come [] n p = at-end n p
+lines-come (b ∷ s) n p = go (eqb b 10) (lines-come s (suc n) []) (lines-come s n (p ++ (b ∷ [])))
+  where
+    go : (t : Bool) → toCome (suc (suc n)) [] s ≡ linesOf (suc (suc n)) [] (cut s) → toCome (suc n) (p ++ (b ∷ [])) s ≡ linesOf (suc n) (p ++ (b ∷ [])) (cut s)
+        → cond t (rowsOf (suc n) p ++ toCome (suc (suc n)) [] s) (toCome (suc n) (p ++ (b ∷ [])) s) ≡ linesOf (suc n) p (cond t (lineEnded (cut s)) (joined b (cut s .lines) (cut s .left)))
+    go true x y = ap (λ (l : List ℕ). rowsOf (suc n) p ++ l) x ∙ new-line (suc n) p (cut s)
+    go false x y = y ∙ same-lines (suc n) p b (cut s)
+
+-- from the names line on
+abbrev plateFrom : List ℕ → Cut → List ℕ
+plateFrom p c = plateText (frontLines p (c .lines)) (frontLeft p (c .lines) (c .left))
+
+names-line : (p : List ℕ) (c : Cut) → cond (isNames p) outputNames noNames ++ cond (isNames p) (linesOf 1 [] c) [] ≡ plateFrom p (lineEnded c)
+names-line p c = rw (no-front (c .lines), no-front-left (c .lines) (c .left), append-nil p) (go (isNames p))
+  where
+    go : (t : Bool) → cond t outputNames noNames ++ cond t (linesText 1 (c .lines) (c .left)) [] ≡ cond t (outputNames ++ linesText 1 (c .lines) (c .left)) noNames
+    go true = refl
+    go false = append-nil noNames
+
+same-names : (p : List ℕ) (b : ℕ) (c : Cut) → plateFrom (p ++ (b ∷ [])) c ≡ plateFrom p (joined b (c .lines) (c .left))
+same-names p b c = rw (one-more p b (c .lines) (c .left), one-more-left p b (c .lines) (c .left))
+
+names-come : (s p : List ℕ) → toCome 0 p s ≡ plateFrom p (cut s)
+unfolding toCome cut finishedText goesOn endedText
+names-come [] p = refl
+names-come (b ∷ s) p = go (eqb b 10) (lines-come s 0 []) (names-come s (p ++ (b ∷ [])))
+  where
+    go : (t : Bool) → toCome 1 [] s ≡ linesOf 1 [] (cut s) → toCome 0 (p ++ (b ∷ [])) s ≡ plateFrom (p ++ (b ∷ [])) (cut s)
+        → cond t (cond (isNames p) outputNames noNames ++ cond (isNames p) (toCome 1 [] s) []) (toCome 0 (p ++ (b ∷ [])) s) ≡ plateFrom p (cond t (lineEnded (cut s)) (joined b (cut s .lines) (cut s .left)))
+    go true x y = rw x (names-line p (cut s))
+    go false x y = y ∙ same-names p b (cut s)
+
+-- what is to come at the start is plate's output
+pub plate-comes : (s : List ℕ) → toCome 0 [] s ≡ plateOf s
+unfolding plateOf
+plate-comes s = names-come s [] ∙ rw (no-front (cut s .lines), no-front-left (cut s .lines) (cut s .left))

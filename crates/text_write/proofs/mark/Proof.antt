@@ -1,0 +1,59 @@
+-- `text_write::mark` meets its contract: each arm is one of the definition's. Assumes nothing.
+use borrow.Author.Needs.{needs}
+use mir.Syntax.{w64}
+use mir.Val.{SFits}
+use mir.Facts.{toZ-ofZ}
+use Rattle.text_write.proofs.Writing.{then}
+use Rattle.text_write.proofs.mark.Statement.{statement}
+use Rattle.text_write.proofs.mark.Tie as tie
+
+enum-known-p : tie.Need-enum-known-p
+enum-known-p c = search needs
+
+signed-requires : tie.Need-signed-requires
+signed-requires c κs = search needs
+
+enum-known-p-2 : tie.Need-enum-known-p-2
+enum-known-p-2 c = search needs
+
+byte-requires : tie.Need-byte-requires
+byte-requires c κs = search needs
+
+cast-decimal : tie.Need-cast-decimal
+cast-decimal c = search needs
+
+decimal-requires : tie.Need-decimal-requires
+decimal-requires c κs = search needs
+
+same-length : tie.Need-same-length
+same-length c = search needs
+
+returns : tie.Need-returns
+returns c =
+    let g = c .before .before .before .before .before .p .given in
+    let f : SFits w64 (g .0 .0) = search needs in
+    (rw (g .1) (rw (toZ-ofZ f) at (c .before .before .signed .ensures .0)), search needs)
+
+same-length-2 : tie.Need-same-length-2
+same-length-2 c = search needs
+
+returns-2 : tie.Need-returns-2
+returns-2 c =
+    let d = c .before .before in
+    let b = d .before .before .before .before in
+    (rw (b .before .before .before .p2 .given .1) (then (b .byte .ensures .0) (d .decimal .ensures .0)), search needs)
+
+pub mark-spec : {M : Type 1} → statement M
+mark-spec =
+    tie.close
+    (tie.spec
+    enum-known-p
+    signed-requires
+    enum-known-p-2
+    byte-requires
+    cast-decimal
+    decimal-requires
+    same-length
+    returns
+    same-length-2
+    returns-2)
