@@ -1,5 +1,6 @@
 /* Compares the archive with answers of the oracle, every number: replay FILE reads stored lines `request = answer`,
-   replay REQUESTS ANSWERS COUNT the two side by side. Exits 1 on a difference, an unread line, or a line too few. */
+   replay REQUESTS ANSWERS COUNT [TALLY] the two side by side, and adds its tally to that file, for oracle/compare.
+   Exits 1 on a difference, an unread line, or a line too few. */
 #define _DEFAULT_SOURCE /* getline */
 #include <inttypes.h>
 #include <stdbool.h>
@@ -7,95 +8,22 @@
 #include <stdlib.h>
 #include <string.h>
 
-#include "calls.h"
-#include "exact.h"
-#include "ordered.h"
-#include "questions.h"
+#include "operations.h"
 
 /* BEHIND: the longest lent slice has that many numbers more than the list, and as many stand behind it, not lent. */
-enum { ARGUMENTS = 10, NUMBERS = 1 << 15, BEHIND = 7, QUESTIONS = 13, SHOWN = 5, SHOWN_NUMBERS = 12, SHOWN_BYTES = 160 };
-
-/* Fills in document 01's answer where the Rust's logarithm may round it away; gives how many numbers, 0 if it may not. */
-typedef int exact(const int64_t *in, int64_t *out);
-
-/* Question 10 of the oracle's answer, by its numbers after the status. */
-typedef bool fits(const int64_t *in, const int64_t *answer);
-
-static int exact_period_answer(const int64_t *in, int64_t *out) {
-    out[0] = 0, out[1] = doubtful_period(in[0], in, in[5]);
-    return out[1] ? 2 : 0;
-}
-
-static int exact_list(const int64_t *in, int64_t kind, int64_t n, int64_t *out) {
-    int64_t period = kind == 4 || kind == 7 ? doubtful_period(kind, in, n) : 0;
-    if (!period)
-        return 0;
-    out[0] = 0, out[1] = exact_ticks(kind, in, period, out + 2);
-    return 2 + 2 * (int)out[1];
-}
-
-static int exact_bold(const int64_t *in, int64_t *out) {
-    return exact_list(in, in[0], in[5], out);
-}
-
-static int exact_light(const int64_t *in, int64_t *out) {
-    return exact_list(in, listed_kind(in, in[5]), in[6], out);
-}
-
-/* A new operation is one row, its calls in calls.h and its questions in questions.h. */
-static const struct row {
-    const char *name;
-    int arguments;
-    call *call;
-    refusal *refusal;
-    int64_t none;  /* the archive's status where the Rust has no value (-1) */
-    int64_t panic; /* and where it panics though no question before 10 refuses; 0: nothing is known there */
-    fits *fits;    /* 10 too where this says no; NULL: all answers fit */
-    int place;     /* at none the last number is this argument; 0: none is all zeros */
-    exact *exact;
-    list_call *list; /* these two instead of call; no count: NULL */
-    count_call *count;
-} rows[] = {
-    {"day_number", 3, call_day_number, refuse_day_number, .none = 8},
-    {"date_of", 1, call_date_of, refuse_date_of, .none = 8},
-    {"map", 9, call_map, refuse_map, .panic = 10},
-    {"period", 6, call_period, refuse_period, .none = -1, .exact = exact_period_answer},
-    {"ticks_bold", 6, NULL, refuse_ticks_bold, .exact = exact_bold, .list = list_bold, .count = count_bold},
-    {"ticks_light", 7, NULL, refuse_ticks_light, .exact = exact_light, .list = list_light, .count = count_light},
-    {"unmap", 8, call_unmap, refuse_unmap, .panic = 10, .fits = day_unmapped},
-    {"size", 5, call_size, refuse_size, .none = 0},
-    {"index_of", 7, call_index_of, refuse_by_value, .none = -1},
-    {"from_index", 6, call_from_index, refuse_by_index, .panic = 10, .fits = day_answered},
-    {"next", 7, call_next, refuse_by_value, .none = -1, .panic = 10, .fits = day_answered},
-    {"previous", 7, call_previous, refuse_by_value, .none = -1, .panic = 10, .fits = day_answered},
-    {"values", 6, call_values, refuse_by_index, .none = -1, .panic = 10, .fits = day_answered, .place = 5},
-    {"segment_map", 10, call_segment_map, refuse_segment_map, .panic = 10, .fits = follower_mapped},
-    {"segment_ticks_bold", 6, NULL, refuse_segment_ticks_bold, .list = list_segment_bold},
-    {"segment_ticks_light", 7, NULL, refuse_segment_ticks_light, .exact = exact_light, .list = list_segment_light},
-    {"segment_size", 5, call_segment_size, refuse_size, .none = 0},
-    {"segment_index_of", 8, call_segment_index_of, refuse_by_segment, .none = -1},
-    {"segment_from_index", 6, call_segment_from_index, refuse_by_index, .none = -1, .panic = 10, .fits = segment_answered},
-};
-enum { ROWS = sizeof rows / sizeof rows[0] };
+enum { BEHIND = 7, KINDS = 8, QUESTIONS = 13, SHOWN = 5, SHOWN_NUMBERS = 12, SHOWN_BYTES = 160 };
 
 static int64_t lines, equal, nones, refused[QUESTIONS], panics, beyond, differences, unread;
 static int64_t doubtful, apart; /* within the logarithm's rounding; of these, the Rust says otherwise */
 static int64_t lists, ticks, calls, short_calls; /* accepted lists; calls of list and count; those that 11 refuses */
 
-/* Reads whole numbers parted by one space, up to the end of the text; gives how many, or -1. One that does not fit
-   becomes the nearest that does: the oracle has such periods, of reversed spans. */
-static int read_numbers(const char *text, int64_t *to, int most) {
-    for (int count = 0; count < most; text++) {
-        if (text[*text == '-'] < '0' || text[*text == '-'] > '9')
-            return -1;
-        char *end;
-        to[count++] = strtoll(text, &end, 10);
-        text = end;
-        if (*text != ' ')
-            return *text ? -1 : count;
-    }
-    return -1;
-}
+/* What a line comes to: equal, or a section of docs/DIFFERENCES.md, or no explanation; refusals of what the Rust cannot be
+   asked are compared with document 01 only. */
+enum outcome { EQUAL, NARROWER, PANIC, LOGARITHM, WRAPPED, UNEXPLAINED, UNASKED, OUTCOMES };
+static const char *const outcomes[] = {"equal", "narrower", "panic", "logarithm", "wrapped", "unexplained", "unasked"};
+
+/* The lines by operation, kind (0: none of 1 to 7), outcome and the question that refused (0: none did). */
+static int64_t tally[ROWS][KINDS][OUTCOMES][QUESTIONS];
 
 static void print_numbers(const int64_t *numbers, int count) {
     for (int i = 0; i < count && i < SHOWN_NUMBERS; i++)
@@ -153,11 +81,8 @@ static bool same_lists(const struct row *row, const int64_t *in, const int64_t *
 /* One request and the oracle's answer. False: they do not read. */
 static bool replay(const char *request, const char *answer) {
     static int64_t in[ARGUMENTS], told[NUMBERS], got[NUMBERS], want[NUMBERS], exact[NUMBERS];
-    size_t name = strcspn(request, " ");
-    const struct row *row = rows;
-    while (row < rows + ROWS && (strlen(row->name) != name || memcmp(row->name, request, name)))
-        row++;
-    if (row == rows + ROWS || !request[name] || read_numbers(request + name + 1, in, ARGUMENTS) != row->arguments)
+    const struct row *row = read_request(request, in);
+    if (!row)
         return false;
     bool panic = !strcmp(answer, "panic"), skip = !strcmp(answer, "skip"), none = !strcmp(answer, "-1");
     int told_count = panic || skip || none ? 0 : read_numbers(answer, told, NUMBERS);
@@ -172,7 +97,7 @@ static bool replay(const char *request, const char *answer) {
     memset(want, 0, sizeof want[0] * (size_t)count);
     if (number)
         want[0] = number;
-    else if (exact_count)
+    else if (exact_count && !panic && !skip)
         memcpy(want, exact, sizeof want[0] * (size_t)count);
     else if (none && row->none) {
         want[0] = row->none;
@@ -188,6 +113,17 @@ static bool replay(const char *request, const char *answer) {
     size_t lent_len = 0;
     bool same = known && (row->list ? same_lists(row, in, want, got, &lent_len)
                                     : !memcmp(want, got, sizeof want[0] * (size_t)count));
+    bool rounded = exact_count && (exact_count != told_count || memcmp(exact, told, sizeof told[0] * (size_t)told_count));
+    bool wrapped = unfit && row->fits == day_unmapped && day_answered(in, told + 1); /* to a real date */
+    enum outcome outcome = !same         ? UNEXPLAINED
+                           : skip        ? UNASKED
+                           : panic       ? PANIC
+                           : wrapped     ? WRAPPED
+                           : rounded     ? LOGARITHM
+                           : want[0] > 0 ? NARROWER
+                                         : EQUAL;
+    bool on_axis = row->arguments >= 5 && in_range(1, in[0], 7);
+    tally[row - rows][on_axis ? in[0] : 0][outcome][same && want[0] > 0 ? want[0] : 0]++;
     if (!same) {
         if (differences++ < SHOWN) {
             printf("  %s", row->name);
@@ -216,7 +152,7 @@ static bool replay(const char *request, const char *answer) {
     if (number && !(none && number == row->none))
         refused[number]++;
     else if (exact_count)
-        doubtful++, apart += exact_count != told_count || memcmp(exact, told, sizeof told[0] * (size_t)told_count);
+        doubtful++, apart += rounded;
     else if (panic)
         panics++;
     else if (unfit)
@@ -276,13 +212,24 @@ static bool replay_all(FILE *requests, FILE *answers) {
     return together;
 }
 
+/* Adds a line for each number of the tally: operation, kind, outcome, question, lines. */
+static bool add_tally(const char *name) {
+    FILE *file = fopen(name, "a");
+    const int64_t *counts = &tally[0][0][0][0];
+    for (int i = 0; file && i < ROWS * KINDS * OUTCOMES * QUESTIONS; i++)
+        if (counts[i])
+            fprintf(file, "%s %d %s %d %" PRId64 "\n", rows[i / (KINDS * OUTCOMES * QUESTIONS)].name,
+                    i / (OUTCOMES * QUESTIONS) % KINDS, outcomes[i / QUESTIONS % OUTCOMES], i % QUESTIONS, counts[i]);
+    return file && !fclose(file);
+}
+
 int main(int argc, char **argv) {
     setvbuf(stdout, NULL, _IOLBF, 0); /* what was printed stays if a sanitizer ends the run */
-    if (argc != 2 && argc != 4) {
-        fprintf(stderr, "usage: replay FILE, or replay REQUESTS ANSWERS COUNT\n");
+    if (argc != 2 && argc != 4 && argc != 5) {
+        fprintf(stderr, "usage: replay FILE, or replay REQUESTS ANSWERS COUNT [TALLY]\n");
         return 1;
     }
-    FILE *requests = opened(argv[1]), *answers = argc == 4 ? opened(argv[2]) : NULL;
+    FILE *requests = opened(argv[1]), *answers = argc > 2 ? opened(argv[2]) : NULL;
     bool together = replay_all(requests, answers);
     fclose(requests);
     if (answers)
@@ -308,12 +255,15 @@ int main(int argc, char **argv) {
         printf("replay: %" PRId64 " within the logarithm's rounding have document 01's period, where the Rust has another in %"
                PRId64 "\n", doubtful, apart);
 
-    bool enough = lines > 0 && (argc != 4 || lines == strtoll(argv[3], NULL, 10));
+    bool enough = lines > 0 && (argc == 2 || lines == strtoll(argv[3], NULL, 10));
     if (unread)
         printf("replay: %" PRId64 " lines do not read\n", unread);
     if (!together)
         printf("replay: %s\n", answers ? "one side ends before the other" : "the file breaks off");
     if (!enough)
         printf("replay: %s\n", lines ? "another count of lines than was asked for" : "no line to compare");
-    return unread || !together || !enough || differences;
+    bool tallied = argc < 5 || add_tally(argv[4]);
+    if (!tallied)
+        printf("replay: %s cannot be written\n", argv[4]);
+    return unread || !together || !enough || !tallied || differences;
 }

@@ -1,5 +1,6 @@
-/* Prints requests for the oracle and the archive, one to a line: requests OPERATION SEED COUNT.
-   The same seed gives the same lines. Boundaries come often; about one request in ten is one that must be refused. */
+/* Prints requests for the oracle and the archive, one to a line: requests OPERATION SEED COUNT. As `requests operations`
+   it prints the operations' names. The same seed gives the same lines. Boundaries come often; about one request in ten is
+   one that must be refused. */
 #include <inttypes.h>
 #include <stdbool.h>
 #include <stdio.h>
@@ -550,11 +551,42 @@ static void segment_from_index(void) {
     print_by_index("segment_from_index");
 }
 
+/* Any year, month and day: ends of months and of the years, leap years and centuries, and beside them no dates. */
+static void day_number(void) {
+    int64_t year = from(1, 9999), month = from(1, 12), day = from(1, 31);
+    if (chance(4))
+        year = chance(2) ? 100 * from(1, 99) : 4 * from(1, 2499);
+    if (chance(4))
+        day = ONE_OF(1, 28, 29, 30, 31);
+    if (chance(6))
+        month = ONE_OF(1, 2, 2, 12);
+    if (chance(40))
+        year = ONE_OF(1, 9999, 0, 10000, -1, -year, 262143, 262144, year + (INT64_C(1) << 32), INT64_MIN, INT64_MAX);
+    if (chance(60))
+        month = ONE_OF(0, -1, 13, month + 256, month + (INT64_C(1) << 32), INT64_MIN, INT64_MAX);
+    if (chance(60))
+        day = ONE_OF(0, -1, 32, day + 256, day + (INT64_C(1) << 32), INT64_MIN, INT64_MAX);
+    printf("day_number %" PRId64 " %" PRId64 " %" PRId64 "\n", year, month, day);
+}
+
+/* Any day: around firsts of months and of centuries, and numbers outside the days. */
+static void date_of(void) {
+    int64_t number = from(1, LAST_DAY), step = from(-2, 2);
+    if (chance(3))
+        number = first_of_month(chance(4) ? 1200 * from(0, 99) : from(0, 119987)) + step;
+    if (chance(20))
+        number = ONE_OF(0, 1, 2, -1, LAST_DAY - 1, LAST_DAY, LAST_DAY + 1, -number, number + LAST_DAY, INT32_MAX,
+                        number + (INT64_C(1) << 32), INT64_MIN, INT64_MAX);
+    printf("date_of %" PRId64 "\n", number);
+}
+
 /* A new operation is one function above and one row. */
 static const struct operation {
     const char *name;
     void (*print)(void);
 } operations[] = {
+    {"day_number", day_number},
+    {"date_of", date_of},
     {"map", map},
     {"ticks_bold", ticks_bold},
     {"ticks_light", ticks_light},
@@ -576,6 +608,11 @@ static const struct operation {
 enum { OPERATIONS = sizeof operations / sizeof operations[0] };
 
 int main(int argc, char **argv) {
+    bool names = argc == 2 && !strcmp(argv[1], "operations");
+    for (int i = 0; i < OPERATIONS && names; i++)
+        printf("%s\n", operations[i].name);
+    if (names)
+        return fflush(stdout) != 0;
     for (int i = 0; i < OPERATIONS && argc == 4; i++)
         if (!strcmp(argv[1], operations[i].name)) {
             seed_with(strtoull(argv[2], NULL, 10));
@@ -583,7 +620,7 @@ int main(int argc, char **argv) {
                 operations[i].print();
             return fflush(stdout) != 0;
         }
-    fprintf(stderr, "usage: requests OPERATION SEED COUNT; operations:");
+    fprintf(stderr, "usage: requests OPERATION SEED COUNT, or requests operations; operations:");
     for (int i = 0; i < OPERATIONS; i++)
         fprintf(stderr, " %s", operations[i].name);
     fprintf(stderr, "\n");

@@ -118,6 +118,9 @@ def example(plate, reading):
     group.same("the reading", EXAMPLE_OUTPUT, reading.expected(EXAMPLE))
     group.same("plate", EXAMPLE_OUTPUT, plate.output(EXAMPLE))
     group.same("names alone", HEADING, plate.output(START))
+    # The stored sample: reading.py ANSWERS <stdin >stdout makes its output.
+    with open("crates/plate/stdin", "rb") as given, open("crates/plate/stdout", "rb") as stored:
+        group.same("the stored sample", stored.read(), reading.expected(given.read()))
     group.done()
 
 
