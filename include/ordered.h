@@ -3,7 +3,8 @@
 
    status: 0 answered, -1 none (no refusal), else the number of the question that refused the call. All other fields are 0
    unless answered, but for a cursor's next at none; a refused call writes nothing.
-   Any numbers may be handed in: no call traps, wraps or runs without end.
+   Any numbers may be handed in: no call traps, wraps or runs without end. A lent slice is lent_len numbers that the caller may
+   write; NULL may be lent with length 0. 8194 numbers have room for every list.
 
    A kind is 1 date, 2 monthly and 3 yearly over dates, 4 date-time, 5 monthly and 6 yearly over date-times, 7 duration. A
    value is head and tail: a date is its day number (0001-01-01 is 1) and 0; a date-time its day number and the nanosecond of

@@ -67,27 +67,25 @@ static inline int64_t refuse_map(const int64_t *in) {
     return empty && !at_start ? 9 : 0;
 }
 
-/* Question 6 of a hint, bold count and N. */
-static inline bool hint_in_range(int64_t kind, int64_t bold, int64_t n) {
-    return in_range(0, bold, 4096) && in_range(kind >= 4, n, 4096);
+/* The questions of an axis, and 6 of a hint: bold count and N. */
+static inline int64_t refuse_hint(const int64_t *in, unsigned kinds, int64_t bold, int64_t n) {
+    int64_t number = refuse_axis(in, kinds);
+    return number ? number : in_range(0, bold, 4096) && in_range(in[0] >= 4, n, 4096) ? 0 : 6;
 }
 
 /* in: kind, start, end, N */
 static inline int64_t refuse_ticks_bold(const int64_t *in) {
-    int64_t number = refuse_axis(in, ALL_KINDS);
-    return number ? number : hint_in_range(in[0], 0, in[5]) ? 0 : 6;
+    return refuse_hint(in, ALL_KINDS, 0, in[5]);
 }
 
 /* in: kind, start, end, bold count, N */
 static inline int64_t refuse_ticks_light(const int64_t *in) {
-    int64_t number = refuse_axis(in, ALL_KINDS);
-    return number ? number : hint_in_range(in[0], in[5], in[6]) ? 0 : 6;
+    return refuse_hint(in, ALL_KINDS, in[5], in[6]);
 }
 
 /* in: kind, start, end, N */
 static inline int64_t refuse_period(const int64_t *in) {
-    int64_t number = refuse_axis(in, PERIOD_KINDS);
-    return number ? number : hint_in_range(in[0], 0, in[5]) ? 0 : 6;
+    return refuse_hint(in, PERIOD_KINDS, 0, in[5]);
 }
 
 /* in: kind, start, end, low, high, pixel */
@@ -134,14 +132,12 @@ static inline int64_t refuse_segment_map(const int64_t *in) {
 
 /* in: kind, start, end, N */
 static inline int64_t refuse_segment_ticks_bold(const int64_t *in) {
-    int64_t number = refuse_axis(in, INDEX_KINDS);
-    return number ? number : hint_in_range(in[0], 0, in[5]) ? 0 : 6;
+    return refuse_hint(in, INDEX_KINDS, 0, in[5]);
 }
 
 /* in: kind, start, end, bold count, N */
 static inline int64_t refuse_segment_ticks_light(const int64_t *in) {
-    int64_t number = refuse_axis(in, INDEX_KINDS);
-    return number ? number : hint_in_range(in[0], in[5], in[6]) ? 0 : 6;
+    return refuse_hint(in, INDEX_KINDS, in[5], in[6]);
 }
 
 /* in: kind, start, end, segment, value */

@@ -1,17 +1,13 @@
--- What the tests of questions say in numbers that `omega` reads, and how the code asks 5 and 11. Assumes nothing.
+-- What the tests of questions say in numbers that `omega` reads, and how the code asks 5. Assumes nothing.
 use mathlib.Core.Path.{_≡_, refl, sym, _∙_, ap}
 use mathlib.Core.Logic.{inl, inr}
 use mathlib.Core.Bool.{Bool, true, false, not, _&&_, _||_}
-use Prim.Native.Nat.{ℕ, _+_, _*_, _/_, _≤_}
+use Prim.Native.Nat.{_+_, _≤_}
 use native.Mathlib.Omega.{arith}
-use lib.Dec.{leb}
-use lib.IntN.{ℤ, pos, negsuc, _-ℤ_}
+use lib.IntN.{ℤ, pos, negsuc}
 use lib.Signed.{ltZ, leZ}
-use mir.Syntax.{w64}
-use mir.Val.{SFits}
-use borrow.Author.Tests.{leb-true, leb-false, le-leb, lt-leb}
 use Rattle.laws.specs.Numbers.{within, up, dn}
-use Rattle.laws.proofs.Signed.{lt-true, lt-false, le-true, le-false, is-lt, is-ge, sub, fits, same}
+use Rattle.laws.proofs.Signed.{lt-true, lt-false, le-true, le-false, is-lt, is-ge, same}
 use Rattle.laws.proofs.Tests.{both-true, either-false}
 use Rattle.values.specs.declared.Value.{Value}
 use Rattle.values.specs.Values.{isDuration, isValue}
@@ -26,7 +22,7 @@ use Rattle.axis.specs.declared.BoldPoints.{BoldPoints}
 use Rattle.axis.specs.declared.LightPoints.{LightPoints}
 use Rattle.axis.specs.Axes.{start, end, spanOf}
 use Rattle.axis.proofs.Axes.{span-from-0}
-use Rattle.axis.specs.Questions.{nearZero, nearOrLong, ends, inOrder, isCount, enough, boldHint, lightHint, isPixel, pixels, differ, unmapPixels, isIndex, fitsI32, hasRoom}
+use Rattle.axis.specs.Questions.{nearZero, nearOrLong, ends, inOrder, isCount, enough, boldHint, lightHint, isPixel, pixels, differ, unmapPixels, isIndex, fitsI32}
 
 -- ---- 5: by seconds, and by nanoseconds only at the bound above
 module _ (v : Value) (value : isValue (pos 7) v ≡ true) where
@@ -101,14 +97,6 @@ module _ (a : Axis) where
       let k : a .kind ≡ pos 7 = same (a .kind) (pos 7) (omega arith) in
       rw k at f
 
--- ---- 11: half of the lent numbers
-pub room-by-half : (lent ticks : ℕ) → leb ticks (lent / 2) ≡ hasRoom lent ticks
-unfolding hasRoom
-room-by-half lent ticks =
-    agree (leb ticks (lent / 2)) (leb (2 * ticks) lent)
-    (λ e. le-leb (2 * ticks) lent (omega (arith, leb-true ticks (lent / 2) e)))
-    (λ e. lt-leb (2 * ticks) lent (omega (arith, leb-false ticks (lent / 2) e)))
-
 -- ---- what a yes says to a caller
 -- 5: where the span fits, both ends are near zero
 pub near-where-fits : (a : Axis) → isDuration (a .kind) ≡ true → nearOrLong a ≡ true → fitsI64 (spanOf a) ≡ true → (nearZero (start a) ≡ true) × (nearZero (end a) ≡ true)
@@ -159,23 +147,6 @@ light-range a h e =
 pub pixel-range : (p : ℤ) → isPixel p ≡ true → (dn p ≤ 32767) × (up p ≤ 32767)
 pixel-range p e = let (a, b) = within-true (negsuc 32766) p (pos 32767) e in bounded p 32767 32767 (omega arith) (omega arith)
 
-pub record OnPage (l : Limits) : Type 0 where
-  pub low-dn : dn (l .low) ≤ 32767
-  pub low-up : up (l .low) ≤ 32767
-  pub high-dn : dn (l .high) ≤ 32767
-  pub high-up : up (l .high) ≤ 32767
-
-pub on-page : (l : Limits) → pixels l ≡ true → OnPage l
-unfolding pixels
-on-page l e =
-    let (a, b) = both-true (isPixel (l .low)) (isPixel (l .high)) e in
-    let low = pixel-range (l .low) a in
-    let high = pixel-range (l .high) b in
-    record { low-dn = low .0; low-up = low .1; high-dn = high .0; high-up = high .1 }
-
-pub width-fits : (l : Limits) → OnPage l → SFits w64 (l .high -ℤ l .low)
-width-fits l p = fits (l .high -ℤ l .low) (up (l .high) + dn (l .low)) (dn (l .high) + up (l .low)) (omega (arith, sub (l .high) (l .low))) (omega arith) (omega arith)
-
 pub unmap-parts : (l : Limits) (p : ℤ) → unmapPixels l p ≡ true → (pixels l ≡ true) × (isPixel p ≡ true) × (differ l ≡ true)
 unfolding unmapPixels
 unmap-parts l p e =
@@ -201,8 +172,3 @@ index-range i e =
 -- 10: a number that fits i32
 pub i32-range : (n : ℤ) → fitsI32 n ≡ true → (dn n ≤ 2147483648) × (up n ≤ 2147483647)
 i32-range n e = let (a, b) = within-true (negsuc 2147483647) n (pos 2147483647) e in bounded n 2147483648 2147483647 (omega arith) (omega arith)
-
--- 11: room for all ticks
-pub room-range : (lent ticks : ℕ) → hasRoom lent ticks ≡ true → 2 * ticks ≤ lent
-unfolding hasRoom
-room-range lent ticks e = leb-true (2 * ticks) lent e

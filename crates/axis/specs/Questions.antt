@@ -2,8 +2,6 @@
 -- begin with. An operation's own row stands in its crate. Definitions only.
 use mathlib.Core.Bool.{Bool, not, _&&_, _||_}
 use mathlib.Core.List.{List, [], _∷_, _++_}
-use Prim.Native.Nat.{ℕ, _*_}
-use lib.Dec.{leb}
 use lib.IntN.{ℤ, pos, negsuc}
 use lib.Signed.{ltZ, leZ}
 use Rattle.laws.specs.Asking.{Question, ask}
@@ -95,9 +93,7 @@ mappable a v = earlier (start a) (end a) || equals v (start a)
 abbrev pub fitsI32 : ℤ → Bool
 fitsI32 n = within (negsuc 2147483647) n (pos 2147483647)
 
--- 11. Has the lent slice two numbers for each tick?
-unfoldable pub hasRoom : ℕ → ℕ → Bool
-hasRoom lent ticks = leb (2 * ticks) lent
+-- 11 is asked where a list's length is known: `hasRoom` in steps/specs/Listing.antt
 
 -- the rows of operations that kind 7 does not have, and of those that it has
 abbrev pub plainQuestions : Bool → Axis → List Question

@@ -11,7 +11,7 @@ ghost use Rattle.values.specs.Differences.{nanosecondsOf, wholeDays};
 ghost use Rattle.axis.specs.Axes.{start, end, spanOf, offsetOf};
 ghost use Rattle.axis.specs.Questions.{known, hasUnmap, hasIndex, hasPeriod, ends, inOrder, nearZero, nearOrLong};
 ghost use Rattle.axis.specs.Questions.{boldHint, lightHint, isPixel, pixels, differ, unmapPixels};
-ghost use Rattle.axis.specs.Questions.{valueOn, isIndex, mappable, fitsI32, hasRoom};
+ghost use Rattle.axis.specs.Questions.{valueOn, isIndex, mappable, fitsI32};
 ghost use Rattle.axis.specs.Questions.{plainQuestions, axisQuestions};
 
 pub struct Axis {
@@ -240,13 +240,6 @@ pub fn fits_i32(n: i64) -> bool
     ensures { λ r. ⌜ r ≡ fitsI32 n ⌝ }
 {
     (-2147483648 <= n) & (n <= 2147483647)
-}
-
-// Question 11. Half of the lent numbers: twice the ticks could be too many to count.
-pub fn has_room(lent: usize, ticks: u64) -> bool
-    ensures { λ r. ⌜ r ≡ hasRoom lent ticks ⌝ }
-{
-    ticks <= lent as u64 / 2
 }
 
 // The questions of an axis; has: the kind has the operation.

@@ -37,12 +37,12 @@ months-up : (y k : ℕ) → months y k ≤ months y (suc k)
 unfolding months
 months-up y k = omega arith
 
-months-to : (y m : ℕ) → 1 ≤ m → months y m ≡ months y (m - 1) + monthLength y m
+pub months-to : (y m : ℕ) → 1 ≤ m → months y m ≡ months y (m - 1) + monthLength y m
 unfolding months
 months-to y zero h = absurd (not-suc-le-zero h)
 months-to y (suc k) h = rw sub-one
 
-months-none : (y : ℕ) → months y 0 ≡ 0
+pub months-none : (y : ℕ) → months y 0 ≡ 0
 unfolding months
 months-none y = refl
 

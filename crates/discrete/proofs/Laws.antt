@@ -34,7 +34,7 @@ use Rattle.discrete.proofs.Places.{at-place, of-kind, dates-inside, bel
 one-value : (v w : Value) → value.At v ≡ value.At w → v ≡ w
 one-value v w e = cc
 
-one-number : (m n : ℕ) → number.Is m ≡ number.Is n → m ≡ n
+pub one-number : (m n : ℕ) → number.Is m ≡ number.Is n → m ≡ n
 one-number m n e = cc
 
 pub index-in : (a : Axis) (v : Value) (i : ℕ) → indexIn a v ≡ number.Is i → (origin a ≤ position a v) × (position a v - origin a ≡ i)

@@ -4,7 +4,7 @@ use mathlib.Core.Path.{_≡_, refl, sym, ap, _∙_}
 use mathlib.Core.Logic.{inl, inr}
 use mathlib.Core.Bool.{Bool, true, false, cond}
 use Prim.Native.Nat.{ℕ, zero, suc, _+_, _-_, _*_, _/_, _^_, _≤_, _<_, min}
-use native.Mathlib.Nat.{le-trans, le-of-eq, le-of-suc-le-suc, le-antisymm, lt-of-lt-of-le, lt-of-le-of-lt, eq-or-lt-of-le, mul-right-comm, mul-one, mul-pos, mul-le-mul-left, mul-lt-mul-of-pos-right, lt-of-mul-lt-mul-right, eq-of-mul-eq-mul-right, div-mul-le-self, div-add-mod', mod-lt, le-div-iff-mul-le, div-lt-iff-lt-mul, div-le-self, div-one}
+use native.Mathlib.Nat.{le-trans, le-of-eq, le-of-suc-le-suc, lt-of-lt-of-le, lt-of-le-of-lt, eq-or-lt-of-le, mul-right-comm, mul-one, mul-pos, mul-le-mul-left, mul-lt-mul-of-pos-right, lt-of-mul-lt-mul-right, eq-of-mul-eq-mul-right, div-mul-le-self, div-add-mod', mod-lt, div-lt-iff-lt-mul, div-le-self, div-one}
 use native.Mathlib.Omega.{arith}
 use lib.Dec.{lit<, lit≤}
 use lib.IntN.{ℤ, pos, natAbs}
@@ -13,6 +13,7 @@ use lib.Ieee.{Float, nan, inf, fin, Format, binary32, binary64, prec, low, up, d
 use lib.Ieee.Fits.{down-pos, two}
 use lib.Ieee.Exact.{HasValue}
 use lib.Ieee.Scale.{grid}
+use Rattle.laws.proofs.Quotients.{quotient-is}
 use Rattle.floats.specs.Rounding.{withSign, upward, halfUp, floorF, ceilF, roundF, cutQuotient}
 use Rattle.floats.proofs.Values.{signed-val, unsigned-val, cutSigned, cut-within, below-zero, mul-ints, div-by-int, div-ints, div-zero, unlike-false}
 use Rattle.floats.proofs.Order.{quotient-val, below, equal, above}
@@ -33,16 +34,13 @@ like-le d a b N D c l h = elim (eq-or-lt-of-le h) [ inl e ↦ le-of-eq (l c .1 e
     under : N * d < c * D → N * d ≤ c * D
     under x = omega arith
 
-div-is : (x y k : ℕ) → 0 < y → k * y ≤ x → x < suc k * y → x / y ≡ k
-div-is x y k Y a b = le-antisymm (le-of-suc-le-suc (div-lt-iff-lt-mul Y .1 b)) (le-div-iff-mul-le Y .1 a)
-
 below-next : (x y : ℕ) → 0 < y → x < suc (x / y) * y
 below-next x y Y = omega (arith, div-add-mod' x y, mod-lt x Y)
 
 module _ (a b N D : ℕ) (B : 0 < b) (Dp : 0 < D) where
   same-floor : Like 1 a b N D → N / D ≡ a / b
   same-floor l =
-      div-is N D (a / b) Dp
+      quotient-is N D (a / b) Dp
       (one (like-ge 1 a b N D (a / b) l (le-trans (div-mul-le-self a b) (le-of-eq (sym (mul-one a))))))
       (lt-of-le-of-lt (le-of-eq (sym (mul-one N))) (l (suc (a / b)) .0 (lt-of-le-of-lt (le-of-eq (mul-one a)) (below-next a b B))))
     where
@@ -53,7 +51,7 @@ module _ (a b N D : ℕ) (B : 0 < b) (Dp : 0 < D) where
   same-upward l = go (upward a b) (div-mul-le-self (a + (b - 1)) b) (below-next (a + (b - 1)) b B)
     where
       ends : (k : ℕ) → k * D ≤ N + (D - 1) → N * 1 ≤ k * D → upward N D ≡ k
-      ends k x y = div-is (N + (D - 1)) D k Dp x (omega arith)
+      ends k x y = quotient-is (N + (D - 1)) D k Dp x (omega arith)
 
       go : (k : ℕ) → k * b ≤ a + (b - 1) → a + (b - 1) < suc k * b → upward N D ≡ k
       go zero x y = ends zero (omega arith) (like-le 1 a b N D zero l (omega arith))
@@ -67,11 +65,11 @@ module _ (a b N D : ℕ) (B : 0 < b) (Dp : 0 < D) where
       go : (k : ℕ) → k * (2 * b) ≤ 2 * a + b → 2 * a + b < suc k * (2 * b) → halfUp N D ≡ k
       go zero x y =
           let hi : N * 2 < 1 * D = l 1 .0 (omega arith) in
-          div-is (2 * N + D) (2 * D) zero (mul-pos (lit< tt) Dp) (omega arith) (omega arith)
+          quotient-is (2 * N + D) (2 * D) zero (mul-pos (lit< tt) Dp) (omega arith) (omega arith)
       go (suc j) x y =
           let low : suc (2 * j) * D ≤ N * 2 = like-ge 2 a b N D (suc (2 * j)) l (omega arith) in
           let hi : N * 2 < suc (2 * suc j) * D = l (suc (2 * suc j)) .0 (omega arith) in
-          div-is (2 * N + D) (2 * D) (suc j) (mul-pos (lit< tt) Dp) (omega arith) (omega arith)
+          quotient-is (2 * N + D) (2 * D) (suc j) (mul-pos (lit< tt) Dp) (omega arith) (omega arith)
 
 -- ---- a float that is g / L has g / L's place
 move : (d a b g L N D : ℕ) → 0 < L → 0 < D → N * L ≡ g * D → Like d a b g L → Like d a b N D

@@ -3,4 +3,5 @@ pub mod Signed
 pub mod Lent
 pub mod Tables
 pub mod Tests
+pub mod Quotients
 pub mod Asked

@@ -166,4 +166,8 @@ read-up f = ap up (toZ-ofZ f)
 pub read-dn : {z : ℤ} → SFits w64 z → dn (toZ w64 (ofZ w64 z)) ≡ dn z
 read-dn f = ap dn (toZ-ofZ f)
 
+-- a difference of two numbers, as the code reads it back
+pub read-sub : (x y : ℤ) → SFits w64 x → SFits w64 y → SFits w64 (x -ℤ y) → toZ w64 (ofZ w64 (toZ w64 (ofZ w64 x) -ℤ toZ w64 (ofZ w64 y))) ≡ x -ℤ y
+read-sub x y f g h = rw (toZ-ofZ f, toZ-ofZ g) (toZ-ofZ h)
+
 pub ruleset signed = (lt-true, lt-false, le-true, le-false, read-up, read-dn, arith)

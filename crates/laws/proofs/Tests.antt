@@ -3,6 +3,7 @@ use mathlib.Core.Path.{_≡_, refl}
 use mathlib.Core.Bool.{Bool, true, false, _&&_, _||_}
 use Prim.Native.Nat.{ℕ}
 use native.Mathlib.Omega.{arith}
+use lib.Dec.{T}
 
 pub both-true : (p q : Bool) → p && q ≡ true → (p ≡ true) × (q ≡ true)
 both-true true q e = (refl, e)
@@ -19,3 +20,7 @@ and-true false = refl
 pub and-false : (b : Bool) → b && false ≡ false
 and-false true = refl
 and-false false = refl
+
+pub holds : (b : Bool) → T b → b ≡ true
+holds true t = refl
+holds false t = absurd t

@@ -5,13 +5,12 @@ use mathlib.Core.Bool.{Bool, true, false, _&&_}
 use Prim.Native.Nat.{ℕ, suc, _+_, _-_, _*_, _≤_, _<_}
 use native.Mathlib.Decide.{decLe}
 use native.Mathlib.Omega.{arith}
-use lib.Dec.{T}
 use lib.IntN.{ℤ, pos, negsuc, natAbs, _+ℤ_, _-ℤ_, _*ℤ_}
 use lib.Signed.{leZ, ltZ, _<ℤ_}
 use Rattle.laws.specs.Numbers.{within, up, dn}
 use Rattle.laws.proofs.Signed.{add, sub, mul-up, mul-dn, same, lt-true}
 use Rattle.laws.proofs.Asked.{told}
-use Rattle.laws.proofs.Tests.{both-true}
+use Rattle.laws.proofs.Tests.{both-true, holds}
 use Rattle.floats.specs.Rounding.{cutQuotient}
 use Rattle.floats.proofs.Growth.{pixels-grow, pixels-fall}
 use Rattle.values.specs.declared.Value.{Value}
@@ -52,10 +51,6 @@ unfolding placed mapCoord positionOf scaleOf nanosecondsOf cutQuotient
 day-placed a l v o d e f g O D = rw (f, g, e, small-fits o O, small-fits d D)
 
 -- ---- the pixels of two days
-holds : (b : Bool) → T b → b ≡ true
-holds true t = refl
-holds false t = absurd t
-
 never-less : (x y : ℤ) → x <ℤ y → x ≡ y → ⊥
 never-less x y l e = let k : ltZ x x ≡ true = rw (← e) at (holds (ltZ x y) (l .lt)) in omega (arith, lt-true x x k)
 

@@ -2,12 +2,13 @@
 use mathlib.Core.Path.{_≡_, refl, sym, _∙_}
 use mathlib.Core.Bool.{false}
 use Prim.Native.Nat.{ℕ, zero, suc, _*_, _/_, _%_, _^_, _≤_, _<_}
-use native.Mathlib.Nat.{le-antisymm, le-of-suc-le-suc, le-div-iff-mul-le, div-lt-iff-lt-mul, div-add-mod', mod-lt, mul-assoc, mul-pos, mul-one, pow-zero, pow-suc, one-le-pow, pow-le-pow-right, mul-le-mul-left, mul-le-mul-right, zero-mod, zero-div}
+use native.Mathlib.Nat.{div-add-mod', mod-lt, mul-assoc, mul-pos, mul-one, pow-zero, pow-suc, one-le-pow, pow-le-pow-right, mul-le-mul-left, mul-le-mul-right, zero-mod, zero-div}
 use native.Mathlib.Omega.{arith}
 use lib.Dec.{leb}
 use lib.Ieee.Nearest.{div-mono}
 use lib.ListN.{length, getD}
 use borrow.Author.Tests.{le-leb, lt-leb}
+use Rattle.laws.proofs.Quotients.{quotient-is}
 use Rattle.period.specs.Ladders.{Ladder, unitAt, countAt, firstFrom, wide, placeOf, Climbable, firstWide}
 use Rattle.period.proofs.Search.{Come, come-first, come-before, come-here, come-next, come-more}
 
@@ -16,9 +17,6 @@ unfolding placeOf
 place-is span n l = refl
 
 -- ---- the next step's place around the list
-quotient-is : (x y k : ℕ) → 0 < y → k * y ≤ x → x < suc k * y → x / y ≡ k
-quotient-is x y k Y a b = le-antisymm (le-of-suc-le-suc (div-lt-iff-lt-mul Y .1 b)) (le-div-iff-mul-le Y .1 a)
-
 module _ (i size : ℕ) (L : 0 < size) where
   same-turn : suc (i % size) < size → (suc i / size ≡ i / size) × (suc i % size ≡ suc (i % size))
   same-turn h =

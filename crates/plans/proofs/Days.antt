@@ -22,7 +22,7 @@ use Rattle.steps.proofs.Demand.{Kept}
 use Rattle.plans.specs.Days.{Dated, fromDay, toDay, weeksPer, dateStep}
 
 -- ---- the ends of an axis
-bit : (b : Bool) → cond b 1 0 ≤ 1
+pub bit : (b : Bool) → cond b 1 0 ≤ 1
 bit true = omega arith
 bit false = omega arith
 

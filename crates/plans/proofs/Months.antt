@@ -11,6 +11,7 @@ use lib.Dec.{leb}
 use borrow.Author.Tests.{leb-true, le-leb, lt-leb}
 use Rattle.calendar.specs.Gregorian.{months, dayNumber}
 use Rattle.calendar.proofs.Formulas.{years-closed}
+use Rattle.calendar.proofs.Dates.{months-none}
 use Rattle.axis.specs.declared.Axis.{Axis}
 use Rattle.period.specs.Ladders.{firstFit}
 use Rattle.period.proofs.Fits.{fit-above, fit-most, fit-room}
@@ -24,13 +25,9 @@ use Rattle.plans.specs.Months.{fromMonth, toMonth, yearStep, monthStep}
 use Rattle.plans.proofs.Days.{from-range, to-range}
 
 -- ---- the months of the years 1 to 9999, and the one after them
-none : (y : ℕ) → months y 0 ≡ 0
-unfolding months
-none y = refl
-
 after-last : firstDay 119988 ≡ 3652060
 unfolding firstDay dayNumber
-after-last = omega (arith, years-closed 24 399 (omega arith), none 10000)
+after-last = omega (arith, years-closed 24 399 (omega arith), months-none 10000)
 
 -- a month that begins by the day after the last is one of them
 pub month-most : (m : ℕ) → firstDay m ≤ 3652060 → m ≤ 119988

@@ -28,6 +28,7 @@ use Rattle.period.specs.Periods.{periodOf, powerOf}
 use Rattle.period.proofs.Periods.{any-step, period-above, period-fits}
 use Rattle.plans.specs.Times.{shiftUp, shiftOf, shift, periodIn, Timed, daysIn, days, firstSecond, secondsLeft, Long}
 use Rattle.plans.specs.Plans.{Accepted}
+use Rattle.plans.proofs.Days.{bit}
 use Rattle.plans.proofs.Times.{up-most, shift-most}
 
 -- ---- the start's tail, and the start of a duration
@@ -183,10 +184,6 @@ not-fitting z e f =
       | yes h ↦ absurd (true≢false (sym (fits-yes z h (omega arith)) ∙ f))
       | no h ↦ omega arith
     ]
-
-bit : (b : Bool) → cond b 1 0 ≤ 1
-bit true = omega arith
-bit false = omega arith
 
 pub dn-of : (z : ℤ) → ltZ z (pos 0) ≡ false → dn z ≡ 0
 dn-of z e = not-below z (omega (arith, lt-false z (pos 0) e))

@@ -29,7 +29,7 @@ use Rattle.discrete.specs.declared.NumberAnswer.the-variants as number
 use Rattle.discrete.specs.Answers.{sizeQuestions, indexIn, checked}
 use Rattle.discrete.proofs.Counting.{size-most, place-most}
 use Rattle.discrete.proofs.Answers.{counted-as, counted}
-use Rattle.discrete.proofs.Laws.{index-in}
+use Rattle.discrete.proofs.Laws.{one-number, index-in}
 use Rattle.segmented.specs.declared.SegmentValue.{SegmentValue}
 use Rattle.segmented.specs.declared.SegmentValue.the-variants.{Exact, CenterOf, Last}
 use Rattle.segmented.specs.declared.SegmentAnswer.{SegmentAnswer}
@@ -125,9 +125,6 @@ module _ (a : Axis) (h : Hint) where
   ticks-written e d = sym (ap (λ (r : ℕ). writtenAsked r (ticksWritten a h d) d) e)
 
 -- ---- a size and an index have a bound
-one-number : (m n : ℕ) → number.Is m ≡ number.Is n → m ≡ n
-one-number m n e = cc
-
 pub segment-size-range : (a : Axis) (n : ℕ) → segmentSizeAnswer a ≡ number.Is n → n ≤ 3652060
 unfolding segmentSizeAnswer
 segment-size-range a n e =

@@ -4,14 +4,14 @@ use mathlib.Core.Logic.{inl, inr}
 use mathlib.Core.Bool.{Bool, true, false, cond}
 use Prim.Native.Nat.{ℕ, zero, suc, _+_, _-_, _*_, _/_, _%_, _≤_, _<_}
 use native.Mathlib.Nat.{eq-or-lt-of-le, not-suc-le-zero, add-sub-cancel}
-use native.Mathlib.Numerals.{add-one, sub-one}
+use native.Mathlib.Numerals.{add-one}
 use native.Mathlib.Decide.{decLe}
 use native.Mathlib.Omega.{arith}
 use lib.Dec.{ltb}
 use borrow.Author.Tests.{ltb-true, ltb-false}
 use Rattle.calendar.specs.Gregorian.{monthLength, months, yearLength, years, dayNumber, Real, dateOf}
 use Rattle.calendar.proofs.Formulas.{monthLength-range, years-next, years-closed}
-use Rattle.calendar.proofs.Dates.{date-number}
+use Rattle.calendar.proofs.Dates.{months-to, months-none, date-number}
 use Rattle.steps.specs.Months.{firstDay, monthNumber, monthOf, wholeMonth, InMonth, FromMonth}
 
 -- every month has the days 1 to 28
@@ -25,11 +25,6 @@ early-day m d a b = record {
 }
 
 -- ---- the next month begins after all the days of this one
-months-to : (y m : ℕ) → 1 ≤ m → months y m ≡ months y (m - 1) + monthLength y m
-unfolding months
-months-to y zero h = absurd (not-suc-le-zero h)
-months-to y (suc k) h = rw sub-one
-
 in-year : (y m : ℕ) → 1 ≤ m → dayNumber y (m + 1) 1 ≡ dayNumber y m 1 + monthLength y m
 unfolding dayNumber
 in-year y m h = rw (add-sub-cancel m 1) (omega (arith, months-to y m h))
@@ -65,13 +60,9 @@ first-days x (suc y) h =
     ]
 
 -- ---- the months of the years 1 to 10000 begin on known days
-none : (y : ℕ) → months y 0 ≡ 0
-unfolding months
-none y = refl
-
 past : firstDay 120000 ≡ 3652426
 unfolding firstDay dayNumber
-past = omega (arith, years-closed 25 0 (omega arith), none 10001)
+past = omega (arith, years-closed 25 0 (omega arith), months-none 10001)
 
 pub first-most : (m : ℕ) → m < 120000 → firstDay m ≤ 3652425
 first-most m h = omega (arith, first-days m 120000 h, past)

@@ -10,6 +10,7 @@ use lib.IntN.{ℤ, pos, _+ℤ_}
 use lib.Signed.{_<ℤ_, ltZ, ltZ-yes}
 use Rattle.laws.specs.Numbers.{up, dn}
 use Rattle.laws.proofs.Signed.{add, is-lt, lt-true}
+use Rattle.laws.proofs.Tests.{holds}
 use Rattle.steps.specs.declared.Steps.{Steps}
 use Rattle.steps.specs.declared.Tick.{Tick}
 use Rattle.steps.specs.Progression.{evenTick, valueOf}
@@ -21,15 +22,11 @@ is-true : (b : Bool) → b ≡ true → T b
 is-true true e = tt
 is-true false e = let z : _≡_ {A = ℕ} 0 1 = cc in absurd (let w : ⊥ = omega arith in w)
 
-true-is : (b : Bool) → T b → b ≡ true
-true-is true t = refl
-true-is false t = absurd t
-
 pub smaller : (a b : ℤ) → up a + dn b < up b + dn a → a <ℤ b
 smaller a b h = ltZ-yes (is-true (ltZ a b) (is-lt a b h))
 
 pub is-smaller : {a b : ℤ} → a <ℤ b → up a + dn b < up b + dn a
-is-smaller {a} {b} h = lt-true a b (true-is (ltZ a b) (h .lt))
+is-smaller {a} {b} h = lt-true a b (holds (ltZ a b) (h .lt))
 
 -- ---- the order
 -- of two ticks at most one is the later

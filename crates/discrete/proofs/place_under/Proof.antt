@@ -7,6 +7,7 @@ use lib.IntN.{ℤ, _-ℤ_}
 use mir.Syntax.{w64}
 use mir.Val.{SFits, toZ, ofZ}
 use mir.Facts.{toZ-ofZ}
+use Rattle.laws.proofs.Signed.{read-sub}
 use Rattle.discrete.specs.Counting.{indexAt, placeUnder}
 use Rattle.discrete.proofs.Counting.{size-most}
 use Rattle.discrete.proofs.Unmapping.{Pixels, pixels-apart}
@@ -21,10 +22,6 @@ high-fits c = search needs
 
 apart : (c : tie.Start) → Pixels (c .args .l) (c .args .p)
 apart c = pixels-apart (c .args .l) (c .args .p) (c .pre .1)
-
--- a difference of two numbers, as the code reads it back
-back : (x y : ℤ) → SFits w64 x → SFits w64 y → SFits w64 (x -ℤ y) → toZ w64 (ofZ w64 (toZ w64 (ofZ w64 x) -ℤ toZ w64 (ofZ w64 y))) ≡ x -ℤ y
-back x y f g h = rw (toZ-ofZ f, toZ-ofZ g) (toZ-ofZ h)
 
 inner : (x y : ℤ) → SFits w64 x → SFits w64 y → SFits w64 (x -ℤ y) → SFits w64 (toZ w64 (ofZ w64 x) -ℤ toZ w64 (ofZ w64 y))
 inner x y f g h = rw (toZ-ofZ f, toZ-ofZ g) h
@@ -41,10 +38,10 @@ sub-index-at-2 c =
     inner (s .args .l .high) (s .args .l .low) (high-fits s) (low-fits s) (apart s .width-fits)
 
 offset-is : (s : tie.Start) → toZ w64 (ofZ w64 (toZ w64 (ofZ w64 (s .args .p)) -ℤ toZ w64 (ofZ w64 (s .args .l .low)))) ≡ s .args .p -ℤ s .args .l .low
-offset-is s = back (s .args .p) (s .args .l .low) (s .fits .p) (low-fits s) (apart s .offset-fits)
+offset-is s = read-sub (s .args .p) (s .args .l .low) (s .fits .p) (low-fits s) (apart s .offset-fits)
 
 width-is : (s : tie.Start) → toZ w64 (ofZ w64 (toZ w64 (ofZ w64 (s .args .l .high)) -ℤ toZ w64 (ofZ w64 (s .args .l .low)))) ≡ s .args .l .high -ℤ s .args .l .low
-width-is s = back (s .args .l .high) (s .args .l .low) (high-fits s) (low-fits s) (apart s .width-fits)
+width-is s = read-sub (s .args .l .high) (s .args .l .low) (high-fits s) (low-fits s) (apart s .width-fits)
 
 index-at-requires : tie.Need-index-at-requires
 index-at-requires c κs =

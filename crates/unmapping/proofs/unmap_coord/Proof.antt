@@ -6,6 +6,7 @@ use lib.IntN.{ℤ, _+ℤ_, _-ℤ_}
 use mir.Syntax.{w64}
 use mir.Val.{SFits, toZ, ofZ}
 use mir.Facts.{toZ-ofZ}
+use Rattle.laws.proofs.Signed.{read-sub}
 use Rattle.values.specs.Differences.{nanoseconds}
 use Rattle.axis.specs.Axes.{start, spanOf}
 use Rattle.axis.specs.Questions.{isPixel, differ}
@@ -46,10 +47,6 @@ on-width c =
     let (l, h, p, d) = page c in
     record { pixels-most = between-few (c .args .pixel) (c .args .l .low) p l; width-most = between-few (c .args .l .high) (c .args .l .low) h l; width-some = width-some (c .args .l) d }
 
--- a difference, read back from its bits
-read : (x y : ℤ) → SFits w64 x → SFits w64 y → SFits w64 (x -ℤ y) → toZ w64 (ofZ w64 (toZ w64 (ofZ w64 x) -ℤ toZ w64 (ofZ w64 y))) ≡ x -ℤ y
-read x y f g h = rw (toZ-ofZ f, toZ-ofZ g) (toZ-ofZ h)
-
 offset-is : (c : tie.Start) → let x = c .args in
     _≡_ {A = Offset}
     (record { pixels = toZ w64 (ofZ w64 (toZ w64 (ofZ w64 (x .pixel)) -ℤ toZ w64 (ofZ w64 (x .l .low)))); width = toZ w64 (ofZ w64 (toZ w64 (ofZ w64 (x .l .high)) -ℤ toZ w64 (ofZ w64 (x .l .low)))) })
@@ -57,8 +54,8 @@ offset-is : (c : tie.Start) → let x = c .args in
 offset-is c =
     let x = c .args in
     let (l, h, p, d) = page c in
-    let P = read (x .pixel) (x .l .low) (c .fits .pixel) (low-fits c) (between-fits (x .pixel) (x .l .low) p l) in
-    let W = read (x .l .high) (x .l .low) (high-fits c) (low-fits c) (between-fits (x .l .high) (x .l .low) h l) in
+    let P = read-sub (x .pixel) (x .l .low) (c .fits .pixel) (low-fits c) (between-fits (x .pixel) (x .l .low) p l) in
+    let W = read-sub (x .l .high) (x .l .low) (high-fits c) (low-fits c) (between-fits (x .l .high) (x .l .low) h l) in
     λ i. record { pixels = P i; width = W i }
 
 date-time-at-requires : tie.Need-date-time-at-requires
