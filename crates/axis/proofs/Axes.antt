@@ -22,7 +22,8 @@ module _ (a : Axis) (e : ends a ≡ true) where
   -- question 3
   pub both-ends : Both (a .kind) (start a) (end a)
   unfolding ends
-  both-ends = let (x, y) = both-true (isValue (a .kind) (start a)) (isValue (a .kind) (end a)) e in record { first = x; second = y }
+  both-ends = let (x, y) = both-true (isValue (a .kind) (start a)) (isValue (a .kind) (end a)) e in
+      record { first = x; second = y }
 
   -- and question 8
   pub with-value : (v : Value) → valueOn a v ≡ true → Both (a .kind) (start a) v

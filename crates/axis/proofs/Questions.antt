@@ -22,7 +22,8 @@ use Rattle.axis.specs.declared.BoldPoints.{BoldPoints}
 use Rattle.axis.specs.declared.LightPoints.{LightPoints}
 use Rattle.axis.specs.Axes.{start, end, spanOf}
 use Rattle.axis.proofs.Axes.{span-from-0}
-use Rattle.axis.specs.Questions.{nearZero, nearOrLong, ends, inOrder, isCount, enough, boldHint, lightHint, isPixel, pixels, differ, unmapPixels, isIndex, fitsI32}
+use Rattle.axis.specs.Questions.{nearZero, nearOrLong, ends, inOrder, isCount, enough, boldHint, lightHint}
+use Rattle.axis.specs.Questions.{isPixel, pixels, differ, unmapPixels, isIndex, fitsI32}
 
 -- ---- 5: by seconds, and by nanoseconds only at the bound above
 module _ (v : Value) (value : isValue (pos 7) v ≡ true) where
@@ -44,7 +45,8 @@ module _ (v : Value) (value : isValue (pos 7) v ≡ true) where
       (λ e. is-le (negsuc 3999999999999999999) (nanoseconds (pos 7) v) (omega (arith, le-true (negsuc 3999999999) h e)))
       (λ e. is-gt (negsuc 3999999999999999999) (nanoseconds (pos 7) v) (omega (arith, le-false (negsuc 3999999999) h e)))
 
-  from-above : ltZ h (pos 4000000000) || (leZ h (pos 4000000000) && leZ t (pos 0)) ≡ leZ (nanoseconds (pos 7) v) (pos 4000000000000000000)
+  from-above : ltZ h (pos 4000000000) || (leZ h (pos 4000000000) && leZ t (pos 0)) ≡ leZ (nanoseconds (pos 7) v)
+      (pos 4000000000000000000)
   unfolding nanoseconds
   from-above =
       let j = joint h t 1000000000 in
@@ -53,7 +55,8 @@ module _ (v : Value) (value : isValue (pos 7) v ≡ true) where
       agree (ltZ h (pos 4000000000) || (leZ h (pos 4000000000) && leZ t (pos 0))) (leZ n (pos 4000000000000000000))
       (λ e. elim (either-true (ltZ h (pos 4000000000)) (leZ h (pos 4000000000) && leZ t (pos 0)) e) [
         | inl x ↦ is-le n (pos 4000000000000000000) (omega (arith, lt-true h (pos 4000000000) x))
-        | inr y ↦ (let (x, z) = both-true (leZ h (pos 4000000000)) (leZ t (pos 0)) y in is-le n (pos 4000000000000000000) (omega (arith, le-true h (pos 4000000000) x, le-true t (pos 0) z)))
+        | inr y ↦ (let (x, z) = both-true (leZ h (pos 4000000000)) (leZ t (pos 0)) y in
+            is-le n (pos 4000000000000000000) (omega (arith, le-true h (pos 4000000000) x, le-true t (pos 0) z)))
       ])
       (λ e. let (x, y) = either-false (ltZ h (pos 4000000000)) (leZ h (pos 4000000000) && leZ t (pos 0)) e in
       elim (not-both (leZ h (pos 4000000000)) (leZ t (pos 0)) y) [
@@ -61,7 +64,8 @@ module _ (v : Value) (value : isValue (pos 7) v ≡ true) where
         | inr z ↦ is-gt n (pos 4000000000000000000) (omega (arith, lt-false h (pos 4000000000) x, le-false t (pos 0) z))
       ])
 
-  pub near-by-seconds : leZ (negsuc 3999999999) h && (ltZ h (pos 4000000000) || (leZ h (pos 4000000000) && leZ t (pos 0))) ≡ nearZero v
+  pub near-by-seconds : leZ (negsuc 3999999999) h && (ltZ h (pos 4000000000) || (leZ h (pos 4000000000) && leZ t (pos 0)))
+      ≡ nearZero v
   unfolding nearZero
   near-by-seconds = rw (from-below, from-above)
 
@@ -86,7 +90,8 @@ module _ (a : Axis) where
   unfolding nearOrLong
   near-ends e = rw e (or-true (not (isDuration (a .kind))))
 
-  pub far-ends : isDuration (a .kind) ≡ true → nearZero (start a) && nearZero (end a) ≡ false → ends a ≡ true → inOrder a ≡ true → not (nanosecondsOf (spanOf a) .fits) ≡ nearOrLong a
+  pub far-ends : isDuration (a .kind) ≡ true → nearZero (start a) && nearZero (end a) ≡ false → ends a ≡ true →
+      inOrder a ≡ true → not (nanosecondsOf (spanOf a) .fits) ≡ nearOrLong a
   unfolding nearOrLong nanosecondsOf
   far-ends e n r o = rw (e, n) (long (spanOf a) (span-from-0 a r o))
 
@@ -99,14 +104,17 @@ module _ (a : Axis) where
 
 -- ---- what a yes says to a caller
 -- 5: where the span fits, both ends are near zero
-pub near-where-fits : (a : Axis) → isDuration (a .kind) ≡ true → nearOrLong a ≡ true → fitsI64 (spanOf a) ≡ true → (nearZero (start a) ≡ true) × (nearZero (end a) ≡ true)
+pub near-where-fits : (a : Axis) → isDuration (a .kind) ≡ true → nearOrLong a ≡ true → fitsI64 (spanOf a) ≡ true →
+    (nearZero (start a) ≡ true) × (nearZero (end a) ≡ true)
 unfolding nearOrLong
 near-where-fits a e q f =
-    let n : ltZ (pos 9223372036854775807) (spanOf a) ≡ false = is-ge (pos 9223372036854775807) (spanOf a) (omega (arith, fits-range (spanOf a) f)) in
+    let n : ltZ (pos 9223372036854775807) (spanOf a) ≡ false =
+    is-ge (pos 9223372036854775807) (spanOf a) (omega (arith, fits-range (spanOf a) f)) in
     let r : (nearZero (start a) && nearZero (end a)) || false ≡ true = rw (e, n) at q in
     both-true (nearZero (start a)) (nearZero (end a)) (sym (or-false (nearZero (start a) && nearZero (end a))) ∙ r)
 
-pub near-range : (v : Value) → nearZero v ≡ true → (dn (nanoseconds (pos 7) v) ≤ 4000000000000000000) × (up (nanoseconds (pos 7) v) ≤ 4000000000000000000)
+pub near-range : (v : Value) → nearZero v ≡ true → (dn (nanoseconds (pos 7) v) ≤ 4000000000000000000)
+    × (up (nanoseconds (pos 7) v) ≤ 4000000000000000000)
 unfolding nearZero
 near-range v e =
     let n = nanoseconds (pos 7) v in
@@ -171,4 +179,5 @@ index-range i e =
 
 -- 10: a number that fits i32
 pub i32-range : (n : ℤ) → fitsI32 n ≡ true → (dn n ≤ 2147483648) × (up n ≤ 2147483647)
-i32-range n e = let (a, b) = within-true (negsuc 2147483647) n (pos 2147483647) e in bounded n 2147483648 2147483647 (omega arith) (omega arith)
+i32-range n e = let (a, b) = within-true (negsuc 2147483647) n (pos 2147483647) e in
+    bounded n 2147483648 2147483647 (omega arith) (omega arith)

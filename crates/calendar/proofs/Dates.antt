@@ -11,14 +11,19 @@ use native.Mathlib.Omega.{arith}
 use lib.Dec.{ltb}
 use borrow.Author.Tests.{ltb-true, ltb-false}
 use Rattle.calendar.specs.declared.Date.{Date}
-use Rattle.calendar.specs.Gregorian.{monthLength, months, yearLength, years, dayNumber, Real, date, nextDay, daysLater, dateOf}
+use Rattle.calendar.specs.Gregorian.{monthLength, months, yearLength, years, dayNumber, Real, date, nextDay}
+use Rattle.calendar.specs.Gregorian.{daysLater, dateOf}
 use Rattle.calendar.proofs.Formulas.{monthLength-range, years-next, years-to, years-closed}
 
 -- ---- a growing function takes each number in one step
 module _ (f : ℕ → ℕ) (up : (k : ℕ) → f k ≤ f (suc k)) where
   mono : (j k : ℕ) → j ≤ k → f j ≤ f k
   mono j zero h = elim (eq-or-lt-of-le h) [ inl p ↦ le-of-eq (ap f p) | inr q ↦ absurd (not-suc-le-zero q) ]
-  mono j (suc k) h = elim (eq-or-lt-of-le h) [ inl p ↦ le-of-eq (ap f p) | inr q ↦ le-trans (mono j k (le-of-suc-le-suc q)) (up k) ]
+  mono j (suc k) h = elim (eq-or-lt-of-le h) [
+    | inl p ↦ le-of-eq (ap f p)
+    | inr q ↦ le-trans (mono j k (le-of-suc-le-suc q))
+        (up k)
+  ]
 
   not-later : (x j k : ℕ) → x ≤ f j → f (k - 1) < x → k ≤ j
   not-later x j k a b =
@@ -56,7 +61,15 @@ module _ (y m d : ℕ) (r : Real y m d) where
 
   in-year : (years (y - 1) < dayNumber y m d) × (dayNumber y m d ≤ years y)
   unfolding dayNumber yearLength
-  in-year = (omega (arith, r .day), omega (arith, in-month .1, mono (months y) (months-up y) m 12 (r .last), years-to y (r .year)))
+  in-year = (
+    omega (arith, r .day),
+    omega (
+      arith,
+      in-month .1,
+      mono (months y) (months-up y) m 12 (r .last),
+      years-to y (r .year),
+    ),
+  )
 
 one-in-year : (y m d m' d' : ℕ) → Real y m d → Real y m' d' → dayNumber y m d ≡ dayNumber y m' d' → (m ≡ m') × (d ≡ d')
 unfolding dayNumber
@@ -68,7 +81,8 @@ one-in-year y m d m' d' r r' e =
     (p, omega (arith, ap (λ (x : ℕ). months y (x - 1)) p))
 
 -- two real dates with one day number are one date
-pub one-date : (y m d y' m' d' : ℕ) → Real y m d → Real y' m' d' → dayNumber y m d ≡ dayNumber y' m' d' → (y ≡ y') × ((m ≡ m') × (d ≡ d'))
+pub one-date : (y m d y' m' d' : ℕ) → Real y m d → Real y' m' d' → dayNumber y m d ≡ dayNumber y' m' d' →
+    (y ≡ y') × ((m ≡ m') × (d ≡ d'))
 one-date y m d y' m' d' r r' e =
     let i = in-year y m d r in
     let i' = in-year y' m' d' r' in
@@ -99,20 +113,36 @@ following y m d r true e p q u v =
     (record { year = r .year; month = r .month; last = r .last; day = omega arith; within = omega (arith, p refl) }, omega arith)
 following y m d r false true p q u v =
     let before : m + 1 - 1 ≡ m = omega arith in (
-      record { year = r .year; month = omega arith; last = omega (arith, u refl); day = omega arith; within = omega (arith, monthLength-range y (m + 1) (omega (arith, u refl))) },
+      record {
+        year = r .year;
+        month = omega arith;
+        last = omega (arith, u refl);
+        day = omega arith;
+        within =
+            omega (arith, monthLength-range y (m + 1) (omega (arith, u refl)));
+      },
       rw before (omega (arith, months-to y m (r .month), q refl, r .within)),
     )
 following y m d r false false p q u v =
     let before : y + 1 - 1 ≡ y = omega arith in
     let last : m ≡ 12 = omega (arith, v refl, r .last) in
-    let whole : months y 12 ≡ months y (m - 1) + monthLength y m = subst (λ (x : ℕ). months y x ≡ months y (m - 1) + monthLength y m) last (months-to y m (r .month)) in (
-      record { year = omega arith; month = omega arith; last = omega arith; day = omega arith; within = omega (arith, monthLength-range (y + 1) 1 (omega arith)) },
+    let whole : months y 12 ≡ months y (m - 1) + monthLength y m =
+    subst (λ (x : ℕ). months y x ≡ months y (m - 1) + monthLength y m) last (months-to y m (r .month)) in (
+      record {
+        year = omega arith;
+        month = omega arith;
+        last = omega arith;
+        day = omega arith;
+        within =
+            omega (arith, monthLength-range (y + 1) 1 (omega arith));
+      },
       rw before (omega (arith, years-to y (r .year), year-is y, whole, months-none (y + 1), q refl, r .within)),
     )
 
 -- the next day of a real date is a real date, and its number is one more
 pub next-day : (t : Date) → Real (t .year) (t .month) (t .day)
-    → Real (nextDay t .year) (nextDay t .month) (nextDay t .day) × (dayNumber (nextDay t .year) (nextDay t .month) (nextDay t .day) ≡ dayNumber (t .year) (t .month) (t .day) + 1)
+    → Real (nextDay t .year) (nextDay t .month) (nextDay t .day)
+    × (dayNumber (nextDay t .year) (nextDay t .month) (nextDay t .day) ≡ dayNumber (t .year) (t .month) (t .day) + 1)
 unfolding nextDay
 next-day t r =
     following (t .year) (t .month) (t .day) r (ltb (t .day) (monthLength (t .year) (t .month))) (ltb (t .month) 12)
@@ -121,7 +151,17 @@ next-day t r =
 -- ---- the date of a day number
 first : Real 1 1 1 × (dayNumber 1 1 1 ≡ 1)
 unfolding dayNumber
-first = (record { year = omega arith; month = omega arith; last = omega arith; day = omega arith; within = omega (arith, monthLength-range 1 1 (omega arith)) }, refl)
+first = (
+  record {
+    year = omega arith;
+    month = omega arith;
+    last = omega arith;
+    day = omega arith;
+    within =
+        omega (arith, monthLength-range 1 1 (omega arith));
+  },
+  refl,
+)
 
 later-is : (k : ℕ) → let t = daysLater k in Real (t .year) (t .month) (t .day) × (dayNumber (t .year) (t .month) (t .day) ≡ k + 1)
 unfolding daysLater
@@ -132,12 +172,14 @@ later-is (suc k) =
     (r', omega (arith, e, e'))
 
 -- the date of a day number is a real date with that number
-pub date-number : (n : ℕ) → 1 ≤ n → let t = dateOf n in Real (t .year) (t .month) (t .day) × (dayNumber (t .year) (t .month) (t .day) ≡ n)
+pub date-number : (n : ℕ) → 1 ≤ n → let t = dateOf n in
+    Real (t .year) (t .month) (t .day) × (dayNumber (t .year) (t .month) (t .day) ≡ n)
 unfolding dateOf
 date-number n h = (later-is (n - 1) .0, omega (arith, later-is (n - 1) .1))
 
 -- and it is the only one
-pub the-date : (n : ℕ) (t : Date) → 1 ≤ n → Real (t .year) (t .month) (t .day) → dayNumber (t .year) (t .month) (t .day) ≡ n → t ≡ dateOf n
+pub the-date : (n : ℕ) (t : Date) → 1 ≤ n → Real (t .year) (t .month) (t .day) → dayNumber (t .year) (t .month) (t .day) ≡ n →
+    t ≡ dateOf n
 the-date n t h r e =
     let (r', e') = date-number n h in
     let s = dateOf n in

@@ -86,13 +86,15 @@ cycle = tt
 
 pub years-closed : (a b : ℕ) → b < 400 → years (400 * a + b) + b / 100 ≡ 146097 * a + 365 * b + b / 4
 unfolding right-years
-years-closed zero b h = let all-of : 400 * 0 + b ≡ b = omega arith in rw all-of (omega (arith, eqb→eq (years b + b / 100) (365 * b + b / 4) (at right-years 400 cycle b h)))
+years-closed zero b h = let all-of : 400 * 0 + b ≡ b = omega arith in
+    rw all-of (omega (arith, eqb→eq (years b + b / 100) (365 * b + b / 4) (at right-years 400 cycle b h)))
 years-closed (suc a) b h =
     let more : 400 * suc a + b ≡ 400 * a + b + 400 = omega arith in
     rw more (omega (arith, years-again (400 * a + b), years-closed a b h))
 
 -- the year, from the four quotients of the cycles of 400, 100, 4 and 1 years
-years-split : (k a b c f : ℕ) → k ≡ 400 * a + 100 * b + 4 * c + f → b ≤ 3 → c ≤ 24 → f ≤ 3 → years k ≡ 146097 * a + 36524 * b + 1461 * c + 365 * f
+years-split : (k a b c f : ℕ) → k ≡ 400 * a + 100 * b + 4 * c + f → b ≤ 3 → c ≤ 24 → f ≤ 3 → years k ≡ 146097 * a + 36524 * b
+    + 1461 * c + 365 * f
 years-split k a b c f K B C E =
     let is : k ≡ 400 * a + (100 * b + 4 * c + f) = omega arith in
     let by4 : (100 * b + 4 * c + f) / 4 ≡ 25 * b + c = omega arith in
@@ -149,14 +151,30 @@ module _ (N c r a b Y q : ℕ)
   pub high : N < years (suc Y)
   high =
       elim (eq-or-lt-of-le w-le) [
-        | inr h ↦ omega (arith, years-split (suc Y) a b x (suc w) (omega (arith, parts)) B' x-le h, years-split Y a b x w parts B' x-le w-le, low, e-is)
+        | inr h ↦ omega (
+          arith,
+          years-split (suc Y) a b x (suc w) (omega (arith, parts)) B' x-le h,
+          years-split Y a b x w parts B' x-le w-le,
+          low,
+          e-is,
+        )
         | inl p ↦
             elim (eq-or-lt-of-le x-le) [
-              | inr h ↦ omega (arith, years-split (suc Y) a b (suc x) 0 (omega (arith, parts)) B' h zero-le, years-split Y a b x w parts B' x-le w-le, low, e-is)
+              | inr h ↦ omega (
+                arith,
+                years-split (suc Y) a b (suc x) 0 (omega (arith, parts)) B' h zero-le,
+                years-split Y a b x w parts B' x-le w-le,
+                low,
+                e-is,
+              )
               | inl s ↦
                   elim (eq-or-lt-of-le B') [
                     | inr h ↦ omega (arith, years-split (suc Y) a (suc b) 0 0 (omega (arith, parts)) h zero-le zero-le, k-is)
-                    | inl v ↦ omega (arith, years-split (suc Y) (suc a) 0 0 0 (omega (arith, parts)) zero-le zero-le zero-le, k-is)
+                    | inl v ↦ omega (
+                      arith,
+                      years-split (suc Y) (suc a) 0 0 0 (omega (arith, parts)) zero-le zero-le zero-le,
+                      k-is,
+                    )
                   ]
             ]
       ]
@@ -247,7 +265,8 @@ number-meet : (y m d s : ℕ) (b : Bool) → 1 ≤ y → months y (m - 1) + 398 
     → dayNumber y m d + 398 ≡ years (y - boolByte b) + s + d
 unfolding dayNumber
 number-meet y m d s true h p = omega arith
-number-meet y m d s false h p = let all-of : y - boolByte false ≡ y = omega arith in rw all-of (omega (arith, years-to y h, yearLength-is y))
+number-meet y m d s false h p = let all-of : y - boolByte false ≡ y = omega arith in
+    rw all-of (omega (arith, years-to y h, yearLength-is y))
 
 pub flag-le : (b : Bool) → boolByte b ≤ 1
 flag-le true = omega arith
@@ -257,7 +276,8 @@ abbrev pub march-year : ℕ → ℕ → ℕ
 march-year y m = y - boolByte (ltb m 3)
 
 pub number-is : (y m d : ℕ) → Real y m d → y ≤ 10000
-    → dayNumber y m d + 398 ≡ 1461 * march-year y m / 4 - march-year y m * 5243 / 524288 + march-year y m * 5243 / 524288 / 4 + since-march m + d
+    → dayNumber y m d + 398 ≡ 1461 * march-year y m / 4 - march-year y m * 5243 / 524288 + march-year y m * 5243 / 524288 / 4
+    + since-march m + d
 number-is y m d r h =
     rw (years-fast (march-year y m) (omega arith)) (number-meet y m d _ (ltb m 3) (r .year) (number-law y m (r .month) (r .last)))
 
@@ -282,13 +302,15 @@ unfolding both right-date months leapDay
 right-dates = tt
 
 date-law : (y f : ℕ) → f < 365 + leapDay y
-    → (day-of f ≤ monthLength y (month-of f)) × (months y (month-of f - 1) + day-of f + 305 ≡ f + cond (leb 306 f) 0 (365 + leapDay y))
+    → (day-of f ≤ monthLength y (month-of f)) × (months y (month-of f - 1) + day-of f + 305 ≡ f + cond (leb 306 f) 0
+    (365 + leapDay y))
 unfolding right-date
 date-law y f h =
     let l = leapDay y in
     let a = leb (day-of f) (monthLength (like l) (month-of f)) in
     let b = eqb (months (like l) (month-of f - 1) + day-of f + 305) (f + cond (leb 306 f) 0 (365 + l)) in
-    let t = meant (ltb f (365 + l)) (a && b) (lt-ltb f (365 + l) h) (in-year right-date 366 right-dates y f (omega (arith, leapDay-le y))) in
+    let t = meant (ltb f (365 + l)) (a && b) (lt-ltb f (365 + l) h)
+    (in-year right-date 366 right-dates y f (omega (arith, leapDay-le y))) in
     (rw (length-like y (month-of f)) (leb→le _ _ (and-l a b t)), rw (months-like y (month-of f - 1)) (eqb→eq _ _ (and-r a b t)))
 
 -- ---- the code's numbers, from the day number n
@@ -304,10 +326,12 @@ year-at n = 2939745 * quarters n / 4294967296
 abbrev pub day-at : ℕ → ℕ
 day-at n = 2939745 * quarters n % 4294967296 / 11758980
 
-product-law : (u : ℕ) → u < 14700000 → (2939745 * u / 4294967296 ≡ u / 1461) × (2939745 * u % 4294967296 / 11758980 ≡ u % 1461 / 4)
+product-law : (u : ℕ) → u < 14700000 → (2939745 * u / 4294967296 ≡ u / 1461)
+    × (2939745 * u % 4294967296 / 11758980 ≡ u % 1461 / 4)
 product-law u h = go (u / 1461) (u % 1461) (omega arith) (omega arith) (omega arith)
   where
-    go : (q r : ℕ) → u ≡ 1461 * q + r → q ≤ 10100 → r < 1461 → (2939745 * u / 4294967296 ≡ q) × (2939745 * u % 4294967296 / 11758980 ≡ r / 4)
+    go : (q r : ℕ) → u ≡ 1461 * q + r → q ≤ 10100 → r < 1461 → (2939745 * u / 4294967296 ≡ q)
+        × (2939745 * u % 4294967296 / 11758980 ≡ r / 4)
     go q r p Q R = rw p (over q r Q R .0, rw (over q r Q R .1) (under q r Q R))
 
 module _ (n : ℕ) (n-le : n ≤ 3652425) where
@@ -320,7 +344,8 @@ module _ (n : ℕ) (n-le : n ≤ 3652425) where
   cut4 : (v : ℕ) → (v ≡ 4 * (v / 4) + v % 4) × (v % 4 ≤ 3)
   cut4 v = omega arith
 
-  cut1461 : (v : ℕ) → 4 * (n + 305) + 3 + 4 * (centuries n - centuries n / 4) ≡ v → (4 * (n + 305) + 3 + 4 * (centuries n - centuries n / 4) ≡ 1461 * (v / 1461) + v % 1461) × (v % 1461 < 1461)
+  cut1461 : (v : ℕ) → 4 * (n + 305) + 3 + 4 * (centuries n - centuries n / 4) ≡ v →
+      (4 * (n + 305) + 3 + 4 * (centuries n - centuries n / 4) ≡ 1461 * (v / 1461) + v % 1461) × (v % 1461 < 1461)
   cut1461 v p = omega arith
 
   pub year-law : (years (year-at n) + day-at n ≡ n + 305) × (day-at n < 365 + leapDay (suc (year-at n)))
@@ -328,8 +353,10 @@ module _ (n : ℕ) (n-le : n ≤ 3652425) where
       let (p, q) = product-law (quarters n) quarters-le in
       let (c4, c3) = cut4 (centuries n) in
       let (u, v) = cut1461 (quarters n) (omega arith) in
-      let lo = low (n + 305) (centuries n) _ (centuries n / 4) (centuries n % 4) (quarters n / 1461) (quarters n % 1461) (cut .0) (cut .1) c4 c3 u v in
-      let hi = high (n + 305) (centuries n) _ (centuries n / 4) (centuries n % 4) (quarters n / 1461) (quarters n % 1461) (cut .0) (cut .1) c4 c3 u v in
+      let lo = low (n + 305) (centuries n) _ (centuries n / 4) (centuries n % 4) (quarters n / 1461) (quarters n % 1461)
+      (cut .0) (cut .1) c4 c3 u v in
+      let hi = high (n + 305) (centuries n) _ (centuries n / 4) (centuries n % 4) (quarters n / 1461) (quarters n % 1461)
+      (cut .0) (cut .1) c4 c3 u v in
       rw (p, q) (lo, omega (arith, lo, hi, years-next (quarters n / 1461), yearLength-is (suc (quarters n / 1461))))
 
 month-range : (f : ℕ) (b : Bool) → (b ≡ true → 306 ≤ f) → (b ≡ false → f < 306) → f < 366
@@ -352,8 +379,10 @@ date-meet n y f m d true h a s p q r t u =
 date-meet n zero f m d false h a s p q r t u = absurd (none n f a s (h refl))
 date-meet n (suc k) f m d false h a s p q r t u =
     let y≡ : suc k + 0 - 1 ≡ k = omega arith in
-    let leap≡ = ap leapDay (add-zero (suc k)) in
-    (record { year = omega arith; month = p; last = q; day = r; within = t }, rw y≡ (omega (arith, years-next k, yearLength-is (suc k))))
+    let leap≡ = ap leapDay (add-zero (suc k)) in (
+      record { year = omega arith; month = p; last = q; day = r; within = t },
+      rw y≡ (omega (arith, years-next k, yearLength-is (suc k))),
+    )
 
 -- the year that begins in March is not longer than the year in which it ends
 day-range : (y f : ℕ) (b : Bool) → (b ≡ false → f < 306) → f < 365 + leapDay (suc y) → f < 365 + leapDay (y + boolByte b)
@@ -370,9 +399,11 @@ module _ (n : ℕ) (n-ge : 1 ≤ n) (n-le : n ≤ 3652425) where
   pub month-fits : (12 * boolByte late ≤ scale (day-at n) / 65536) × ((1 ≤ month-of (day-at n)) × (month-of (day-at n) ≤ 12))
   month-fits = month-range (day-at n) late (leb-true 306 (day-at n)) (leb-false 306 (day-at n)) day-le
 
-  pub date-is : Real (year-at n + boolByte late) (month-of (day-at n)) (day-of (day-at n)) × (dayNumber (year-at n + boolByte late) (month-of (day-at n)) (day-of (day-at n)) ≡ n)
+  pub date-is : Real (year-at n + boolByte late) (month-of (day-at n)) (day-of (day-at n))
+      × (dayNumber (year-at n + boolByte late) (month-of (day-at n)) (day-of (day-at n)) ≡ n)
   date-is =
       let (s, l) = year-law n n-le in
-      let (w, u) = date-law (year-at n + boolByte late) (day-at n) (day-range (year-at n) (day-at n) late (leb-false 306 (day-at n)) l) in
+      let (w, u) = date-law (year-at n + boolByte late) (day-at n)
+      (day-range (year-at n) (day-at n) late (leb-false 306 (day-at n)) l) in
       date-meet n (year-at n) (day-at n) (month-of (day-at n)) (day-of (day-at n)) late (leb-false 306 (day-at n)) n-ge s
       (month-fits .1 .0) (month-fits .1 .1) (omega arith) w u

@@ -49,10 +49,12 @@ out-of-ranges t e = go (within (pos 1) (t .year) (pos 9999)) (within (pos 1) (t 
     go true true c r e = ap (λ (x : Bool). x && r) e
 
 -- only the month's length is left to ask
-pub in-month : (t : Ymd) → inRanges t ≡ true → isDate (t .year) (t .month) (t .day) ≡ leZ (t .day) (pos (monthLength (up (t .year)) (up (t .month))))
+pub in-month : (t : Ymd) → inRanges t ≡ true → isDate (t .year) (t .month) (t .day)
+    ≡ leZ (t .day) (pos (monthLength (up (t .year)) (up (t .month))))
 unfolding isDate inRanges
 in-month t e =
-    let (ab, c) = both-true (within (pos 1) (t .year) (pos 9999) && within (pos 1) (t .month) (pos 12)) (leZ (pos 1) (t .day)) e in
+    let (ab, c) = both-true (within (pos 1) (t .year) (pos 9999) && within (pos 1) (t .month) (pos 12)) (leZ (pos 1) (t .day))
+    e in
     let (a, b) = both-true (within (pos 1) (t .year) (pos 9999)) (within (pos 1) (t .month) (pos 12)) ab in
     simp (a, b, c)
 
@@ -76,7 +78,8 @@ pub record Ranges (t : Ymd) : Type 0 where
 pub ranges : (t : Ymd) → inRanges t ≡ true → Ranges t
 unfolding inRanges
 ranges t e =
-    let (ym, d) = both-true (within (pos 1) (t .year) (pos 9999) && within (pos 1) (t .month) (pos 12)) (leZ (pos 1) (t .day)) e in
+    let (ym, d) = both-true (within (pos 1) (t .year) (pos 9999) && within (pos 1) (t .month) (pos 12)) (leZ (pos 1) (t .day))
+    e in
     let (y, m) = both-true (within (pos 1) (t .year) (pos 9999)) (within (pos 1) (t .month) (pos 12)) ym in
     let (y1, y2) = both-true (leZ (pos 1) (t .year)) (leZ (t .year) (pos 9999)) y in
     let (m1, m2) = both-true (leZ (pos 1) (t .month)) (leZ (t .month) (pos 12)) m in
@@ -95,11 +98,20 @@ ranges t e =
     }
 
 -- three numbers with a yes are a real date
-real-in-month : (y m d : ℕ) (t : Ymd) → Ranges t → y ≡ up (t .year) → m ≡ up (t .month) → d ≡ up (t .day) → d ≤ monthLength y m → Real y m d
+real-in-month : (y m d : ℕ) (t : Ymd) → Ranges t → y ≡ up (t .year) → m ≡ up (t .month) → d ≡ up (t .day) →
+    d ≤ monthLength y m → Real y m d
 real-in-month y m d t k p q r h =
-    record { year = omega (arith, k .year-first); month = omega (arith, k .month-first); last = omega (arith, k .month-last); day = omega (arith, k .day-first); within = h }
+    record {
+      year = omega (arith, k .year-first);
+      month = omega (arith, k .month-first);
+      last =
+          omega (arith, k .month-last);
+      day = omega (arith, k .day-first);
+      within = h;
+    }
 
-pub is-real : (t : Ymd) → inRanges t ≡ true → leb (up (t .day)) (monthLength (up (t .year)) (up (t .month))) ≡ true → Real (up (t .year)) (up (t .month)) (up (t .day))
+pub is-real : (t : Ymd) → inRanges t ≡ true → leb (up (t .day)) (monthLength (up (t .year)) (up (t .month))) ≡ true →
+    Real (up (t .year)) (up (t .month)) (up (t .day))
 is-real t e f = real-in-month _ _ _ t (ranges t e) refl refl refl (leb-true _ _ f)
 
 -- ---- the code's order: a day that every month has, or every month but February, then the month's length
@@ -110,7 +122,8 @@ module _ (y m d : ℕ) where
   early-most : m ≤ 12 → early ≡ true → d ≤ monthLength y m
   early-most h e = go (leb d 28) (eqb m 2) (leb-true d 28) (monthLength-long y m h) e
     where
-      go : (p q : Bool) → (p ≡ true → d ≤ 28) → (q ≡ false → 30 ≤ monthLength y m) → p || (leb d 30 && not q) ≡ true → d ≤ monthLength y m
+      go : (p q : Bool) → (p ≡ true → d ≤ 28) → (q ≡ false → 30 ≤ monthLength y m) → p || (leb d 30 && not q) ≡ true →
+          d ≤ monthLength y m
       go true q u v e = omega (arith, u refl, monthLength-range y m h)
       go false q u v e =
           let (a, b) = both-true (leb d 30) (not q) e in
@@ -124,7 +137,8 @@ answered : (b : Bool) (k n : ℕ) → (b ≡ true → k ≤ 3652059) → dayAnsw
 answered true k n h e = let same : k ≡ n = cc in omega (arith, h refl)
 answered false k n h e = let z : _≡_ {A = ℕ} 0 1 = cc in absurd (let w : ⊥ = omega arith in w)
 
-date-most : (t : Ymd) → isDate (t .year) (t .month) (t .day) ≡ true → dayNumber (up (t .year)) (up (t .month)) (up (t .day)) ≤ 3652059
+date-most : (t : Ymd) → isDate (t .year) (t .month) (t .day) ≡ true → dayNumber (up (t .year)) (up (t .month)) (up (t .day))
+    ≤ 3652059
 date-most t f = go (inRanges t) refl
   where
     go : (b : Bool) → inRanges t ≡ b → dayNumber (up (t .year)) (up (t .month)) (up (t .day)) ≤ 3652059
@@ -136,7 +150,8 @@ date-most t f = go (inRanges t) refl
 
 pub number-range : (t : Ymd) (n : ℕ) → numberOf t ≡ day.Answered n → n ≤ 3652059
 unfolding numberOf
-number-range t n e = answered (isDate (t .year) (t .month) (t .day)) (dayNumber (up (t .year)) (up (t .month)) (up (t .day))) n (date-most t) e
+number-range t n e = answered (isDate (t .year) (t .month) (t .day)) (dayNumber (up (t .year)) (up (t .month)) (up (t .day)))
+    n (date-most t) e
 
 pub record InRange (t : Date) : Type 0 where
   pub year : t .year ≤ 9999

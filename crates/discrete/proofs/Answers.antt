@@ -20,7 +20,8 @@ use Rattle.discrete.specs.declared.NumberAnswer.the-variants as number
 use Rattle.discrete.specs.declared.ValueAnswer.{ValueAnswer}
 use Rattle.discrete.specs.declared.ValueAnswer.the-variants as value
 use Rattle.discrete.specs.Counting.{Counted, origin, position, sizeOf, hasPlace, placeOf, valueAt}
-use Rattle.discrete.specs.Answers.{sizeQuestions, dated, numberAnswer, valueAnswer, checked, asked, indexIn, nextIn, previousIn, valueIn}
+use Rattle.discrete.specs.Answers.{sizeQuestions, dated, numberAnswer, valueAnswer, checked, asked, indexIn}
+use Rattle.discrete.specs.Answers.{nextIn, previousIn, valueIn}
 
 -- rows in a row
 from-append : (k : ℕ) (row rest : List Question) → askedFrom k (row ++ rest) ≡ askedFrom (askedFrom k row) rest
@@ -42,10 +43,12 @@ value-no (suc q) v h = refl
 pub number-refused : (k q : ℕ) (n : NumberAnswer) → q ≡ k → (q ≡ 0 → ⊥) → number.Refused q ≡ numberAnswer k n
 number-refused k q n e h = sym (ap (λ (x : ℕ). numberAnswer x n) (sym e) ∙ number-no q n h)
 
-pub value-refused : (row : List Question) (q : ℕ) (v : ValueAnswer) → q ≡ firstNo row → (q ≡ 0 → ⊥) → value.Refused q ≡ asked row v
+pub value-refused : (row : List Question) (q : ℕ) (v : ValueAnswer) → q ≡ firstNo row → (q ≡ 0 → ⊥) →
+    value.Refused q ≡ asked row v
 unfolding asked
 value-refused row q v e h =
-    let n : firstNo (row ++ (ask 10 (dated v) ∷ [])) ≡ q = more row (ask 10 (dated v)) ∙ ap (λ (k : ℕ). next k 10 (dated v)) (sym e) ∙ stays q 10 (dated v) h in
+    let n : firstNo (row ++ (ask 10 (dated v) ∷ [])) ≡ q = more row (ask 10 (dated v)) ∙ ap (λ (k : ℕ). next k 10 (dated v))
+    (sym e) ∙ stays q 10 (dated v) h in
     sym (ap (λ (k : ℕ). valueAnswer k v) n ∙ value-no q v h)
 
 -- ---- question 10
@@ -58,7 +61,8 @@ pub skip : (row rest : List Question) (v : ValueAnswer) → firstNo row ≡ 0 �
 unfolding asked
 skip row rest v e =
     let n : firstNo (row ++ rest) ≡ firstNo rest = from-append 0 row rest ∙ ap (λ (k : ℕ). askedFrom k rest) e in
-    ap (λ (k : ℕ). valueAnswer k v) (more (row ++ rest) (ask 10 (dated v)) ∙ ap (λ (k : ℕ). next k 10 (dated v)) n ∙ sym (more rest (ask 10 (dated v))))
+    ap (λ (k : ℕ). valueAnswer k v) (more (row ++ rest) (ask 10 (dated v)) ∙ ap (λ (k : ℕ). next k 10 (dated v)) n
+    ∙ sym (more rest (ask 10 (dated v))))
 
 -- what an answered call says of its questions
 next-none : (q n : ℕ) (y : Bool) → 0 < n → next q n y ≡ 0 → (q ≡ 0) × (y ≡ true)
@@ -67,7 +71,8 @@ next-none zero n false l e = absurd (let w : ⊥ = omega arith in w)
 next-none (suc q) n y l e = absurd (let w : ⊥ = omega arith in w)
 
 -- a row without its last question
-pub fewer : (row : List Question) (q : Question) → 0 < q .number → firstNo (row ++ (q ∷ [])) ≡ 0 → (firstNo row ≡ 0) × (q .yes ≡ true)
+pub fewer : (row : List Question) (q : Question) → 0 < q .number → firstNo (row ++ (q ∷ [])) ≡ 0 →
+    (firstNo row ≡ 0) × (q .yes ≡ true)
 fewer row q l e = next-none (firstNo row) (q .number) (q .yes) l (sym (more row q) ∙ e)
 
 value-at : (k : ℕ) (v : ValueAnswer) (w : Value) → valueAnswer k v ≡ value.At w → (k ≡ 0) × (v ≡ value.At w)
@@ -78,14 +83,16 @@ number-is : (k : ℕ) (n : NumberAnswer) (i : ℕ) → numberAnswer k n ≡ numb
 number-is zero n i e = (refl, e)
 number-is (suc k) n i e = let z : _≡_ {A = ℕ} 0 1 = cc in absurd (let x : ⊥ = omega arith in x)
 
-pub answered : (row : List Question) (v : ValueAnswer) (w : Value) → asked row v ≡ value.At w → (firstNo row ≡ 0) × ((v ≡ value.At w) × (isDay (w .head) ≡ true))
+pub answered : (row : List Question) (v : ValueAnswer) (w : Value) → asked row v ≡ value.At w →
+    (firstNo row ≡ 0) × ((v ≡ value.At w) × (isDay (w .head) ≡ true))
 unfolding asked
 answered row v w e =
     let (k, f) = value-at (firstNo (row ++ (ask 10 (dated v) ∷ []))) v w e in
     let (r, d) = fewer row (ask 10 (dated v)) (omega arith) k in
     (r, (f, sym (ap dated f) ∙ d))
 
-pub counted-as : (row : List Question) (n : NumberAnswer) (i : ℕ) → numberAnswer (firstNo row) n ≡ number.Is i → (firstNo row ≡ 0) × (n ≡ number.Is i)
+pub counted-as : (row : List Question) (n : NumberAnswer) (i : ℕ) → numberAnswer (firstNo row) n ≡ number.Is i →
+    (firstNo row ≡ 0) × (n ≡ number.Is i)
 counted-as row n i e = number-is (firstNo row) n i e
 
 pub no-value : value.None ≡ checked value.None
@@ -134,7 +141,8 @@ module _ (a : Axis) (v : Value) where
   unfolding nextIn hasPlace placeOf
   next-last h l = rw (le-leb (origin a) (position a v) h, le-ltb (position a v - origin a + 1) (sizeOf a) l)
 
-  pub next-is : origin a ≤ position a v → position a v - origin a + 1 < sizeOf a → nextIn a v ≡ value.At (valueAt a (position a v - origin a + 1))
+  pub next-is : origin a ≤ position a v → position a v - origin a + 1 < sizeOf a →
+      nextIn a v ≡ value.At (valueAt a (position a v - origin a + 1))
   unfolding nextIn hasPlace placeOf
   next-is h l = rw (le-leb (origin a) (position a v) h, lt-ltb (position a v - origin a + 1) (sizeOf a) l)
 
@@ -143,7 +151,8 @@ module _ (a : Axis) (v : Value) where
   unfolding sizeOf
   next-end h l = next-last h (omega arith)
 
-  pub next-inside : origin a ≤ position a v → position a v < position a (end a) → nextIn a v ≡ value.At (valueAt a (position a v - origin a + 1))
+  pub next-inside : origin a ≤ position a v → position a v < position a (end a) →
+      nextIn a v ≡ value.At (valueAt a (position a v - origin a + 1))
   unfolding sizeOf
   next-inside h l = next-is h (omega arith)
 

@@ -21,7 +21,8 @@ use Rattle.axis.specs.declared.Axis.{Axis}
 use Rattle.axis.specs.Axes.{start, end}
 use Rattle.axis.specs.Questions.{hasIndex, valueOn}
 use Rattle.axis.proofs.Axes.{both-ends}
-use Rattle.discrete.specs.Counting.{Counted, monthly, yearly, firstDay, firstDate, dateOn, origin, position, sizeOf, placeOf, midnight, monthAt, january, yearAt, valueAt}
+use Rattle.discrete.specs.Counting.{Counted, monthly, yearly, firstDay, firstDate, dateOn, origin, position}
+use Rattle.discrete.specs.Counting.{sizeOf, placeOf, midnight, monthAt, january, yearAt, valueAt}
 use Rattle.discrete.proofs.Dates.{ranges, year-9999, year-onward}
 
 -- a kind that counts is one of 1 to 6
@@ -59,17 +60,30 @@ pub record Near (t : Date) (years : ℕ) : Type 0 where
   pub month-most : t .month ≤ 12
 
 near : (n : ℕ) → 1 ≤ n → n ≤ 3652059 → Near (dateOf n) 9999
-near n h l = let r = ranges n h in record { year-least = r .year-least; year-most = year-9999 n h l; month-least = r .month-least; month-most = r .month-most }
+near n h l = let r = ranges n h in record {
+  year-least = r .year-least;
+  year-most = year-9999 n h l;
+  month-least =
+      r .month-least;
+  month-most = r .month-most;
+}
 
 -- of 10000-01-01 too
 near-next : (n : ℕ) → 1 ≤ n → n ≤ 3652060 → Near (dateOf n) 10000
-near-next n h l = let r = ranges n h in record { year-least = r .year-least; year-most = most; month-least = r .month-least; month-most = r .month-most }
+near-next n h l = let r = ranges n h in record {
+  year-least = r .year-least;
+  year-most = most;
+  month-least =
+      r .month-least;
+  month-most = r .month-most;
+}
   where
     most : dateOf n .year ≤ 10000
     most = elim (decLe n 3652059) [
       | yes k ↦ let g = year-9999 n h k in let f : dateOf n .year ≤ 10000 = omega arith in f
       | no k ↦ (let e : n ≡ 3652059 + 1 = omega arith in
-          let g : dateOf (3652059 + 1) .year ≤ 10000 = omega (arith, year-onward 3652059 (omega arith) .to, year-9999 3652059 (omega arith) (omega arith)) in
+          let g : dateOf (3652059 + 1) .year ≤ 10000 =
+          omega (arith, year-onward 3652059 (omega arith) .to, year-9999 3652059 (omega arith) (omega arith)) in
           let f : dateOf n .year ≤ 10000 = rw e g in f)
     ]
 
@@ -95,7 +109,8 @@ module _ (a : Axis) where
   unfolding origin
   origin-days m y = rw (m, y)
 
-  pub position-months : (v : Value) → monthly a ≡ true → position a v ≡ 12 * (dateOn v .year - firstDate a .year) + dateOn v .month
+  pub position-months : (v : Value) → monthly a ≡ true → position a v ≡ 12 * (dateOn v .year - firstDate a .year)
+      + dateOn v .month
   unfolding position
   position-months v m = rw m (ap (λ (k : ℕ). 12 * k + dateOn v .month) (over (dateOn v .year) (firstDate a .year)))
 
@@ -123,7 +138,9 @@ module _ (a : Axis) where
   unfolding monthAt
   month-first i e = rw (eq-eqb i 0 e)
 
-  pub month-later : (i : ℕ) → (i ≡ 0 → ⊥) → monthAt a i ≡ midnight (dayNumber (firstDate a .year + (i + (firstDate a .month - 1)) / 12) ((i + (firstDate a .month - 1)) % 12 + 1) 1)
+  pub month-later : (i : ℕ) → (i ≡ 0 → ⊥) →
+      monthAt a i ≡ midnight (dayNumber (firstDate a .year + (i + (firstDate a .month - 1)) / 12)
+      ((i + (firstDate a .month - 1)) % 12 + 1) 1)
   unfolding monthAt
   month-later i e = rw (ne-eqb i 0 e)
 
@@ -138,7 +155,8 @@ module _ (a : Axis) where
   pub year-start : (i : ℕ) → dayNumber (firstDate a .year + i) 1 1 ≤ up (a .«start_head») → yearAt a i ≡ start a
   year-start i h = january-start (firstDate a .year + i) h
 
-  pub year-later : (i : ℕ) → up (a .«start_head») < dayNumber (firstDate a .year + i) 1 1 → yearAt a i ≡ midnight (dayNumber (firstDate a .year + i) 1 1)
+  pub year-later : (i : ℕ) → up (a .«start_head») < dayNumber (firstDate a .year + i) 1 1 →
+      yearAt a i ≡ midnight (dayNumber (firstDate a .year + i) 1 1)
   year-later i h = january-later (firstDate a .year + i) h
 
 module _ (a : Axis) (c : Counted a) where
@@ -182,7 +200,8 @@ module _ (a : Axis) (c : Counted a) where
   unfolding position
   position-most v e = go (monthly a) (yearly a)
     where
-      go : (m y : Bool) → cond m (12 * (max (dateOn v .year) (firstDate a .year) - firstDate a .year) + dateOn v .month) (cond y (dateOn v .year) (up (v .head))) ≤ 3652059
+      go : (m y : Bool) → cond m (12 * (max (dateOn v .year) (firstDate a .year) - firstDate a .year) + dateOn v .month)
+          (cond y (dateOn v .year) (up (v .head))) ≤ 3652059
       go true y = let n = on-near v e in omega arith
       go false true = let n = on-near v e in omega arith
       go false false = on-day v e .head-most

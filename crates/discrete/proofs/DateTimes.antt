@@ -26,7 +26,8 @@ or-true : (b : Bool) → b || true ≡ true
 or-true true = refl
 or-true false = refl
 
-counts : (k : ℤ) → within (pos 1) k (pos 6) ≡ true → within (pos 4) k (pos 4) ≡ false → within (pos 1) k (pos 3) || within (pos 5) k (pos 6) ≡ true
+counts : (k : ℤ) → within (pos 1) k (pos 6) ≡ true → within (pos 4) k (pos 4) ≡ false → within (pos 1) k (pos 3)
+    || within (pos 5) k (pos 6) ≡ true
 counts (pos n) e f =
     let (l, h) = both-true (leb 1 n) (leb n 6) e in
     let least = leb-true 1 n l in
@@ -35,10 +36,16 @@ counts (pos n) e f =
       | yes m ↦ rw (le-leb 1 n least, le-leb n 3 m)
       | no m ↦ elim (decLe 5 n) [
         | yes g ↦ rw (le-leb 5 n g, le-leb n 6 most) (or-true (leb 1 n && leb n 3))
-        | no g ↦ (let four : leb 4 n && leb n 4 ≡ true = rw (le-leb 4 n (omega arith), le-leb n 4 (omega arith)) in let z : _≡_ {A = ℕ} 0 1 = cc in absurd (let w : ⊥ = omega arith in w))
+        | no g ↦ (let four : leb 4 n && leb n 4 ≡ true = rw (le-leb 4 n (omega arith), le-leb n 4 (omega arith)) in
+            let z : _≡_ {A = ℕ} 0 1 = cc in absurd (let w : ⊥ = omega arith in w))
       ]
     ]
-counts (negsuc n) e f = absurd (let w : ⊥ = omega (arith, le-true (pos 1) (negsuc n) (both-true (leZ (pos 1) (negsuc n)) (leZ (negsuc n) (pos 6)) e .0)) in w)
+counts (negsuc n) e f =
+    absurd (let w : ⊥ = omega (
+      arith,
+      le-true (pos 1) (negsuc n) (both-true (leZ (pos 1) (negsuc n)) (leZ (negsuc n) (pos 6))
+          e .0),
+    ) in w)
 
 -- an axis that has unmapping counts, unless it is kind 4
 pub has-index : (a : Axis) → hasUnmap a ≡ true → within (pos 4) (a .kind) (pos 4) ≡ false → hasIndex a ≡ true

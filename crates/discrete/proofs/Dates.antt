@@ -79,7 +79,8 @@ module _ (y m : ℕ) (a : 1 ≤ y) (b : 1 ≤ m) (c : m ≤ 12) where
 pub begun : (y n : ℕ) → 1 ≤ y → dayNumber y 1 1 ≤ n → y ≤ dateOf n .year
 begun y n a h =
     let l = first-least y 1 a (omega arith) (omega arith) in
-    let e : y ≡ dateOf (dayNumber y 1 1) .year = sym (ap (λ (t : Date). t .year) (first-date-is y 1 a (omega arith) (omega arith))) in
+    let e : y ≡ dateOf (dayNumber y 1 1) .year =
+    sym (ap (λ (t : Date). t .year) (first-date-is y 1 a (omega arith) (omega arith))) in
     let s : dayNumber y 1 1 + (n - dayNumber y 1 1) ≡ n = omega arith in
     let g = rw s at (years-grow (dayNumber y 1 1) (n - dayNumber y 1 1) l) in
     omega (arith, e, g)

@@ -23,11 +23,17 @@ use Rattle.axis.proofs.Questions.{index-range}
 use Rattle.discrete.specs.declared.NumberAnswer.the-variants as number
 use Rattle.discrete.specs.declared.ValueAnswer.the-variants as value
 use Rattle.discrete.specs.declared.StepAnswer.the-variants as step
-use Rattle.discrete.specs.Counting.{Counted, monthly, yearly, firstDay, origin, position, sizeOf, hasPlace, placeOf, midnight, valueAt}
-use Rattle.discrete.specs.Answers.{sizeQuestions, valueQuestions, placeQuestions, numberAnswer, checked, indexIn, nextIn, previousIn, valueIn, stepped, sizeAnswer, indexAnswer, fromIndexAnswer, nextAnswer, previousAnswer, valuesAnswer}
+use Rattle.discrete.specs.Counting.{Counted, monthly, yearly, firstDay, origin, position, sizeOf, hasPlace}
+use Rattle.discrete.specs.Counting.{placeOf, midnight, valueAt}
+use Rattle.discrete.specs.Answers.{sizeQuestions, valueQuestions, placeQuestions, numberAnswer, checked}
+use Rattle.discrete.specs.Answers.{indexIn, nextIn, previousIn, valueIn, stepped, sizeAnswer, indexAnswer}
+use Rattle.discrete.specs.Answers.{fromIndexAnswer, nextAnswer, previousAnswer, valuesAnswer}
 use Rattle.discrete.specs.Walking.{at, onward, walk, valuesFrom, Inside}
-use Rattle.discrete.proofs.Counting.{size-most, place-most, value-months, value-days, month-first, origin-days, position-days, on-day, is-day}
-use Rattle.discrete.proofs.Answers.{more, fewer, passed, answered, counted-as, counted, in-range, out-of-range, day-beyond, no-value, index-is, next-is, previous-is, value-is, value-none}
+use Rattle.discrete.proofs.Counting.{size-most, place-most, value-months, value-days, month-first}
+use Rattle.discrete.proofs.Counting.{origin-days, position-days, on-day, is-day}
+use Rattle.discrete.proofs.Answers.{more, fewer, passed, answered, counted-as, counted, in-range}
+use Rattle.discrete.proofs.Answers.{out-of-range, day-beyond, no-value, index-is, next-is, previous-is}
+use Rattle.discrete.proofs.Answers.{value-is, value-none}
 use Rattle.discrete.proofs.Places.{at-place, of-kind, dates-inside, below-size}
 
 -- ---- what one call's answer says
@@ -37,19 +43,25 @@ one-value v w e = cc
 pub one-number : (m n : ℕ) → number.Is m ≡ number.Is n → m ≡ n
 one-number m n e = cc
 
-pub index-in : (a : Axis) (v : Value) (i : ℕ) → indexIn a v ≡ number.Is i → (origin a ≤ position a v) × (position a v - origin a ≡ i)
+pub index-in : (a : Axis) (v : Value) (i : ℕ) → indexIn a v ≡ number.Is i → (origin a ≤ position a v)
+    × (position a v - origin a ≡ i)
 unfolding indexIn hasPlace placeOf
 index-in a v i e = go (leb (origin a) (position a v)) (leb-true (origin a) (position a v)) e
   where
-    go : (b : Bool) → (b ≡ true → origin a ≤ position a v) → cond b (number.Is (position a v - origin a)) number.None ≡ number.Is i → (origin a ≤ position a v) × (position a v - origin a ≡ i)
+    go : (b : Bool) → (b ≡ true → origin a ≤ position a v) → cond b (number.Is (position a v - origin a)) number.None
+        ≡ number.Is i → (origin a ≤ position a v) × (position a v - origin a ≡ i)
     go true h e = (h refl, one-number (position a v - origin a) i e)
     go false h e = let z : _≡_ {A = ℕ} 0 1 = cc in absurd (let w : ⊥ = omega arith in w)
 
-next-in : (a : Axis) (v w : Value) → nextIn a v ≡ value.At w → (position a v - origin a + 1 < sizeOf a) × (valueAt a (position a v - origin a + 1) ≡ w)
+next-in : (a : Axis) (v w : Value) → nextIn a v ≡ value.At w → (position a v - origin a + 1 < sizeOf a)
+    × (valueAt a (position a v - origin a + 1) ≡ w)
 unfolding nextIn hasPlace placeOf
-next-in a v w e = go (leb (origin a) (position a v)) (ltb (position a v - origin a + 1) (sizeOf a)) (ltb-true (position a v - origin a + 1) (sizeOf a)) e
+next-in a v w e = go (leb (origin a) (position a v)) (ltb (position a v - origin a + 1) (sizeOf a))
+    (ltb-true (position a v - origin a + 1) (sizeOf a)) e
   where
-    go : (b t : Bool) → (t ≡ true → position a v - origin a + 1 < sizeOf a) → cond (b && t) (value.At (valueAt a (position a v - origin a + 1))) value.None ≡ value.At w → (position a v - origin a + 1 < sizeOf a) × (valueAt a (position a v - origin a + 1) ≡ w)
+    go : (b t : Bool) → (t ≡ true → position a v - origin a + 1 < sizeOf a) →
+        cond (b && t) (value.At (valueAt a (position a v - origin a + 1))) value.None ≡ value.At w →
+        (position a v - origin a + 1 < sizeOf a) × (valueAt a (position a v - origin a + 1) ≡ w)
     go true true h e = (h refl, one-value (valueAt a (position a v - origin a + 1)) w e)
     go true false h e = let z : _≡_ {A = ℕ} 0 1 = cc in absurd (let x : ⊥ = omega arith in x)
     go false t h e = let z : _≡_ {A = ℕ} 0 1 = cc in absurd (let x : ⊥ = omega arith in x)
@@ -61,11 +73,15 @@ next-on a v w c e =
     let (l, g) = next-in a v w f in
     subst (λ (u : Value). valueOn a u ≡ true) g (of-kind a c (position a v - origin a + 1) (rw g d))
 
-previous-in : (a : Axis) (v w : Value) → previousIn a v ≡ value.At w → (0 < position a v - origin a) × (valueAt a (position a v - origin a - 1) ≡ w)
+previous-in : (a : Axis) (v w : Value) → previousIn a v ≡ value.At w → (0 < position a v - origin a)
+    × (valueAt a (position a v - origin a - 1) ≡ w)
 unfolding previousIn hasPlace placeOf
-previous-in a v w e = go (leb (origin a) (position a v)) (ltb 0 (position a v - origin a)) (ltb-true 0 (position a v - origin a)) e
+previous-in a v w e = go (leb (origin a) (position a v)) (ltb 0 (position a v - origin a))
+    (ltb-true 0 (position a v - origin a)) e
   where
-    go : (b t : Bool) → (t ≡ true → 0 < position a v - origin a) → cond (b && t) (value.At (valueAt a (position a v - origin a - 1))) value.None ≡ value.At w → (0 < position a v - origin a) × (valueAt a (position a v - origin a - 1) ≡ w)
+    go : (b t : Bool) → (t ≡ true → 0 < position a v - origin a) →
+        cond (b && t) (value.At (valueAt a (position a v - origin a - 1))) value.None ≡ value.At w →
+        (0 < position a v - origin a) × (valueAt a (position a v - origin a - 1) ≡ w)
     go true true h e = (h refl, one-value (valueAt a (position a v - origin a - 1)) w e)
     go true false h e = let z : _≡_ {A = ℕ} 0 1 = cc in absurd (let x : ⊥ = omega arith in x)
     go false t h e = let z : _≡_ {A = ℕ} 0 1 = cc in absurd (let x : ⊥ = omega arith in x)
@@ -73,7 +89,8 @@ previous-in a v w e = go (leb (origin a) (position a v)) (ltb 0 (position a v - 
 -- ---- the rows of an accepted axis
 module _ (a : Axis) where
   on-row : (v : Value) → firstNo (sizeQuestions a) ≡ 0 → valueOn a v ≡ true → firstNo (valueQuestions a v) ≡ 0
-  on-row v s o = more (sizeQuestions a) (ask 8 (valueOn a v)) ∙ ap (λ (k : ℕ). next k 8 (valueOn a v)) s ∙ ap (λ (b : Bool). cond b 0 8) o
+  on-row v s o = more (sizeQuestions a) (ask 8 (valueOn a v)) ∙ ap (λ (k : ℕ). next k 8 (valueOn a v)) s
+      ∙ ap (λ (b : Bool). cond b 0 8) o
 
   index-at : (i : ℕ) → i ≤ 3652059 → isIndex (pos i) ≡ true
   index-at i h =
@@ -82,7 +99,8 @@ module _ (a : Axis) where
       rw (x, y)
 
   at-row : (i : ℕ) → firstNo (sizeQuestions a) ≡ 0 → i ≤ 3652059 → firstNo (placeQuestions a (pos i)) ≡ 0
-  at-row i s h = more (sizeQuestions a) (ask 8 (isIndex (pos i))) ∙ ap (λ (k : ℕ). next k 8 (isIndex (pos i))) s ∙ ap (λ (b : Bool). cond b 0 8) (index-at i h)
+  at-row i s h = more (sizeQuestions a) (ask 8 (isIndex (pos i))) ∙ ap (λ (k : ℕ). next k 8 (isIndex (pos i))) s
+      ∙ ap (λ (b : Bool). cond b 0 8) (index-at i h)
 
   sized : (n : ℕ) → sizeAnswer a ≡ number.Is n → (firstNo (sizeQuestions a) ≡ 0) × (sizeOf a ≡ n)
   unfolding sizeAnswer
@@ -91,7 +109,8 @@ module _ (a : Axis) where
       (r, one-number (sizeOf a) n f)
 
   -- from_index where only question 10 is left
-  from-place : (i : ℕ) → firstNo (sizeQuestions a) ≡ 0 → i ≤ 3652059 → fromIndexAnswer a (pos i) ≡ checked (value.At (valueAt a i))
+  from-place : (i : ℕ) → firstNo (sizeQuestions a) ≡ 0 → i ≤ 3652059 → fromIndexAnswer a (pos i)
+      ≡ checked (value.At (valueAt a i))
   unfolding fromIndexAnswer
   from-place i s h = passed (placeQuestions a (pos i)) (value.At (valueAt a i)) (at-row i s h)
 
@@ -174,7 +193,8 @@ module _ (a : Axis) (v : Value) (i : ℕ) (has : indexAnswer a v ≡ number.Is i
       let t = standing a (i + 1) w (x .row) here d in
       let before : position a w - origin a - 1 ≡ i = omega (arith, t .place) in
       record {
-        place = from-place a (i + 1) (x .row) (omega (arith, x .most)) ∙ ap (λ (u : Value). checked (value.At u)) here ∙ sym (in-range w d);
+        place = from-place a (i + 1) (x .row) (omega (arith, x .most)) ∙ ap (λ (u : Value). checked (value.At u)) here
+            ∙ sym (in-range w d);
         index = index-there a (i + 1) w t;
         back = passed (valueQuestions a w) (previousIn a w) (t .row)
             ∙ ap checked (previous-is a w (omega (arith, t .place)) ∙ ap (λ (k : ℕ). value.At (valueAt a k)) before)
@@ -196,19 +216,23 @@ module _ (a : Axis) (v : Value) (i : ℕ) (has : indexAnswer a v ≡ number.Is i
       let t = standing a (i - 1) w (x .row) here d in
       let after : position a w - origin a + 1 ≡ i = omega (arith, t .place, x .at) in
       record {
-        place = from-place a (i - 1) (x .row) (omega (arith, x .most)) ∙ ap (λ (u : Value). checked (value.At u)) here ∙ sym (in-range w d);
+        place = from-place a (i - 1) (x .row) (omega (arith, x .most)) ∙ ap (λ (u : Value). checked (value.At u)) here
+            ∙ sym (in-range w d);
         index = index-there a (i - 1) w t;
         back = λ n s h. passed (valueQuestions a w) (nextIn a w) (t .row)
-            ∙ ap checked (next-is a w (omega (arith, t .place)) (omega (arith, after, sized a n s .1)) ∙ ap (λ (k : ℕ). value.At (valueAt a k)) after)
+            ∙ ap checked (next-is a w (omega (arith, t .place)) (omega (arith, after, sized a n s .1))
+            ∙ ap (λ (k : ℕ). value.At (valueAt a k)) after)
             ∙ sym (from-place a i (x .row) (omega (arith, x .most)));
       }
 
 -- Of a value of a place they undo each other. Of another they do not: kind 2 from day 1 to 32, day 2: the next is 32,
 -- and the one before that 1.
-pub next-undone : (a : Axis) (i : ℕ) (v w : Value) → fromIndexAnswer a (pos i) ≡ value.At v → nextAnswer a v ≡ value.At w → previousAnswer a w ≡ value.At v
+pub next-undone : (a : Axis) (i : ℕ) (v w : Value) → fromIndexAnswer a (pos i) ≡ value.At v → nextAnswer a v ≡ value.At w →
+    previousAnswer a w ≡ value.At v
 next-undone a i v w e n = next-place a v i (index-of-from-index a (pos i) v e) w n .back ∙ e
 
-pub previous-undone : (a : Axis) (i n : ℕ) (v w : Value) → sizeAnswer a ≡ number.Is n → i < n → fromIndexAnswer a (pos i) ≡ value.At v → previousAnswer a v ≡ value.At w → nextAnswer a w ≡ value.At v
+pub previous-undone : (a : Axis) (i n : ℕ) (v w : Value) → sizeAnswer a ≡ number.Is n → i < n → fromIndexAnswer a (pos i)
+    ≡ value.At v → previousAnswer a v ≡ value.At w → nextAnswer a w ≡ value.At v
 previous-undone a i n v w s h e p = previous-place a v i (index-of-from-index a (pos i) v e) w p .back n s h ∙ e
 
 -- ---- THE WALK. Its axis: kinds 1, 2 and 3; kind 6; and kind 5 where the first day is one of question 3.
@@ -219,7 +243,8 @@ pub years-walk : (a : Axis) → monthly a ≡ false → Inside a
 years-walk a y m = absurd (true≢false (sym m ∙ y))
 
 -- else the cursor gives no value: kind 5 from (3652059, 1000000000) to the same has the size 12, and place 0 gets 10
-pub outside : (a : Axis) (n : ℕ) → sizeAnswer a ≡ number.Is n → monthly a ≡ true → 3652059 < firstDay a → fromIndexAnswer a (pos 0) ≡ value.Refused 10
+pub outside : (a : Axis) (n : ℕ) → sizeAnswer a ≡ number.Is n → monthly a ≡ true → 3652059 < firstDay a →
+    fromIndexAnswer a (pos 0) ≡ value.Refused 10
 outside a n size m h =
     from-place a 0 (sized a n size .0) (omega arith)
     ∙ ap (λ (v : Value). checked (value.At v)) (value-months a 0 m ∙ month-first a 0 refl)
@@ -264,7 +289,8 @@ module _ (a : Axis) (n : ℕ) (size : sizeAnswer a ≡ number.Is n) (inside : In
   walk-from m zero i e h = absurd (let w : ⊥ = omega arith in w)
   walk-from zero (suc k) i e h = ap (onward (walk a k)) (step-end i (omega arith) (omega (arith, few)))
   walk-from (suc m) (suc k) i e h =
-      ap (onward (walk a k)) (step-on i (omega arith)) ∙ ap (λ (l : List Value). valueAt a i ∷ l) (walk-from m k (i + 1) (omega arith) (omega arith))
+      ap (onward (walk a k)) (step-on i (omega arith)) ∙ ap (λ (l : List Value). valueAt a i ∷ l)
+      (walk-from m k (i + 1) (omega arith) (omega arith))
 
   -- from 0 the cursor gives the values of all places below the size, and then no more
   pub walked : (k : ℕ) → n < k → walk a k (at 0) ≡ valuesFrom a 0 n
@@ -291,13 +317,15 @@ no-tail : (a : Axis) (v : Value) → a .kind ≡ pos 1 → valueOn a v ≡ true 
 unfolding valueOn
 no-tail a v k o = date-value (a .kind) v o (rw k) .no-tail
 
-pub from-index-of : (a : Axis) (v : Value) (i : ℕ) → a .kind ≡ pos 1 → indexAnswer a v ≡ number.Is i → fromIndexAnswer a (pos i) ≡ value.At v
+pub from-index-of : (a : Axis) (v : Value) (i : ℕ) → a .kind ≡ pos 1 → indexAnswer a v ≡ number.Is i →
+    fromIndexAnswer a (pos i) ≡ value.At v
 from-index-of a v i k has =
     let x = indexed a v i has in
     let (m, y) = days-only a k in
     let c = counted a (x .row) in
     let d = on-day a c v (x .on) in
-    let here : up (a .«start_head») + i ≡ up (v .head) = omega (arith, x .at, x .from, origin-days a m y, position-days a v m y) in
+    let here : up (a .«start_head») + i ≡ up (v .head) =
+    omega (arith, x .at, x .from, origin-days a m y, position-days a v m y) in
     let same-day : pos (up (a .«start_head») + i) ≡ v .head = same (pos (up (a .«start_head») + i)) (v .head) (omega arith) in
     let e : valueAt a i ≡ v = value-days a i m y ∙ (λ j. record { head = same-day j; tail = sym (no-tail a v k (x .on)) j }) in
     from-place a i (x .row) (omega (arith, x .most)) ∙ ap (λ (w : Value). checked (value.At w)) e ∙ sym (in-range v (is-day v d))

@@ -19,10 +19,14 @@ use Rattle.axis.specs.declared.Axis.{Axis}
 use Rattle.axis.specs.Axes.{start, end}
 use Rattle.axis.specs.Questions.{valueOn}
 use Rattle.axis.proofs.Axes.{both-ends}
-use Rattle.discrete.specs.Counting.{Counted, monthly, yearly, firstDay, firstDate, dateOn, origin, position, sizeOf, midnight, monthAt, yearAt, valueAt}
+use Rattle.discrete.specs.Counting.{Counted, monthly, yearly, firstDay, firstDate, dateOn, origin, position}
+use Rattle.discrete.specs.Counting.{sizeOf, midnight, monthAt, yearAt, valueAt}
 use Rattle.discrete.specs.Walking.{Inside}
 use Rattle.discrete.proofs.Dates.{years-grow, year-9999, first-least, first-date-is, first-most, begun}
-use Rattle.discrete.proofs.Counting.{kind-range, starts, end-on, on-near, on-day, first, first-near, is-day, origin-months, origin-years, origin-days, position-months, position-years, position-days, value-months, value-years, value-days, month-first, month-later, year-start, year-later}
+use Rattle.discrete.proofs.Counting.{kind-range, starts, end-on, on-near, on-day, first, first-near, is-day}
+use Rattle.discrete.proofs.Counting.{origin-months, origin-years, origin-days, position-months}
+use Rattle.discrete.proofs.Counting.{position-years, position-days, value-months, value-years, value-days}
+use Rattle.discrete.proofs.Counting.{month-first, month-later, year-start, year-later}
 use Rattle.discrete.proofs.Answers.{day-in}
 
 on-midnight : (d : ℕ) → dateOn (midnight d) ≡ dateOf d
@@ -57,7 +61,8 @@ module _ (a : Axis) (c : Counted a) where
       ∙ ap (λ (x : ℕ). x + suc n) (sym (origin-months a m))
 
   -- the start is the value of a year only where that is the year of the first day
-  start-year : (i : ℕ) → dayNumber (firstDate a .year + i) 1 1 ≤ up (a .«start_head») → dateOn (start a) .year ≡ firstDate a .year + i
+  start-year : (i : ℕ) → dayNumber (firstDate a .year + i) 1 1 ≤ up (a .«start_head») → dateOn (start a) .year
+      ≡ firstDate a .year + i
   unfolding dateOn firstDate
   start-year i h =
       let r = first-near a c in
@@ -150,10 +155,13 @@ module _ (a : Axis) (c : Counted a) where
       let r = first-near a c in
       let e = on-near a c (end a) (end-on a c) in
       let y = first-year l in
-      let size : suc n < 12 * (dateOn (end a) .year - t .year) + dateOn (end a) .month + 1 - t .month = rw (position-months a (end a) m, origin-months a m) at h in
+      let size : suc n < 12 * (dateOn (end a) .year - t .year) + dateOn (end a) .month + 1 - t .month =
+      rw (position-months a (end a) m, origin-months a m) at h in
       let most : t .year + k / 12 ≤ 9999 = omega arith in
       rw (month-later a (suc n) (λ z. omega arith))
-      (day-in (dayNumber (t .year + k / 12) (k % 12 + 1) 1) (first-least (t .year + k / 12) (k % 12 + 1) (omega arith) (omega arith) (omega arith)) (first-most (t .year + k / 12) (k % 12 + 1) (omega arith) (omega arith) (omega arith) most))
+      (day-in (dayNumber (t .year + k / 12) (k % 12 + 1) 1) (first-least (t .year + k / 12) (k % 12 + 1) (omega arith)
+      (omega arith) (omega arith)) (first-most (t .year + k / 12) (k % 12 + 1) (omega arith) (omega arith) (omega arith)
+      most))
 
   year-below : (i : ℕ) → monthly a ≡ false → yearly a ≡ true → i < sizeOf a → isDay (yearAt a i .head) ≡ true
   unfolding sizeOf
@@ -162,9 +170,11 @@ module _ (a : Axis) (c : Counted a) where
     | no l ↦ (
         let r = first-near a c in
         let e = on-near a c (end a) (end-on a c) in
-        let size : i < dateOn (end a) .year + 1 - firstDate a .year = rw (position-years a (end a) m y, origin-years a m y) at h in
+        let size : i < dateOn (end a) .year + 1 - firstDate a .year =
+        rw (position-years a (end a) m y, origin-years a m y) at h in
         rw (year-later a i (omega arith))
-        (day-in (dayNumber (firstDate a .year + i) 1 1) (first-least (firstDate a .year + i) 1 (omega arith) (omega arith) (omega arith)) (first-most (firstDate a .year + i) 1 (omega arith) (omega arith) (omega arith) (omega arith))))
+        (day-in (dayNumber (firstDate a .year + i) 1 1) (first-least (firstDate a .year + i) 1 (omega arith) (omega arith)
+        (omega arith)) (first-most (firstDate a .year + i) 1 (omega arith) (omega arith) (omega arith) (omega arith))))
   ]
 
   day-below : (i : ℕ) → monthly a ≡ false → yearly a ≡ false → i < sizeOf a → isDay (pos (up (a .«start_head») + i)) ≡ true

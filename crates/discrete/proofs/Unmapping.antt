@@ -25,7 +25,8 @@ pub index-whole : (y : ℤ) (n : ℕ) (w : ℤ) → natAbs y ≤ 65534 → n ≤
     → indexAt y n w ≡ cond (unlike (below-zero y) (below-zero w)) 0 (natAbs y * n / natAbs w)
 unfolding indexAt
 index-whole y n w Y N W Wp =
-    scaled-floor binary64 y (pos n) w (le-trans Y (lit≤ tt)) (le-trans N (lit≤ tt)) (lt-of-le-of-lt (product (natAbs y) n Y N) (lit< tt)) (le-trans W (lit≤ tt)) Wp
+    scaled-floor binary64 y (pos n) w (le-trans Y (lit≤ tt)) (le-trans N (lit≤ tt)) (lt-of-le-of-lt (product (natAbs y) n Y N)
+    (lit< tt)) (le-trans W (lit≤ tt)) Wp
     ∙ ap (λ (s : Bool). cond (unlike s (below-zero w)) 0 (natAbs y * n / natAbs w)) (unlike-false (below-zero y))
 
 -- ---- what question 7 says of offset and width

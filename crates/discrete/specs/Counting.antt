@@ -92,7 +92,8 @@ valueAt a i = cond (monthly a) (monthAt a i) (cond (yearly a) (yearAt a i) (midn
 -- (offset as f64 * size as f64 / width as f64).floor() as usize
 unfoldable pub indexAt : ℤ → ℕ → ℤ → ℕ
 indexAt offset size width =
-    toUnsigned 64 (floorF binary64 (div binary64 (mul binary64 (ofInt binary64 offset) (ofInt binary64 (pos size))) (ofInt binary64 width)))
+    toUnsigned 64 (floorF binary64 (div binary64 (mul binary64 (ofInt binary64 offset) (ofInt binary64 (pos size)))
+    (ofInt binary64 width)))
 
 -- the place under a pixel
 unfoldable pub placeUnder : Axis → Limits → ℤ → ℕ

@@ -28,7 +28,8 @@ module _ (b p l : List ℕ) (n i : ℕ) where
       rw (← k) e ∙ sym (take-append-add b p i) ∙ ap (λ (m : ℕ). take m (b ++ p)) q
 
   -- all of the part is kept
-  pub whole : take (n + i) l ≡ b ++ take i p → length b ≡ n → length p ≤ i → i ≤ length p → n + i ≤ 121 → take (n + i) l ≡ lineOf b p
+  pub whole : take (n + i) l ≡ b ++ take i p → length b ≡ n → length p ≤ i → i ≤ length p → n + i ≤ 121 →
+      take (n + i) l ≡ lineOf b p
   whole e h k j m =
       let q : length (b ++ p) ≤ 121 = simp length-append (omega arith) in
       e ∙ ap (λ (x : List ℕ). b ++ x) (take-all i p k) ∙ sym (take-all 121 (b ++ p) q)
@@ -59,8 +60,10 @@ by-end true k n u e l q = let h : k < n = ltb-true k n e in (λ p. omega arith, 
 by-end false k n u e l q = let h : n ≤ k = ltb-false k n e in (λ p. omega arith, omega arith)
 
 -- some of a chunk that is not empty, and no more than there is
-pub used-some : (b chunk : List ℕ) (r : Fed) (after : List ℕ) → Ate b chunk r after → (0 < length chunk → 1 ≤ r .used) × (r .used ≤ length chunk)
-used-some b chunk r after h = by-end (ltb (untilOf 10 chunk) (length chunk)) (untilOf 10 chunk) (length chunk) (r .used) refl (until-le 10 chunk) (h .used)
+pub used-some : (b chunk : List ℕ) (r : Fed) (after : List ℕ) → Ate b chunk r after → (0 < length chunk → 1 ≤ r .used)
+    × (r .used ≤ length chunk)
+used-some b chunk r after h = by-end (ltb (untilOf 10 chunk) (length chunk)) (untilOf 10 chunk) (length chunk) (r .used) refl
+    (until-le 10 chunk) (h .used)
 
 -- ---- where a chunk ends does not matter
 pub take-front : (n : ℕ) (x q : List ℕ) → take n (take n x ++ q) ≡ take n (x ++ q)

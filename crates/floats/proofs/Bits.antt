@@ -4,7 +4,9 @@ use mathlib.Core.Path.{_≡_, refl, sym, ap, _∙_, subst}
 use mathlib.Core.Logic.{inl, inr}
 use mathlib.Core.Bool.{Bool, false, not, cond}
 use Prim.Native.Nat.{ℕ, suc, _+_, _-_, _*_, _/_, _%_, _^_, _≤_, _<_, compare, Ordering, Ordering·lt, Ordering·eq, Ordering·gt}
-use native.Mathlib.Nat.{lt-suc-self, suc-add, le-trans, le-of-eq, le-antisymm, lt-of-lt-of-le, lt-of-le-of-lt, lt-of-not-le, not-le-of-lt, eq-or-lt-of-le, mul-assoc, one-mul, mul-le-mul-right, div-one, mul-div-cancel, le-div-iff-mul-le, div-lt-iff-lt-mul, mod-eq-of-lt}
+use native.Mathlib.Nat.{lt-suc-self, suc-add, le-trans, le-of-eq, le-antisymm, lt-of-lt-of-le, lt-of-le-of-lt}
+use native.Mathlib.Nat.{lt-of-not-le, not-le-of-lt, eq-or-lt-of-le, mul-assoc, one-mul, mul-le-mul-right, div-one}
+use native.Mathlib.Nat.{mul-div-cancel, le-div-iff-mul-le, div-lt-iff-lt-mul, mod-eq-of-lt}
 use native.Mathlib.Numerals.{add-one}
 use native.Mathlib.Omega.{arith}
 use lib.Dec.{T, isLe, isEq, lit<, lit≤, leb→le, nleb→lt, eqb→eq, eqb-refl}
@@ -67,16 +69,19 @@ module _ (q a b : ℕ) where
 
 -- ---- a number's digits
 size-is : (a j : ℕ) → 2 ^ j ≤ a → a < 2 ^ suc j → size a ≡ suc j
-size-is a j h k = le-antisymm (size-le a (suc j) k) (lt-of-not-le (λ (g : size a ≤ j). not-le-of-lt (lt-of-lt-of-le (size-lt a) (pow-mono g)) h))
+size-is a j h k = le-antisymm (size-le a (suc j) k)
+    (lt-of-not-le (λ (g : size a ≤ j). not-le-of-lt (lt-of-lt-of-le (size-lt a) (pow-mono g)) h))
 
 -- ---- a value's pattern, from its size g in units of 2 ^ -1074
-pattern-of : (y : Float) (g : ℕ) → HasValue y false g (2 ^ 1074) → toBits binary64 y ≡ (size g - 53) * 2 ^ 52 + g / 2 ^ (size g - 53)
+pattern-of : (y : Float) (g : ℕ) → HasValue y false g (2 ^ 1074) → toBits binary64 y ≡ (size g - 53) * 2 ^ 52
+    + g / 2 ^ (size g - 53)
 unfolding toBits
 pattern-of nan g h = absurd h
 pattern-of (inf s) g h = absurd h
 pattern-of (fin s m e) g h =
     ap (λ (b : Bool). cond b (2 ^ 63) 0 + (size x - 53) * 2 ^ 52 + x / 2 ^ (size x - 53)) (h .0)
-    ∙ ap (λ (n : ℕ). 0 + (size n - 53) * 2 ^ 52 + n / 2 ^ (size n - 53)) (ap (λ (z : ℕ). z / down e) (h .1) ∙ mul-div-cancel g (down-pos e))
+    ∙ ap (λ (n : ℕ). 0 + (size n - 53) * 2 ^ 52 + n / 2 ^ (size n - 53)) (ap (λ (z : ℕ). z / down e) (h .1) ∙ mul-div-cancel g
+    (down-pos e))
     ∙ go ((size g - 53) * 2 ^ 52) (g / 2 ^ (size g - 53))
   where
     x : ℕ
@@ -86,25 +91,33 @@ pattern-of (fin s m e) g h =
     go a b = omega arith
 
 -- with 53 digits q and K zeros, or with q = 2 ^ 53, where the sum carries
-pattern-digits : (q K : ℕ) → 2 ^ 52 ≤ q → q ≤ 2 ^ 53 → (size (q * 2 ^ K) - 53) * 2 ^ 52 + q * 2 ^ K / 2 ^ (size (q * 2 ^ K) - 53) ≡ K * 2 ^ 52 + q
+pattern-digits : (q K : ℕ) → 2 ^ 52 ≤ q → q ≤ 2 ^ 53 → (size (q * 2 ^ K) - 53) * 2 ^ 52
+    + q * 2 ^ K / 2 ^ (size (q * 2 ^ K) - 53) ≡ K * 2 ^ 52 + q
 pattern-digits q K a b = elim (eq-or-lt-of-le b) [ inl e ↦ carried e | inr l ↦ plain l ]
   where
     plain : q < 2 ^ 53 → (size (q * 2 ^ K) - 53) * 2 ^ 52 + q * 2 ^ K / 2 ^ (size (q * 2 ^ K) - 53) ≡ K * 2 ^ 52 + q
     plain l =
-        let z : size (q * 2 ^ K) ≡ suc (52 + K) = size-is (q * 2 ^ K) (52 + K) (le-trans (le-of-eq (pow-add 2 52 K)) (mul-le-mul-right (2 ^ K) a)) (subst (λ (x : ℕ). q * 2 ^ K < 2 ^ x) (tall K) (shl-lt 53 K l)) in
+        let z : size (q * 2 ^ K) ≡ suc (52 + K) =
+        size-is (q * 2 ^ K) (52 + K) (le-trans (le-of-eq (pow-add 2 52 K)) (mul-le-mul-right (2 ^ K) a))
+        (subst (λ (x : ℕ). q * 2 ^ K < 2 ^ x) (tall K) (shl-lt 53 K l)) in
         let k : size (q * 2 ^ K) - 53 ≡ K = omega arith in
-        subst (λ (x : ℕ). x * 2 ^ 52 + q * 2 ^ K / 2 ^ x ≡ K * 2 ^ 52 + q) (sym k) (ap (λ (x : ℕ). K * 2 ^ 52 + x) (mul-div-cancel q (pow-pos K)))
+        subst (λ (x : ℕ). x * 2 ^ 52 + q * 2 ^ K / 2 ^ x ≡ K * 2 ^ 52 + q) (sym k)
+        (ap (λ (x : ℕ). K * 2 ^ 52 + x) (mul-div-cancel q (pow-pos K)))
       where
         tall : (x : ℕ) → 53 + x ≡ suc (52 + x)
         tall x = omega arith
 
     carried : q ≡ 2 ^ 53 → (size (q * 2 ^ K) - 53) * 2 ^ 52 + q * 2 ^ K / 2 ^ (size (q * 2 ^ K) - 53) ≡ K * 2 ^ 52 + q
     carried e =
-        let g : q * 2 ^ K ≡ 2 ^ 52 * 2 ^ (K + 1) = ap (λ (x : ℕ). x * 2 ^ K) e ∙ sym (pow-add 2 53 K) ∙ ap (λ (x : ℕ). 2 ^ x) (over K) ∙ pow-add 2 52 (K + 1) in
-        let z : size (q * 2 ^ K) ≡ suc (52 + (K + 1)) = ap size g ∙ size-is (2 ^ 52 * 2 ^ (K + 1)) (52 + (K + 1)) (le-of-eq (pow-add 2 52 (K + 1))) (lt-of-le-of-lt (le-of-eq (sym (pow-add 2 52 (K + 1)))) (pow-lt (lt-suc-self (52 + (K + 1))))) in
+        let g : q * 2 ^ K ≡ 2 ^ 52 * 2 ^ (K + 1) = ap (λ (x : ℕ). x * 2 ^ K) e ∙ sym (pow-add 2 53 K) ∙ ap (λ (x : ℕ). 2 ^ x)
+        (over K) ∙ pow-add 2 52 (K + 1) in
+        let z : size (q * 2 ^ K) ≡ suc (52 + (K + 1)) = ap size g ∙ size-is (2 ^ 52 * 2 ^ (K + 1)) (52 + (K + 1))
+        (le-of-eq (pow-add 2 52 (K + 1))) (lt-of-le-of-lt (le-of-eq (sym (pow-add 2 52 (K + 1))))
+        (pow-lt (lt-suc-self (52 + (K + 1))))) in
         let k : size (q * 2 ^ K) - 53 ≡ K + 1 = omega arith in
         subst (λ (x : ℕ). x * 2 ^ 52 + q * 2 ^ K / 2 ^ x ≡ K * 2 ^ 52 + q) (sym k)
-        (ap (λ (x : ℕ). (K + 1) * 2 ^ 52 + x / 2 ^ (K + 1)) g ∙ ap (λ (x : ℕ). (K + 1) * 2 ^ 52 + x) (mul-div-cancel (2 ^ 52) (pow-pos (K + 1))) ∙ last K q e)
+        (ap (λ (x : ℕ). (K + 1) * 2 ^ 52 + x / 2 ^ (K + 1)) g ∙ ap (λ (x : ℕ). (K + 1) * 2 ^ 52 + x)
+        (mul-div-cancel (2 ^ 52) (pow-pos (K + 1))) ∙ last K q e)
       where
         over : (x : ℕ) → 53 + x ≡ 52 + (x + 1)
         over x = omega arith
@@ -161,17 +174,21 @@ module _ (n z j : ℕ) (E : z + suc j ≡ 64) (lo : 2 ^ j ≤ n) (hi : n < 2 ^ s
   keeps : kept 53 (n * 2 ^ 1074) 1 ≡ q
   keeps =
       ap (λ (x : ℕ). closest (n * 2 ^ 1074) (1 * 2 ^ x)) dropped
-      ∙ closest-same (n * 2 ^ 1074) (1 * 2 ^ K) m (2 ^ 11) (lt-of-lt-of-le (pow-pos K) (le-of-eq (sym (one-mul (2 ^ K))))) (pow-pos 11)
-      (mul-assoc n (2 ^ 1074) (2 ^ 11) ∙ ap (λ (x : ℕ). n * x) (ap (λ (x : ℕ). 2 ^ x) places ∙ pow-add 2 z K ∙ ap (λ (x : ℕ). 2 ^ z * x) (sym (one-mul (2 ^ K)))) ∙ sym (mul-assoc n (2 ^ z) (1 * 2 ^ K)))
+      ∙ closest-same (n * 2 ^ 1074) (1 * 2 ^ K) m (2 ^ 11) (lt-of-lt-of-le (pow-pos K) (le-of-eq (sym (one-mul (2 ^ K)))))
+      (pow-pos 11)
+      (mul-assoc n (2 ^ 1074) (2 ^ 11) ∙ ap (λ (x : ℕ). n * x) (ap (λ (x : ℕ). 2 ^ x) places ∙ pow-add 2 z K
+      ∙ ap (λ (x : ℕ). 2 ^ z * x) (sym (one-mul (2 ^ K)))) ∙ sym (mul-assoc n (2 ^ z) (1 * 2 ^ K)))
     where
       places : 1085 ≡ z + (j + 1022)
       places = omega arith
 
   q-lo : 2 ^ 52 ≤ q
-  q-lo = le-trans (le-div-iff-mul-le (pow-pos 11) .1 (le-trans (lit≤ tt) m-lo)) (nearest-ge (m / 2 ^ 11) (compare (m % 2 ^ 11 * 2) (2 ^ 11)))
+  q-lo = le-trans (le-div-iff-mul-le (pow-pos 11) .1 (le-trans (lit≤ tt) m-lo))
+      (nearest-ge (m / 2 ^ 11) (compare (m % 2 ^ 11 * 2) (2 ^ 11)))
 
   q-hi : q ≤ 2 ^ 53
-  q-hi = le-trans (nearest-le (m / 2 ^ 11) (compare (m % 2 ^ 11 * 2) (2 ^ 11))) (div-lt-iff-lt-mul (pow-pos 11) .1 (lt-of-lt-of-le m-hi (lit≤ tt)))
+  q-hi = le-trans (nearest-le (m / 2 ^ 11) (compare (m % 2 ^ 11 * 2) (2 ^ 11)))
+      (div-lt-iff-lt-mul (pow-pos 11) .1 (lt-of-lt-of-le m-hi (lit≤ tt)))
 
   units-are : grid binary64 n 1 ≡ q * 2 ^ K
   units-are = ap (λ (x : ℕ). x * 2 ^ drop 53 (n * 2 ^ 1074) 1) keeps ∙ ap (λ (x : ℕ). q * 2 ^ x) dropped
@@ -183,7 +200,8 @@ module _ (n z j : ℕ) (E : z + suc j ≡ 64) (lo : 2 ^ j ≤ n) (hi : n < 2 ^ s
       room = omega arith
 
   value : HasValue (round binary64 false n 1) false (q * 2 ^ K) (2 ^ 1074)
-  value = subst (λ (g : ℕ). HasValue (round binary64 false n 1) false g (2 ^ 1074)) units-are (round-val binary64 false n 1 (subst (λ (g : ℕ). g < overflow binary64) (sym units-are) under))
+  value = subst (λ (g : ℕ). HasValue (round binary64 false n 1) false g (2 ^ 1074)) units-are
+      (round-val binary64 false n 1 (subst (λ (g : ℕ). g < overflow binary64) (sym units-are) under))
 
   field : 1085 - z ≡ K
   field = omega arith
@@ -197,7 +215,8 @@ module _ (n z j : ℕ) (E : z + suc j ≡ 64) (lo : 2 ^ j ≤ n) (hi : n < 2 ^ s
 
   pub no-nan : T (not (nanBits binary64 ((1085 - z) * 2 ^ 52 + closest (n * 2 ^ z) 2048)))
   unfolding ofInt
-  no-nan = subst (λ (b : Bool). T (not b)) (sym (nanBits-is binary64 ((1085 - z) * 2 ^ 52 + q))) (subst (λ (y : Float). T (not (isNan y))) (sym on-bits) (finite (round binary64 false n 1) (q * 2 ^ K) (2 ^ 1074) value))
+  no-nan = subst (λ (b : Bool). T (not b)) (sym (nanBits-is binary64 ((1085 - z) * 2 ^ 52 + q)))
+      (subst (λ (y : Float). T (not (isNan y))) (sym on-bits) (finite (round binary64 false n 1) (q * 2 ^ K) (2 ^ 1074) value))
 
   pub sum-fits : (1085 - z) * 2 ^ 52 + closest (n * 2 ^ z) 2048 < 2 ^ 64
   sum-fits = go q q-hi

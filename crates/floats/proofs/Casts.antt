@@ -4,7 +4,9 @@ use mathlib.Core.Path.{_≡_, refl, sym, ap, _∙_, subst}
 use mathlib.Core.Logic.{inl, inr}
 use mathlib.Core.Bool.{Bool, true, false, not, cond}
 use Prim.Native.Nat.{ℕ, zero, suc, _+_, _-_, _*_, _/_, _%_, _^_, _≤_, _<_, min, zero-le}
-use native.Mathlib.Nat.{le-trans, le-of-eq, lt-of-lt-of-le, mul-assoc, mul-le-mul, mul-one, div-eq-of-lt, mul-div-cancel, le-div-iff-mul-le, not-suc-le-zero, lt-of-le-of-lt, add-comm, div-le-self, mod-eq-of-lt, eq-or-lt-of-le, eq-zero-or-pos, zero-div}
+use native.Mathlib.Nat.{le-trans, le-of-eq, lt-of-lt-of-le, mul-assoc, mul-le-mul, mul-one, div-eq-of-lt}
+use native.Mathlib.Nat.{mul-div-cancel, le-div-iff-mul-le, not-suc-le-zero, lt-of-le-of-lt, add-comm, div-le-self}
+use native.Mathlib.Nat.{mod-eq-of-lt, eq-or-lt-of-le, eq-zero-or-pos, zero-div}
 use native.Mathlib.Omega.{arith}
 use lib.Dec.{T, eqb, ltb, lit<, lit≤}
 use lib.IntN.{ℤ, pos, negℤ}
@@ -19,7 +21,8 @@ use Rattle.floats.specs.Rounding.{absF}
 use Rattle.floats.proofs.Values.{unsigned-val}
 
 -- ---- the pattern's number
-digits-val : (s : Bool) (e t : ℕ) → 0 < e → e < 2047 → HasValue (ofFields binary64 s e t) s ((t + 2 ^ 52) * 2 ^ (e - 1)) (2 ^ 1074)
+digits-val : (s : Bool) (e t : ℕ) → 0 < e → e < 2047 → HasValue (ofFields binary64 s e t) s ((t + 2 ^ 52) * 2 ^ (e - 1))
+    (2 ^ 1074)
 unfolding ofFields
 digits-val s zero t p l = absurd (not-suc-le-zero p)
 digits-val s (suc k) t p l =
@@ -43,7 +46,8 @@ no-field s t h =
     whole-val (ofFields binary64 s 0 t) s (t * 1) (2 ^ 1074) (pow-pos 1074) (odd-sign 53 s t 0 1074)
     ∙ ap (λ (x : ℕ). min x (2 ^ 64 - 1)) (div-eq-of-lt (lt-of-le-of-lt (le-of-eq (mul-one t)) (lt-of-lt-of-le h (lit≤ tt))))
 
-all-set : (s : Bool) (t : ℕ) → T (not (isNan (ofFields binary64 s 2047 t))) → toUnsigned 64 (absF (ofFields binary64 s 2047 t)) ≡ 2 ^ 64 - 1
+all-set : (s : Bool) (t : ℕ) → T (not (isNan (ofFields binary64 s 2047 t))) →
+    toUnsigned 64 (absF (ofFields binary64 s 2047 t)) ≡ 2 ^ 64 - 1
 unfolding ofFields toUnsigned absF isNan
 all-set s t = go (eqb t 0)
   where
@@ -61,12 +65,18 @@ module _ (s : Bool) (e t : ℕ) (T52 : t < 2 ^ 52) where
   d-hi : d < 2 ^ 53
   d-hi = omega arith
 
-  whole-is : (q : ℕ) → 0 < e → e < 2047 → d * 2 ^ (e - 1) / 2 ^ 1074 ≡ q → q < 2 ^ 64 → toUnsigned 64 (absF (ofFields binary64 s e t)) ≡ q
-  whole-is q p l h r = whole-val (ofFields binary64 s e t) s (d * 2 ^ (e - 1)) (2 ^ 1074) (pow-pos 1074) (digits-val s e t p l) ∙ ap (λ (x : ℕ). min x (2 ^ 64 - 1)) h ∙ least q r
+  whole-is : (q : ℕ) → 0 < e → e < 2047 → d * 2 ^ (e - 1) / 2 ^ 1074 ≡ q → q < 2 ^ 64 →
+      toUnsigned 64 (absF (ofFields binary64 s e t)) ≡ q
+  whole-is q p l h r = whole-val (ofFields binary64 s e t) s (d * 2 ^ (e - 1)) (2 ^ 1074) (pow-pos 1074)
+      (digits-val s e t p l) ∙ ap (λ (x : ℕ). min x (2 ^ 64 - 1)) h ∙ least q r
 
   -- below 1
   pub small : e < 1023 → toUnsigned 64 (absF (ofFields binary64 s e t)) ≡ 0
-  small l = elim (eq-zero-or-pos e) [ inl z ↦ rw z (no-field s t T52) | inr p ↦ whole-is 0 p (omega arith) (div-eq-of-lt (lt-of-lt-of-le (shl-lt 53 (e - 1) d-hi) (pow-mono room))) (lit< tt) ]
+  small l = elim (eq-zero-or-pos e) [
+    | inl z ↦ rw z (no-field s t T52)
+    | inr p ↦ whole-is 0 p (omega arith)
+        (div-eq-of-lt (lt-of-lt-of-le (shl-lt 53 (e - 1) d-hi) (pow-mono room))) (lit< tt)
+  ]
     where
       room : 53 + (e - 1) ≤ 1074
       room = omega arith
@@ -76,7 +86,8 @@ module _ (s : Bool) (e t : ℕ) (T52 : t < 2 ^ 52) where
   middle a b =
       whole-is (d / 2 ^ (1075 - e)) (omega arith) (omega arith)
       (div-same (d * 2 ^ (e - 1)) (2 ^ 1074) d (2 ^ (1075 - e)) (pow-pos 1074) (pow-pos (1075 - e))
-      (mul-assoc d (2 ^ (e - 1)) (2 ^ (1075 - e)) ∙ ap (λ (x : ℕ). d * x) (sym (pow-add 2 (e - 1) (1075 - e)) ∙ ap (λ (x : ℕ). 2 ^ x) places)))
+      (mul-assoc d (2 ^ (e - 1)) (2 ^ (1075 - e)) ∙ ap (λ (x : ℕ). d * x) (sym (pow-add 2 (e - 1) (1075 - e))
+      ∙ ap (λ (x : ℕ). 2 ^ x) places)))
       (lt-of-le-of-lt (div-le-self d (2 ^ (1075 - e))) (lt-of-lt-of-le d-hi (lit≤ tt)))
     where
       places : e - 1 + (1075 - e) ≡ 1074
@@ -86,7 +97,8 @@ module _ (s : Bool) (e t : ℕ) (T52 : t < 2 ^ 52) where
   pub large : 1075 < e → e < 1087 → toUnsigned 64 (absF (ofFields binary64 s e t)) ≡ (t + 2 ^ 52) * 2 ^ (e - 1075) % 2 ^ 64
   large a b =
       whole-is (d * 2 ^ (e - 1075)) (omega arith) (omega arith)
-      (ap (λ (x : ℕ). x / 2 ^ 1074) (ap (λ (x : ℕ). d * 2 ^ x) places ∙ ap (λ (x : ℕ). d * x) (pow-add 2 (e - 1075) 1074) ∙ sym (mul-assoc d (2 ^ (e - 1075)) (2 ^ 1074))) ∙ mul-div-cancel (d * 2 ^ (e - 1075)) (pow-pos 1074))
+      (ap (λ (x : ℕ). x / 2 ^ 1074) (ap (λ (x : ℕ). d * 2 ^ x) places ∙ ap (λ (x : ℕ). d * x) (pow-add 2 (e - 1075) 1074)
+      ∙ sym (mul-assoc d (2 ^ (e - 1075)) (2 ^ 1074))) ∙ mul-div-cancel (d * 2 ^ (e - 1075)) (pow-pos 1074))
       under
       ∙ sym (mod-eq-of-lt under)
     where
@@ -100,7 +112,8 @@ module _ (s : Bool) (e t : ℕ) (T52 : t < 2 ^ 52) where
       under = lt-of-lt-of-le (shl-lt 53 (e - 1075) d-hi) (pow-mono room)
 
   -- from 2 ^ 64 on, an infinity too
-  pub beyond : 1087 ≤ e → e ≤ 2047 → T (not (isNan (ofFields binary64 s e t))) → toUnsigned 64 (absF (ofFields binary64 s e t)) ≡ 2 ^ 64 - 1
+  pub beyond : 1087 ≤ e → e ≤ 2047 → T (not (isNan (ofFields binary64 s e t))) →
+      toUnsigned 64 (absF (ofFields binary64 s e t)) ≡ 2 ^ 64 - 1
   beyond a b n = elim (eq-or-lt-of-le b) [ inl z ↦ rw z (all-set s t (rw z at n)) | inr l ↦ finite l ]
     where
       room : 1086 ≤ e - 1
@@ -115,7 +128,9 @@ module _ (s : Bool) (e t : ℕ) (T52 : t < 2 ^ 52) where
       finite : e < 2047 → toUnsigned 64 (absF (ofFields binary64 s e t)) ≡ 2 ^ 64 - 1
       finite l =
           whole-val (ofFields binary64 s e t) s (d * 2 ^ (e - 1)) (2 ^ 1074) (pow-pos 1074) (digits-val s e t (omega arith) l)
-          ∙ most (d * 2 ^ (e - 1) / 2 ^ 1074) (le-div-iff-mul-le (pow-pos 1074) .1 (le-trans (le-of-eq (sym (pow-add 2 52 1086))) (mul-le-mul up52 (pow-mono room))))
+          ∙ most (d * 2 ^ (e - 1) / 2 ^ 1074)
+          (le-div-iff-mul-le (pow-pos 1074) .1 (le-trans (le-of-eq (sym (pow-add 2 52 1086)))
+          (mul-le-mul up52 (pow-mono room))))
 
 -- ---- the casts, by the sign and the whole part
 not-below : (a b : ℕ) → b ≡ 0 → ltb a b ≡ false
@@ -144,7 +159,8 @@ ends-least : (q k : ℕ) → 0 < k → k ≤ 2 ^ 63 → min q k ≡ min (min q (
 ends-least q k p h = omega arith
 
 -- -0 and what is cut to it
-minus-part : (a d k : ℕ) (b : Bool) → ltb 0 a ≡ b → 0 < d → 0 < k → k ≤ 2 ^ 63 → negℤ (pos (min (a / d) k)) ≡ limitedTo (k - 1) b (min (a / d) (2 ^ 64 - 1))
+minus-part : (a d k : ℕ) (b : Bool) → ltb 0 a ≡ b → 0 < d → 0 < k → k ≤ 2 ^ 63 → negℤ (pos (min (a / d) k))
+    ≡ limitedTo (k - 1) b (min (a / d) (2 ^ 64 - 1))
 minus-part a d k true t D K h = ap (λ (n : ℕ). negℤ (pos n)) (ends-least (a / d) k K h)
 minus-part a d k false t D K h =
     let z : a ≡ 0 = omega (arith, ltb-false 0 a t) in
@@ -153,7 +169,8 @@ minus-part a d k false t D K h =
     let v : min (min (a / d) (2 ^ 64 - 1)) (k - 1) ≡ 0 = omega arith in
     rw (u, v) refl
 
-signed-by : (k : ℕ) (x : Float) → 0 < 2 ^ k → 2 ^ k ≤ 2 ^ 63 → toSigned k x ≡ limitedTo (2 ^ k - 1) (lt x (fin false 0 (pos 0))) (toUnsigned 64 (absF x))
+signed-by : (k : ℕ) (x : Float) → 0 < 2 ^ k → 2 ^ k ≤ 2 ^ 63 → toSigned k x ≡ limitedTo (2 ^ k - 1)
+    (lt x (fin false 0 (pos 0))) (toUnsigned 64 (absF x))
 unfolding toSigned toUnsigned absF lt
 signed-by k nan K h = ap pos (go (2 ^ k))
   where
@@ -173,7 +190,8 @@ signed-by k (fin true m e) K h =
     rw (below-yes m e) (minus-part (m * up e) (down e) (2 ^ k) (ltb 0 (m * up e)) refl (down-pos e) K h)
 
 -- THE LAW of the signed casts, of each width up to 64 bits
-pub signed-cast : (k : ℕ) → k ≤ 63 → (x : Float) → toSigned k x ≡ cond (lt x (ofBits binary64 0)) (negℤ (pos (min (toUnsigned 64 (absF x)) (suc (2 ^ k - 1))))) (pos (min (toUnsigned 64 (absF x)) (2 ^ k - 1)))
+pub signed-cast : (k : ℕ) → k ≤ 63 → (x : Float) → toSigned k x ≡ cond (lt x (ofBits binary64 0))
+    (negℤ (pos (min (toUnsigned 64 (absF x)) (suc (2 ^ k - 1))))) (pos (min (toUnsigned 64 (absF x)) (2 ^ k - 1)))
 unfolding ofBits
 signed-cast k K x = signed-by k x (pow-pos k) (pow-mono K)
 

@@ -4,7 +4,11 @@ use mathlib.Core.Path.{_≡_, sym, ap, _∙_, subst, subst₂}
 use mathlib.Core.Logic.{_⊎_, inl, inr}
 use mathlib.Core.Bool.{Bool, true, false}
 use Prim.Native.Nat.{ℕ, zero, suc, _+_, _-_, _*_, _/_, _^_, _≤_, _<_}
-use native.Mathlib.Nat.{le-trans, le-of-eq, lt-of-lt-of-le, lt-of-le-of-lt, le-of-suc-le-suc, mul-comm, mul-assoc, mul-left-comm, mul-le-mul-right, mul-le-mul-left, mul-le-mul, mul-pos, mul-one, one-mul, mul-zero, eq-or-lt-of-le, le-antisymm, eq-zero-or-pos, not-suc-le-zero, le-of-mul-le-mul-right, lt-of-mul-lt-mul-right, le-div-iff-mul-le, div-lt-iff-lt-mul, div-mul-le-self, div-add-mod', mod-lt}
+use native.Mathlib.Nat.{le-trans, le-of-eq, lt-of-lt-of-le, lt-of-le-of-lt, le-of-suc-le-suc, mul-comm, mul-assoc}
+use native.Mathlib.Nat.{mul-left-comm, mul-le-mul-right, mul-le-mul-left, mul-le-mul, mul-pos, mul-one, one-mul}
+use native.Mathlib.Nat.{mul-zero, eq-or-lt-of-le, le-antisymm, eq-zero-or-pos, not-suc-le-zero}
+use native.Mathlib.Nat.{le-of-mul-le-mul-right, lt-of-mul-lt-mul-right, le-div-iff-mul-le, div-lt-iff-lt-mul}
+use native.Mathlib.Nat.{div-mul-le-self, div-add-mod', mod-lt}
 use native.Mathlib.Decide.{decLe}
 use native.Mathlib.Omega.{arith}
 use lib.Dec.{lit<, lit≤, lt→ltb}
@@ -21,29 +25,34 @@ use Rattle.floats.proofs.Error.{Near, Large, round-near, round-zero, ro
 
 -- ---- two roundings, each within one part in K = J + 1, and a cut: of whole numbers alone
 -- g is t * s rounded; h is g / (D * s) rounded, in units of 1 / L; and F is h's cut
-module _ (J t s D L g h F : ℕ) (S : 0 < s) (Lp : 0 < L) (P : Near (suc J) g (t * s)) (Q : Near (suc J) (h * (D * s)) (g * L)) (cut : F * L ≤ h) (cut' : h ≤ suc F * L) where
+module _ (J t s D L g h F : ℕ) (S : 0 < s) (Lp : 0 < L) (P : Near (suc J) g (t * s)) (Q : Near (suc J) (h * (D * s)) (g * L))
+    (cut : F * L ≤ h) (cut' : h ≤ suc F * L) where
   up1 : suc J * (F * D * s) ≤ suc (suc J) * g
   up1 = le-of-mul-le-mul-right (go (mul-le-mul-right (suc J * (D * s)) cut) (Q .0)) Lp
     where
-      go : F * L * (suc J * (D * s)) ≤ h * (suc J * (D * s)) → suc J * (h * (D * s)) ≤ suc J * (g * L) + g * L → suc J * (F * D * s) * L ≤ suc (suc J) * g * L
+      go : F * L * (suc J * (D * s)) ≤ h * (suc J * (D * s)) → suc J * (h * (D * s)) ≤ suc J * (g * L) + g * L →
+          suc J * (F * D * s) * L ≤ suc (suc J) * g * L
       go c q = omega arith
 
   up2 : suc J * suc J * (F * D) ≤ suc (suc J) * suc (suc J) * t
   up2 = le-of-mul-le-mul-right (go (mul-le-mul-left (suc J) up1) (mul-le-mul-left (suc (suc J)) (P .0))) S
     where
-      go : suc J * (suc J * (F * D * s)) ≤ suc J * (suc (suc J) * g) → suc (suc J) * (suc J * g) ≤ suc (suc J) * (suc J * (t * s) + t * s) → suc J * suc J * (F * D) * s ≤ suc (suc J) * suc (suc J) * t * s
+      go : suc J * (suc J * (F * D * s)) ≤ suc J * (suc (suc J) * g) → suc (suc J) * (suc J * g) ≤ suc (suc J) *
+          (suc J * (t * s) + t * s) → suc J * suc J * (F * D) * s ≤ suc (suc J) * suc (suc J) * t * s
       go a b = omega arith
 
   low1 : J * g ≤ suc J * (suc F * D * s)
   low1 = le-of-mul-le-mul-right (go (mul-le-mul-right (suc J * (D * s)) cut') (Q .1)) Lp
     where
-      go : h * (suc J * (D * s)) ≤ suc F * L * (suc J * (D * s)) → suc J * (g * L) ≤ suc J * (h * (D * s)) + g * L → J * g * L ≤ suc J * (suc F * D * s) * L
+      go : h * (suc J * (D * s)) ≤ suc F * L * (suc J * (D * s)) → suc J * (g * L) ≤ suc J * (h * (D * s)) + g * L →
+          J * g * L ≤ suc J * (suc F * D * s) * L
       go c q = omega arith
 
   low2 : J * J * t ≤ suc J * suc J * (suc F * D)
   low2 = le-of-mul-le-mul-right (go (mul-le-mul-left (suc J) low1) (mul-le-mul-left J (P .1))) S
     where
-      go : suc J * (J * g) ≤ suc J * (suc J * (suc F * D * s)) → J * (suc J * (t * s)) ≤ J * (suc J * g + t * s) → J * J * t * s ≤ suc J * suc J * (suc F * D) * s
+      go : suc J * (J * g) ≤ suc J * (suc J * (suc F * D * s)) → J * (suc J * (t * s)) ≤ J * (suc J * g + t * s) →
+          J * J * t * s ≤ suc J * suc J * (suc F * D) * s
       go a b = omega arith
 
   -- where t is small beside J
@@ -55,16 +64,19 @@ module _ (J t s D L g h F : ℕ) (S : 0 < s) (Lp : 0 < L) (P : Near (suc J) g (t
         go u = omega arith
 
     cut-ge : t ≤ suc F * D
-    cut-ge = elim (decLe t (suc F * D)) [ yes l ↦ l | no l ↦ le-of-suc-le-suc (lt-of-mul-lt-mul-right (J * J) (go low2 (mul-le-mul-left (2 * J + 3) (less l)))) ]
+    cut-ge = elim (decLe t (suc F * D))
+        [ yes l ↦ l | no l ↦ le-of-suc-le-suc (lt-of-mul-lt-mul-right (J * J) (go low2 (mul-le-mul-left (2 * J + 3) (less l)))) ]
       where
         less : ¬ (t ≤ suc F * D) → suc F * D ≤ t
         less n = omega arith
 
-        go : J * J * t ≤ suc J * suc J * (suc F * D) → (2 * J + 3) * (suc F * D) ≤ (2 * J + 3) * t → t * (J * J) < suc (suc F * D) * (J * J)
+        go : J * J * t ≤ suc J * suc J * (suc F * D) → (2 * J + 3) * (suc F * D) ≤ (2 * J + 3) * t →
+            t * (J * J) < suc (suc F * D) * (J * J)
         go u v = omega arith
 
 -- ---- the same with the fractions in the order in which the floats have them
-module _ (w o D c L G H : ℕ) (C : 0 < c) (Lp : 0 < L) (small : w * o ≤ 2 ^ 32) (P : Near (2 ^ 53) (G * 1) (w * (o * c) * L)) (Q : Near (2 ^ 53) (H * (D * c * L)) (G * 1 * L)) where
+module _ (w o D c L G H : ℕ) (C : 0 < c) (Lp : 0 < L) (small : w * o ≤ 2 ^ 32) (P : Near (2 ^ 53) (G * 1) (w * (o * c) * L))
+    (Q : Near (2 ^ 53) (H * (D * c * L)) (G * 1 * L)) where
   abbrev J : ℕ
   J = 2 ^ 53 - 1
 
@@ -78,7 +90,8 @@ module _ (w o D c L G H : ℕ) (C : 0 < c) (Lp : 0 < L) (small : w * o ≤ 2 ^ 3
   p = subst (λ (x : ℕ). Near (2 ^ 53) x (w * o * (c * L))) (mul-one G) (subst (λ (x : ℕ). Near (2 ^ 53) (G * 1) x) inner P)
 
   q : Near (2 ^ 53) (H * (D * (c * L))) (G * L)
-  q = subst (λ (x : ℕ). Near (2 ^ 53) (H * x) (G * L)) (mul-assoc D c L) (subst (λ (x : ℕ). Near (2 ^ 53) (H * (D * c * L)) (x * L)) (mul-one G) Q)
+  q = subst (λ (x : ℕ). Near (2 ^ 53) (H * x) (G * L)) (mul-assoc D c L)
+      (subst (λ (x : ℕ). Near (2 ^ 53) (H * (D * c * L)) (x * L)) (mul-one G) Q)
 
   above : H ≤ suc (H / L) * L
   above = omega (arith, div-add-mod' H L, mod-lt H Lp)
@@ -106,7 +119,8 @@ days-exact o h =
 -- what is above zero is above a half
 above-half : (w o D c L G : ℕ) → 0 < o → D ≤ w → Near (2 ^ 53) (G * 1) (w * (o * c) * L) → D * c * L ≤ 2 * (G * 1)
 above-half w o D c L G O W h =
-    go (D * c * L) (w * (o * c) * L) (G * 1) (mul-le-mul-right L (mul-le-mul W (le-trans (le-of-eq (sym (one-mul c))) (mul-le-mul-right c O)))) (h .1)
+    go (D * c * L) (w * (o * c) * L) (G * 1)
+    (mul-le-mul-right L (mul-le-mul W (le-trans (le-of-eq (sym (one-mul c))) (mul-le-mul-right c O)))) (h .1)
   where
     go : (x y g : ℕ) → x ≤ y → 2 ^ 53 * y ≤ 2 ^ 53 * g + y → x ≤ 2 * g
     go x y g l k = omega arith
@@ -146,7 +160,10 @@ module _ (s : Bool) (w o D : ℕ) (Dp : 0 < D) (O : o ≤ D) (Dw : D < w) (W : w
   zero-at z = ap (λ (x : ℕ). w * (x * day)) z ∙ mul-zero w
 
   product-large : Large (w * (o * day)) 1
-  product-large = elim (eq-zero-or-pos o) [ inl z ↦ inr (zero-at z) | inr p ↦ inl (mul-pos (mul-pos (omega arith) (mul-pos p (lit< tt))) (pow-pos 100)) ]
+  product-large = elim (eq-zero-or-pos o) [
+    | inl z ↦ inr (zero-at z)
+    | inr p ↦ inl (mul-pos (mul-pos (omega arith) (mul-pos p (lit< tt))) (pow-pos 100))
+  ]
 
   P : Near (2 ^ 53) (G * 1) (w * (o * day) * 2 ^ 1074)
   P = round-near binary64 (w * (o * day)) 1 (lit< tt) product-large
@@ -155,17 +172,20 @@ module _ (s : Bool) (w o D : ℕ) (Dp : 0 < D) (O : o ≤ D) (Dw : D < w) (W : w
   quotient-large =
       elim (eq-zero-or-pos o) [
         | inl z ↦ inr (mul-one G ∙ ap (λ (x : ℕ). grid binary64 x 1) (zero-at z) ∙ round-zero binary64 1 (lit< tt))
-        | inr p ↦ inl (le-trans (above-half w o D day (2 ^ 1074) G p (omega arith) P) (le-trans (le-of-eq (mul-comm 2 (G * 1))) (mul-le-mul-left (G * 1) (lit≤ tt))))
+        | inr p ↦ inl (le-trans (above-half w o D day (2 ^ 1074) G p (omega arith) P)
+            (le-trans (le-of-eq (mul-comm 2 (G * 1))) (mul-le-mul-left (G * 1) (lit≤ tt))))
       ]
 
   Q : Near (2 ^ 53) (H * (D * day * 2 ^ 1074)) (G * 1 * 2 ^ 1074)
   Q = round-near binary64 (G * 1) (D * day * 2 ^ 1074) divisor quotient-large
 
   G-under : G < overflow binary64
-  G-under = round-under binary64 (w * (o * day)) 1 (w * (o * day)) (lit< tt) (le-of-eq (sym (mul-one (w * (o * day))))) (modest (w * (o * day)) (lt-of-le-of-lt (mul-le-mul W (mul-le-mul-right day o-le)) (lit< tt))) P
+  G-under = round-under binary64 (w * (o * day)) 1 (w * (o * day)) (lit< tt) (le-of-eq (sym (mul-one (w * (o * day)))))
+      (modest (w * (o * day)) (lt-of-le-of-lt (mul-le-mul W (mul-le-mul-right day o-le)) (lit< tt))) P
 
   H-under : H < overflow binary64
-  H-under = round-under binary64 (G * 1) (D * day * 2 ^ 1074) (2 * w) divisor most (modest (2 * w) (lt-of-le-of-lt (mul-le-mul-left 2 W) (lit< tt))) Q
+  H-under = round-under binary64 (G * 1) (D * day * 2 ^ 1074) (2 * w) divisor most
+      (modest (2 * w) (lt-of-le-of-lt (mul-le-mul-left 2 W) (lit< tt))) Q
     where
       order : (d l : ℕ) → 2 * (w * (o * d) * l) ≤ 2 * w * (D * d * l)
       order d l = omega (arith, mul-le-mul-left (w * (d * l)) O)
@@ -179,7 +199,8 @@ module _ (s : Bool) (w o D : ℕ) (Dp : 0 < D) (O : o ≤ D) (Dw : D < w) (W : w
   product-val : HasValue product s G (2 ^ 1074)
   product-val =
       subst (λ (t : Bool). HasValue product t G (2 ^ 1074)) (unlike-false s)
-      (product-near binary64 (round binary64 s w 1) (round binary64 false (o * day) 1) s false w 1 (o * day) 1 (round-whole binary64 s w (le-trans W (lit≤ tt))) (days-exact o o-le) (lit< tt) (lit< tt) product-large G-under .0)
+      (product-near binary64 (round binary64 s w 1) (round binary64 false (o * day) 1) s false w 1 (o * day) 1
+      (round-whole binary64 s w (le-trans W (lit≤ tt))) (days-exact o o-le) (lit< tt) (lit< tt) product-large G-under .0)
 
   abbrev quotient : Float
   quotient = div binary64 product (round binary64 false (D * day) 1)
@@ -187,7 +208,8 @@ module _ (s : Bool) (w o D : ℕ) (Dp : 0 < D) (O : o ≤ D) (Dw : D < w) (W : w
   quotient-val : HasValue quotient s H (2 ^ 1074)
   quotient-val =
       subst (λ (t : Bool). HasValue quotient t H (2 ^ 1074)) (unlike-false s)
-      (quotient-near binary64 product (round binary64 false (D * day) 1) s false G (2 ^ 1074) (D * day) 1 product-val (days-exact D (omega arith)) (pow-pos 1074) (mul-pos Dp (lit< tt)) quotient-large H-under .0)
+      (quotient-near binary64 product (round binary64 false (D * day) 1) s false G (2 ^ 1074) (D * day) 1 product-val
+      (days-exact D (omega arith)) (pow-pos 1074) (mul-pos Dp (lit< tt)) quotient-large H-under .0)
 
   F-le : cutOf w o D * D ≤ w * o
   F-le = day-le w o D day (2 ^ 1074) G H (lit< tt) (pow-pos 1074) small P Q
@@ -198,10 +220,12 @@ module _ (s : Bool) (w o D : ℕ) (Dp : 0 < D) (O : o ≤ D) (Dw : D < w) (W : w
   F-is : toSigned 31 quotient ≡ withSign s (cutOf w o D)
   F-is =
       signed-val 31 quotient s H (2 ^ 1074) (pow-pos 1074) quotient-val
-      ∙ cut-within 31 s (cutOf w o D) (lt-of-le-of-lt (le-of-mul-le-mul-right (le-trans F-le (mul-le-mul-left w O)) Dp) (lt-of-le-of-lt W (lit< tt)))
+      ∙ cut-within 31 s (cutOf w o D) (lt-of-le-of-lt (le-of-mul-le-mul-right (le-trans F-le (mul-le-mul-left w O)) Dp)
+      (lt-of-le-of-lt W (lit< tt)))
 
 -- ---- the pixel, and that it grows with each day
-pub pixel-is : (s : Bool) (w o D : ℕ) → 0 < D → o ≤ D → D < w → w ≤ 65534 → cutQuotient (withSign s w) (pos (o * day)) (pos (D * day)) ≡ withSign s (cutOf w o D)
+pub pixel-is : (s : Bool) (w o D : ℕ) → 0 < D → o ≤ D → D < w → w ≤ 65534 → cutQuotient (withSign s w) (pos (o * day))
+    (pos (D * day)) ≡ withSign s (cutOf w o D)
 unfolding cutQuotient ofInt
 pixel-is false w o D Dp O Dw W = F-is false w o D Dp O Dw W
 pixel-is true zero o D Dp O Dw W = absurd (not-suc-le-zero Dw)
@@ -230,7 +254,8 @@ between-grows w o o' D F F' Dw l a b =
 
 pub cut-grows : (w o o' D : ℕ) → 0 < D → o < o' → o' ≤ D → D < w → w ≤ 65534 → cutOf w o D < cutOf w o' D
 cut-grows w o o' D Dp l O' Dw W =
-    between-grows w o o' D (cutOf w o D) (cutOf w o' D) Dw l (cut-between w o D Dp (omega arith) Dw W .0) (cut-between w o' D Dp O' Dw W .1)
+    between-grows w o o' D (cutOf w o D) (cutOf w o' D) Dw l (cut-between w o D Dp (omega arith) Dw W .0)
+    (cut-between w o' D Dp O' Dw W .1)
 
 -- ---- the same of the pixels as signed numbers: with the high limit above the low one they grow, else they fall
 neg-falls : (a b : ℕ) → a < b → negℤ (pos b) <ℤ negℤ (pos a)
@@ -238,12 +263,14 @@ neg-falls a zero h = absurd (not-suc-le-zero h)
 neg-falls zero (suc b) h = record { lt = tt }
 neg-falls (suc a) (suc b) h = record { lt = lt→ltb a b (le-of-suc-le-suc h) }
 
-pub pixels-grow : (w o o' D : ℕ) → 0 < D → o < o' → o' ≤ D → D < w → w ≤ 65534 → cutQuotient (pos w) (pos (o * day)) (pos (D * day)) <ℤ cutQuotient (pos w) (pos (o' * day)) (pos (D * day))
+pub pixels-grow : (w o o' D : ℕ) → 0 < D → o < o' → o' ≤ D → D < w → w ≤ 65534 →
+    cutQuotient (pos w) (pos (o * day)) (pos (D * day)) <ℤ cutQuotient (pos w) (pos (o' * day)) (pos (D * day))
 pixels-grow w o o' D Dp l O' Dw W =
     subst₂ (λ (x y : ℤ). x <ℤ y) (sym (pixel-is false w o D Dp (omega arith) Dw W)) (sym (pixel-is false w o' D Dp O' Dw W))
     (record { lt = lt→ltb (cutOf w o D) (cutOf w o' D) (cut-grows w o o' D Dp l O' Dw W) })
 
-pub pixels-fall : (w o o' D : ℕ) → 0 < D → o < o' → o' ≤ D → D < w → w ≤ 65534 → cutQuotient (negℤ (pos w)) (pos (o' * day)) (pos (D * day)) <ℤ cutQuotient (negℤ (pos w)) (pos (o * day)) (pos (D * day))
+pub pixels-fall : (w o o' D : ℕ) → 0 < D → o < o' → o' ≤ D → D < w → w ≤ 65534 → cutQuotient (negℤ (pos w)) (pos (o' * day))
+    (pos (D * day)) <ℤ cutQuotient (negℤ (pos w)) (pos (o * day)) (pos (D * day))
 pixels-fall w o o' D Dp l O' Dw W =
     subst₂ (λ (x y : ℤ). x <ℤ y) (sym (pixel-is true w o' D Dp O' Dw W)) (sym (pixel-is true w o D Dp (omega arith) Dw W))
     (neg-falls (cutOf w o D) (cutOf w o' D) (cut-grows w o o' D Dp l O' Dw W))

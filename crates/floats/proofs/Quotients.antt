@@ -4,18 +4,23 @@ use mathlib.Core.Path.{_≡_, refl, sym, ap, _∙_}
 use mathlib.Core.Logic.{inl, inr}
 use mathlib.Core.Bool.{Bool, true, false, cond}
 use Prim.Native.Nat.{ℕ, zero, suc, _+_, _-_, _*_, _/_, _^_, _≤_, _<_, min}
-use native.Mathlib.Nat.{le-trans, le-of-eq, le-of-suc-le-suc, lt-of-lt-of-le, lt-of-le-of-lt, eq-or-lt-of-le, mul-right-comm, mul-one, mul-pos, mul-le-mul-left, mul-lt-mul-of-pos-right, lt-of-mul-lt-mul-right, eq-of-mul-eq-mul-right, div-mul-le-self, div-add-mod', mod-lt, div-lt-iff-lt-mul, div-le-self, div-one}
+use native.Mathlib.Nat.{le-trans, le-of-eq, le-of-suc-le-suc, lt-of-lt-of-le, lt-of-le-of-lt, eq-or-lt-of-le}
+use native.Mathlib.Nat.{mul-right-comm, mul-one, mul-pos, mul-le-mul-left, mul-lt-mul-of-pos-right}
+use native.Mathlib.Nat.{lt-of-mul-lt-mul-right, eq-of-mul-eq-mul-right, div-mul-le-self, div-add-mod', mod-lt}
+use native.Mathlib.Nat.{div-lt-iff-lt-mul, div-le-self, div-one}
 use native.Mathlib.Omega.{arith}
 use lib.Dec.{lit<, lit≤}
 use lib.IntN.{ℤ, pos, natAbs}
 use lib.Pow.{pow-pos, pow-mono}
-use lib.Ieee.{Float, nan, inf, fin, Format, binary32, binary64, prec, low, up, down, unlike, round, ofInt, mul, div, toSigned, toUnsigned}
+use lib.Ieee.{Float, nan, inf, fin, Format, binary32, binary64, prec, low, up, down, unlike, round, ofInt, mul, div}
+use lib.Ieee.{toSigned, toUnsigned}
 use lib.Ieee.Fits.{down-pos, two}
 use lib.Ieee.Exact.{HasValue}
 use lib.Ieee.Scale.{grid}
 use Rattle.laws.proofs.Quotients.{quotient-is}
 use Rattle.floats.specs.Rounding.{withSign, upward, halfUp, floorF, ceilF, roundF, cutQuotient}
-use Rattle.floats.proofs.Values.{signed-val, unsigned-val, cutSigned, cut-within, below-zero, mul-ints, div-by-int, div-ints, div-zero, unlike-false}
+use Rattle.floats.proofs.Values.{signed-val, unsigned-val, cutSigned, cut-within, below-zero, mul-ints}
+use Rattle.floats.proofs.Values.{div-by-int, div-ints, div-zero, unlike-false}
 use Rattle.floats.proofs.Order.{quotient-val, below, equal, above}
 
 -- ---- N / D stands to each c / d as a / b does
@@ -42,7 +47,8 @@ module _ (a b N D : ℕ) (B : 0 < b) (Dp : 0 < D) where
   same-floor l =
       quotient-is N D (a / b) Dp
       (one (like-ge 1 a b N D (a / b) l (le-trans (div-mul-le-self a b) (le-of-eq (sym (mul-one a))))))
-      (lt-of-le-of-lt (le-of-eq (sym (mul-one N))) (l (suc (a / b)) .0 (lt-of-le-of-lt (le-of-eq (mul-one a)) (below-next a b B))))
+      (lt-of-le-of-lt (le-of-eq (sym (mul-one N)))
+      (l (suc (a / b)) .0 (lt-of-le-of-lt (le-of-eq (mul-one a)) (below-next a b B))))
     where
       one : a / b * D ≤ N * 1 → a / b * D ≤ N
       one h = le-trans h (le-of-eq (mul-one N))
@@ -75,7 +81,8 @@ module _ (a b N D : ℕ) (B : 0 < b) (Dp : 0 < D) where
 move : (d a b g L N D : ℕ) → 0 < L → 0 < D → N * L ≡ g * D → Like d a b g L → Like d a b N D
 move d a b g L N D Lp Dp e l c = (
   λ (h : a * d < c * b). lt-of-mul-lt-mul-right L (left (mul-lt-mul-of-pos-right (l c .0 h) Dp)),
-  λ (h : a * d ≡ c * b). eq-of-mul-eq-mul-right L Lp (N * d) (c * D) (turn ∙ ap (λ (x : ℕ). x * D) (l c .1 h) ∙ mul-right-comm c L D),
+  λ (h : a * d ≡ c * b). eq-of-mul-eq-mul-right L Lp (N * d) (c * D) (turn ∙ ap (λ (x : ℕ). x * D) (l c .1 h)
+      ∙ mul-right-comm c L D),
   λ (h : c * b < a * d). lt-of-mul-lt-mul-right L (right (mul-lt-mul-of-pos-right (l c .2 h) Dp)),
 )
   where
@@ -127,10 +134,16 @@ module _ (f : Format) (s : Bool) (a b : ℕ) (B : 0 < b) (b-small : b ≤ 2 ^ 10
   value = quotient-val f a b B b-small s small
 
   whole-like : Like 1 a b (grid f a b) (2 ^ low f)
-  whole-like c = let k = lt-of-le-of-lt (le-of-eq (mul-one a)) small in (below f a b c 0 B b-small (lit≤ tt) k, equal f a b c 0 B b-small (lit≤ tt) k, above f a b c 0 B b-small (lit≤ tt) k)
+  whole-like c = let k = lt-of-le-of-lt (le-of-eq (mul-one a)) small in
+      (below f a b c 0 B b-small (lit≤ tt) k, equal f a b c 0 B b-small (lit≤ tt) k, above f a b c 0 B b-small (lit≤ tt) k)
 
   half-like : a * 2 < 2 ^ prec f → Like 2 a b (grid f a b) (2 ^ low f)
-  half-like h c = (below f a b c 1 B b-small (lit≤ tt) h, equal f a b c 1 B b-small (lit≤ tt) h, above f a b c 1 B b-small (lit≤ tt) h)
+  half-like h c = (
+    below f a b c 1 B b-small (lit≤ tt) h,
+    equal f a b c 1 B b-small (lit≤ tt) h,
+    above f a b c 1 B b-small
+        (lit≤ tt) h,
+  )
 
   same-cut : grid f a b / 2 ^ low f ≡ a / b
   same-cut = same-floor a b (grid f a b) (2 ^ low f) B (pow-pos (low f)) whole-like
@@ -148,11 +161,13 @@ module _ (f : Format) (s : Bool) (a b : ℕ) (B : 0 < b) (b-small : b ≤ 2 ^ 10
   cut-exact h = signed-val h (round f s a b) s (grid f a b) (2 ^ low f) (pow-pos (low f)) value ∙ ap (cutSigned h s) same-cut
 
   pub unsigned-exact : (w : ℕ) → toUnsigned w (round f s a b) ≡ cond s 0 (min (a / b) (2 ^ w - 1))
-  unsigned-exact w = unsigned-val w (round f s a b) s (grid f a b) (2 ^ low f) (pow-pos (low f)) value ∙ ap (λ (q : ℕ). cond s 0 (min q (2 ^ w - 1))) same-cut
+  unsigned-exact w = unsigned-val w (round f s a b) s (grid f a b) (2 ^ low f) (pow-pos (low f)) value
+      ∙ ap (λ (q : ℕ). cond s 0 (min q (2 ^ w - 1))) same-cut
 
 -- ---- a float that is the whole number k, cut
 whole-unsigned : (f : Format) (s : Bool) (k : ℕ) → k < 2 ^ prec f → toUnsigned 64 (round f s k 1) ≡ cond s 0 k
-whole-unsigned f s k h = unsigned-exact f s k 1 (lit< tt) (lit≤ tt) h 64 ∙ ap (λ (n : ℕ). cond s 0 (min n (2 ^ 64 - 1))) (div-one k) ∙ ap (cond s 0) (go k (lt-of-lt-of-le h (pow-mono (fit f))))
+whole-unsigned f s k h = unsigned-exact f s k 1 (lit< tt) (lit≤ tt) h 64 ∙ ap (λ (n : ℕ). cond s 0 (min n (2 ^ 64 - 1)))
+    (div-one k) ∙ ap (cond s 0) (go k (lt-of-lt-of-le h (pow-mono (fit f))))
   where
     go : (k : ℕ) → k < 2 ^ 64 → min k (2 ^ 64 - 1) ≡ k
     go k r = omega arith
@@ -184,7 +199,8 @@ halfUp-le a b B = le-of-suc-le-suc (div-lt-iff-lt-mul (mul-pos (lit< tt) B) .1 (
 -- ---- floor and ceil as usize
 module _ (f : Format) (s : Bool) (a b : ℕ) (B : 0 < b) (b-small : b ≤ 2 ^ 100) (small : a < 2 ^ prec f) where
   pub floor-cut : toUnsigned 64 (floorF f (round f s a b)) ≡ cond s 0 (a / b)
-  floor-cut = ap (toUnsigned 64) (floor-exact f s a b B b-small small) ∙ whole-unsigned f s (cond s (upward a b) (a / b)) (lt-of-le-of-lt (most s) small) ∙ drop s
+  floor-cut = ap (toUnsigned 64) (floor-exact f s a b B b-small small) ∙ whole-unsigned f s (cond s (upward a b) (a / b))
+      (lt-of-le-of-lt (most s) small) ∙ drop s
     where
       most : (s : Bool) → cond s (upward a b) (a / b) ≤ a
       most true = upward-le a b B
@@ -195,7 +211,8 @@ module _ (f : Format) (s : Bool) (a b : ℕ) (B : 0 < b) (b-small : b ≤ 2 ^ 10
       drop false = refl
 
   pub ceil-cut : toUnsigned 64 (ceilF f (round f s a b)) ≡ cond s 0 (upward a b)
-  ceil-cut = ap (toUnsigned 64) (ceil-exact f s a b B b-small small) ∙ whole-unsigned f s (cond s (a / b) (upward a b)) (lt-of-le-of-lt (most s) small) ∙ drop s
+  ceil-cut = ap (toUnsigned 64) (ceil-exact f s a b B b-small small) ∙ whole-unsigned f s (cond s (a / b) (upward a b))
+      (lt-of-le-of-lt (most s) small) ∙ drop s
     where
       most : (s : Bool) → cond s (a / b) (upward a b) ≤ a
       most true = div-le-self a b
@@ -220,8 +237,10 @@ module _ (f : Format) (s : Bool) (a b : ℕ) (B : 0 < b) (b-small : b ≤ 2 ^ 10
     round-signed h l = ap (toSigned h) (round-half-exact f s a b B b-small small half) ∙ whole-signed f s (halfUp a b) h fewer l
 
 -- ---- signed numbers y * z / w
-module _ (f : Format) (y z w : ℤ) (Y : natAbs y ≤ 2 ^ prec f) (Z : natAbs z ≤ 2 ^ prec f) (small : natAbs y * natAbs z < 2 ^ prec f) (W : natAbs w ≤ 2 ^ prec f) (Wp : 0 < natAbs w) where
-  one-round : div f (mul f (ofInt f y) (ofInt f z)) (ofInt f w) ≡ round f (unlike (unlike (below-zero y) (below-zero z)) (below-zero w)) (natAbs y * natAbs z) (natAbs w)
+module _ (f : Format) (y z w : ℤ) (Y : natAbs y ≤ 2 ^ prec f) (Z : natAbs z ≤ 2 ^ prec f)
+    (small : natAbs y * natAbs z < 2 ^ prec f) (W : natAbs w ≤ 2 ^ prec f) (Wp : 0 < natAbs w) where
+  one-round : div f (mul f (ofInt f y) (ofInt f z)) (ofInt f w)
+      ≡ round f (unlike (unlike (below-zero y) (below-zero z)) (below-zero w)) (natAbs y * natAbs z) (natAbs w)
   one-round =
       ap (λ (x : Float). div f x (ofInt f w)) (mul-ints f y z Y Z)
       ∙ div-by-int f (unlike (below-zero y) (below-zero z)) (natAbs y * natAbs z) w (under small) W Wp
@@ -233,20 +252,28 @@ module _ (f : Format) (y z w : ℤ) (Y : natAbs y ≤ 2 ^ prec f) (Z : natAbs z 
   w-small = le-trans W (pow-mono (few f))
 
   -- the floor as usize, 0 below 0
-  pub scaled-floor : toUnsigned 64 (floorF f (div f (mul f (ofInt f y) (ofInt f z)) (ofInt f w))) ≡ cond (unlike (unlike (below-zero y) (below-zero z)) (below-zero w)) 0 (natAbs y * natAbs z / natAbs w)
-  scaled-floor = ap (λ (x : Float). toUnsigned 64 (floorF f x)) one-round ∙ floor-cut f (unlike (unlike (below-zero y) (below-zero z)) (below-zero w)) (natAbs y * natAbs z) (natAbs w) Wp w-small small
+  pub scaled-floor : toUnsigned 64 (floorF f (div f (mul f (ofInt f y) (ofInt f z)) (ofInt f w)))
+      ≡ cond (unlike (unlike (below-zero y) (below-zero z)) (below-zero w)) 0 (natAbs y * natAbs z / natAbs w)
+  scaled-floor = ap (λ (x : Float). toUnsigned 64 (floorF f x)) one-round
+      ∙ floor-cut f (unlike (unlike (below-zero y) (below-zero z)) (below-zero w)) (natAbs y * natAbs z) (natAbs w)
+      Wp w-small small
 
   -- the cut to a signed type of h digits
-  pub scaled-cut : (h : ℕ) → toSigned h (div f (mul f (ofInt f y) (ofInt f z)) (ofInt f w)) ≡ cutSigned h (unlike (unlike (below-zero y) (below-zero z)) (below-zero w)) (natAbs y * natAbs z / natAbs w)
-  scaled-cut h = ap (toSigned h) one-round ∙ cut-exact f (unlike (unlike (below-zero y) (below-zero z)) (below-zero w)) (natAbs y * natAbs z) (natAbs w) Wp w-small small h
+  pub scaled-cut : (h : ℕ) → toSigned h (div f (mul f (ofInt f y) (ofInt f z)) (ofInt f w))
+      ≡ cutSigned h (unlike (unlike (below-zero y) (below-zero z)) (below-zero w)) (natAbs y * natAbs z / natAbs w)
+  scaled-cut h = ap (toSigned h) one-round ∙ cut-exact f (unlike (unlike (below-zero y) (below-zero z)) (below-zero w))
+      (natAbs y * natAbs z) (natAbs w) Wp w-small small h
 
-pub cutQuotient-exact : (y z w : ℤ) → natAbs y ≤ 2 ^ 53 → natAbs z ≤ 2 ^ 53 → natAbs y * natAbs z < 2 ^ 53 → natAbs w ≤ 2 ^ 53 → 0 < natAbs w
-    → cutQuotient y z w ≡ cutSigned 31 (unlike (unlike (below-zero y) (below-zero z)) (below-zero w)) (natAbs y * natAbs z / natAbs w)
+pub cutQuotient-exact : (y z w : ℤ) → natAbs y ≤ 2 ^ 53 → natAbs z ≤ 2 ^ 53 → natAbs y * natAbs z < 2 ^ 53 → natAbs w ≤ 2 ^ 53
+    → 0 < natAbs w
+    → cutQuotient y z w ≡ cutSigned 31 (unlike (unlike (below-zero y) (below-zero z)) (below-zero w))
+    (natAbs y * natAbs z / natAbs w)
 unfolding cutQuotient
 cutQuotient-exact y z w Y Z small W Wp = scaled-cut binary64 y z w Y Z small W Wp 31
 
 -- ---- a signed y by a count d, rounded to the nearest and cut to a signed type
-pub ratio-round : (f : Format) (y : ℤ) (d h : ℕ) → natAbs y * 2 < 2 ^ prec f → 0 < d → d ≤ 2 ^ prec f → halfUp (natAbs y) d < 2 ^ h
+pub ratio-round : (f : Format) (y : ℤ) (d h : ℕ) → natAbs y * 2 < 2 ^ prec f → 0 < d → d ≤ 2 ^ prec f →
+    halfUp (natAbs y) d < 2 ^ h
     → toSigned h (roundF f (div f (ofInt f y) (ofInt f (pos d)))) ≡ withSign (below-zero y) (halfUp (natAbs y) d)
 ratio-round f y d h half D d-small l =
     let small : natAbs y < 2 ^ prec f = omega arith in
@@ -260,15 +287,19 @@ module _ (f : Format) (n d : ℕ) (small : n < 2 ^ prec f) (D : 0 < d) (d-small 
   one-ratio = div-ints f (pos n) (pos d) (omega arith) d-small D
 
   pub ratio-floor : toUnsigned 64 (floorF f (div f (ofInt f (pos n)) (ofInt f (pos d)))) ≡ n / d
-  ratio-floor = ap (λ (x : Float). toUnsigned 64 (floorF f x)) one-ratio ∙ floor-cut f false n d D (le-trans d-small (pow-mono (few f))) small
+  ratio-floor = ap (λ (x : Float). toUnsigned 64 (floorF f x)) one-ratio ∙ floor-cut f false n d D
+      (le-trans d-small (pow-mono (few f))) small
 
   pub ratio-ceil : toUnsigned 64 (ceilF f (div f (ofInt f (pos n)) (ofInt f (pos d)))) ≡ upward n d
-  ratio-ceil = ap (λ (x : Float). toUnsigned 64 (ceilF f x)) one-ratio ∙ ceil-cut f false n d D (le-trans d-small (pow-mono (few f))) small
+  ratio-ceil = ap (λ (x : Float). toUnsigned 64 (ceilF f x)) one-ratio ∙ ceil-cut f false n d D
+      (le-trans d-small (pow-mono (few f))) small
 
   pub ratio-half : n * 2 < 2 ^ prec f → toUnsigned 64 (roundF f (div f (ofInt f (pos n)) (ofInt f (pos d)))) ≡ halfUp n d
-  ratio-half h = ap (λ (x : Float). toUnsigned 64 (roundF f x)) one-ratio ∙ round-cut f false n d D (le-trans d-small (pow-mono (few f))) small h
+  ratio-half h = ap (λ (x : Float). toUnsigned 64 (roundF f x)) one-ratio ∙ round-cut f false n d D
+      (le-trans d-small (pow-mono (few f))) small h
 
 -- by 0 the quotient is an infinity, and its cast the largest number
-pub ceil-by-zero : (f : Format) (n : ℕ) → 0 < n → n ≤ 2 ^ prec f → toUnsigned 64 (ceilF f (div f (ofInt f (pos n)) (ofInt f (pos 0)))) ≡ 2 ^ 64 - 1
+pub ceil-by-zero : (f : Format) (n : ℕ) → 0 < n → n ≤ 2 ^ prec f →
+    toUnsigned 64 (ceilF f (div f (ofInt f (pos n)) (ofInt f (pos 0)))) ≡ 2 ^ 64 - 1
 unfolding ceilF toUnsigned
 ceil-by-zero f n N h = ap (λ (x : Float). toUnsigned 64 (ceilF f x)) (div-zero f (pos n) N h)

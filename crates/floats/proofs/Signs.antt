@@ -42,7 +42,8 @@ minus-fits n h = fits (negℤ (pos n)) 0 n (omega (arith, neg-up (pos n), neg-dn
 
 -- -1 - n
 pub one-more : (n : ℕ) → n < 2 ^ 63 → negsuc 0 -ℤ toZ w64 n ≡ negℤ (pos (suc n))
-one-more n h = ap (λ (z : ℤ). negsuc 0 -ℤ z) (read-count n h) ∙ same (negsuc 0 -ℤ pos n) (negsuc n) (omega (arith, sub (negsuc 0) (pos n)))
+one-more n h = ap (λ (z : ℤ). negsuc 0 -ℤ z) (read-count n h) ∙ same (negsuc 0 -ℤ pos n) (negsuc n)
+    (omega (arith, sub (negsuc 0) (pos n)))
 
 -- ---- a number below 0 as a float is the float of its distance, negated
 neg-odd : (d q k l : ℕ) → neg (odd d false q k l) ≡ odd d true q k l
@@ -54,12 +55,14 @@ neg-units : (f : Format) (q k : ℕ) → neg (units f false q k) ≡ units f tru
 unfolding neg units
 neg-units f q k = go (ltb (q * 2 ^ k) (2 ^ (low f + suc (emax f))))
   where
-    go : (b : Bool) → neg (cond b (odd (suc (prec f)) false q k (low f)) (inf false)) ≡ cond b (odd (suc (prec f)) true q k (low f)) (inf true)
+    go : (b : Bool) → neg (cond b (odd (suc (prec f)) false q k (low f)) (inf false))
+        ≡ cond b (odd (suc (prec f)) true q k (low f)) (inf true)
     go true = neg-odd (suc (prec f)) q k (low f)
     go false = refl
 
 neg-round : (f : Format) (a b : ℕ) → neg (round f false a b) ≡ round f true a b
-neg-round f a b = ap neg (round-is f false a b) ∙ neg-units f (kept (prec f) (a * 2 ^ low f) b) (drop (prec f) (a * 2 ^ low f) b) ∙ sym (round-is f true a b)
+neg-round f a b = ap neg (round-is f false a b) ∙ neg-units f (kept (prec f) (a * 2 ^ low f) b)
+    (drop (prec f) (a * 2 ^ low f) b) ∙ sym (round-is f true a b)
 
 pub below-float : (f : Format) (x : ℤ) → ltZ x (pos 0) ≡ true → neg (ofInt f (pos (natAbs x))) ≡ ofInt f x
 unfolding ofInt

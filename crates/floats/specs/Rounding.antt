@@ -45,4 +45,5 @@ roundF f (fin s m e) = round f s (halfUp (m * up e) (down e)) 1
 
 -- (width as f64 * offset as f64 / total as f64) as i32: both operations round, and the quotient is cut toward zero
 unfoldable pub cutQuotient : ℤ → ℤ → ℤ → ℤ
-cutQuotient width offset total = toSigned 31 (div binary64 (mul binary64 (ofInt binary64 width) (ofInt binary64 offset)) (ofInt binary64 total))
+cutQuotient width offset total =
+    toSigned 31 (div binary64 (mul binary64 (ofInt binary64 width) (ofInt binary64 offset)) (ofInt binary64 total))

@@ -10,8 +10,10 @@ use lib.ListN.{length, getD, set, drop, length-append}
 use lib.Seq.{drop-cons, set-at, append-snoc}
 
 module _ {A : Type 0} where
-  pub push : (p d : List A) (k : ℕ) (v : A) → length p ≡ k → k < length d → set (p ++ drop k d) k v ≡ (p ++ (v ∷ [])) ++ drop (k + 1) d
-  push p d k v e h = rw (add-one k, drop-cons d k v h) (set-at p (getD d k v) (drop (suc k) d) v k e ∙ sym (append-snoc p v (drop (suc k) d)))
+  pub push : (p d : List A) (k : ℕ) (v : A) → length p ≡ k → k < length d → set (p ++ drop k d) k v ≡ (p ++ (v ∷ []))
+      ++ drop (k + 1) d
+  push p d k v e h = rw (add-one k, drop-cons d k v h) (set-at p (getD d k v) (drop (suc k) d) v k e
+      ∙ sym (append-snoc p v (drop (suc k) d)))
 
   pub length-push : (p : List A) (k : ℕ) (v : A) → length p ≡ k → length (p ++ (v ∷ [])) ≡ k + 1
   length-push p k v e = simp length-append (omega arith)
@@ -19,4 +21,9 @@ module _ {A : Type 0} where
   -- a pair: two stores
   pub push-two : (l p d : List A) (k : ℕ) (v w : A) → l ≡ p ++ drop k d → length p ≡ k → k + 1 < length d
       → set (set l k v) (k + 1) w ≡ ((p ++ (v ∷ [])) ++ (w ∷ [])) ++ drop (k + 2) d
-  push-two l p d k v w q e h = rw (q, push p d k v e (omega arith), push (p ++ (v ∷ [])) d (k + 1) w (length-push p k v e) h, add-assoc)
+  push-two l p d k v w q e h = rw (
+    q,
+    push p d k v e (omega arith),
+    push (p ++ (v ∷ [])) d (k + 1) w (length-push p k v e) h,
+    add-assoc,
+  )

@@ -55,7 +55,8 @@ is-ge (negsuc a) (pos b) h = absurd (let z : ⊥ = omega arith in z)
 is-ge (negsuc a) (negsuc b) h = le-ltb b a (omega arith)
 
 -- ---- operations
-sub-nat : (a b : ℕ) (t : Bool) → ltb a b ≡ t → (up (cond t (negsuc (b - suc a)) (pos (a - b))) + b ≡ a + dn (cond t (negsuc (b - suc a)) (pos (a - b))))
+sub-nat : (a b : ℕ) (t : Bool) → ltb a b ≡ t →
+    (up (cond t (negsuc (b - suc a)) (pos (a - b))) + b ≡ a + dn (cond t (negsuc (b - suc a)) (pos (a - b))))
 sub-nat a b true e = omega (arith, ltb-true a b e)
 sub-nat a b false e = omega (arith, ltb-false a b e)
 
@@ -135,7 +136,8 @@ same (negsuc a) (negsuc b) e = ap negsuc (omega arith)
 -- a quotient by a positive number lies in the range, and so does a remainder
 pub quot-fits : (x d : ℤ) → SFits w64 x → ltZ d (pos 1) ≡ false → SFits w64 (quotZ x d)
 quot-fits x (pos k) f e =
-    fits (quotZ x (pos k)) (up x / k) (dn x / k) (ap (λ (n : ℕ). n + dn x / k) (quot-up x k) ∙ ap (λ (n : ℕ). up x / k + n) (sym (quot-dn x k)))
+    fits (quotZ x (pos k)) (up x / k) (dn x / k) (ap (λ (n : ℕ). n + dn x / k) (quot-up x k) ∙ ap (λ (n : ℕ). up x / k + n)
+    (sym (quot-dn x k)))
     (omega (arith, up-fits x f, div-le-self (up x) k)) (omega (arith, dn-fits x f, div-le-self (dn x) k))
 quot-fits x (negsuc k) f e = let z : _≡_ {A = ℕ} 0 1 = cc in absurd (let w : ⊥ = omega arith in w)
 
@@ -159,7 +161,8 @@ count-fits n h = record { sfits = h }
 pub read-count : (n : ℕ) → n < 2 ^ 63 → toZ w64 n ≡ pos n
 read-count n h = toZ-pos w64 n h
 
--- A signed local is read back from its bits: the same number. By their bare names in `omega`'s list these serve every local whose `SFits` is in reach
+-- A signed local is read back from its bits: the same number. By their bare names in `omega`'s list these serve every
+-- local whose `SFits` is in reach
 pub read-up : {z : ℤ} → SFits w64 z → up (toZ w64 (ofZ w64 z)) ≡ up z
 read-up f = ap up (toZ-ofZ f)
 
@@ -167,7 +170,8 @@ pub read-dn : {z : ℤ} → SFits w64 z → dn (toZ w64 (ofZ w64 z)) ≡ dn z
 read-dn f = ap dn (toZ-ofZ f)
 
 -- a difference of two numbers, as the code reads it back
-pub read-sub : (x y : ℤ) → SFits w64 x → SFits w64 y → SFits w64 (x -ℤ y) → toZ w64 (ofZ w64 (toZ w64 (ofZ w64 x) -ℤ toZ w64 (ofZ w64 y))) ≡ x -ℤ y
+pub read-sub : (x y : ℤ) → SFits w64 x → SFits w64 y → SFits w64 (x -ℤ y) →
+    toZ w64 (ofZ w64 (toZ w64 (ofZ w64 x) -ℤ toZ w64 (ofZ w64 y))) ≡ x -ℤ y
 read-sub x y f g h = rw (toZ-ofZ f, toZ-ofZ g) (toZ-ofZ h)
 
 pub ruleset signed = (lt-true, lt-false, le-true, le-false, read-up, read-dn, arith)

@@ -25,7 +25,8 @@ module _ (a : Axis) (l : Limits) (v : Value) where
   pub refused : (q : ℕ) → q ≡ firstNo (valueQuestions a l v) → (q ≡ 0 → ⊥) → Refused q ≡ mapped a l v
   unfolding mapped
   refused q e h =
-      let n : firstNo (mapQuestions a l v) ≡ q = ap (λ (k : ℕ). next k 10 (fitsI32 (placed a l v))) (sym e) ∙ stays q 10 (fitsI32 (placed a l v)) h in
+      let n : firstNo (mapQuestions a l v) ≡ q = ap (λ (k : ℕ). next k 10 (fitsI32 (placed a l v))) (sym e)
+      ∙ stays q 10 (fitsI32 (placed a l v)) h in
       sym (ap (λ (k : ℕ). pixelAnswer k (placed a l v)) n ∙ answer-no q (placed a l v) h)
 
   -- only question 10 is left

@@ -35,17 +35,29 @@ no-duration : (k : ℤ) → within (pos 1) k (pos 3) ≡ true → isDuration k �
 no-duration k e = ap (λ (b : Bool). b && leZ k (pos 7)) (is-gt (pos 7) k (omega (arith, within-true (pos 1) k (pos 3) e .1)))
 
 -- ---- differences in whole days
-days-between : (k h s : ℤ) (n : ℕ) → isDuration k ≡ false → up h + dn s ≡ n + (up s + dn h) → difference k (day s) (day h) ≡ pos (n * 86400000000000)
+days-between : (k h s : ℤ) (n : ℕ) → isDuration k ≡ false → up h + dn s ≡ n + (up s + dn h) → difference k (day s) (day h)
+    ≡ pos (n * 86400000000000)
 unfolding difference nanoseconds
 days-between k h s n e d =
     rw e (same ((h *ℤ pos 86400000000000 +ℤ pos 0) -ℤ (s *ℤ pos 86400000000000 +ℤ pos 0)) (pos (n * 86400000000000))
-    (omega (arith, sub (h *ℤ pos 86400000000000 +ℤ pos 0) (s *ℤ pos 86400000000000 +ℤ pos 0), add (h *ℤ pos 86400000000000) (pos 0), add (s *ℤ pos 86400000000000) (pos 0), mul-up h 86400000000000, mul-dn h 86400000000000, mul-up s 86400000000000, mul-dn s 86400000000000)))
+    (omega (
+      arith,
+      sub (h *ℤ pos 86400000000000 +ℤ pos 0) (s *ℤ pos 86400000000000 +ℤ pos 0),
+      add (h *ℤ pos 86400000000000)
+          (pos 0),
+      add (s *ℤ pos 86400000000000) (pos 0),
+      mul-up h 86400000000000,
+      mul-dn h 86400000000000,
+      mul-up s 86400000000000,
+      mul-dn s 86400000000000,
+    )))
 
 small-fits : (n : ℕ) → n ≤ 65534 → fitsI64 (pos (n * 86400000000000)) ≡ true
 small-fits n h = fits-yes (pos (n * 86400000000000)) (omega arith) (omega arith)
 
 -- the pixel of a day, in nanoseconds
-day-placed : (a : Axis) (l : Limits) (v : Value) (o d : ℕ) → isDuration (a .kind) ≡ false → offsetOf a v ≡ pos (o * 86400000000000) → spanOf a ≡ pos (d * 86400000000000) → o ≤ 65534 → d ≤ 65534
+day-placed : (a : Axis) (l : Limits) (v : Value) (o d : ℕ) → isDuration (a .kind) ≡ false →
+    offsetOf a v ≡ pos (o * 86400000000000) → spanOf a ≡ pos (d * 86400000000000) → o ≤ 65534 → d ≤ 65534
     → placed a l v ≡ l .low +ℤ cutQuotient (l .high -ℤ l .low) (pos (o * 86400000000000)) (pos (d * 86400000000000))
 unfolding placed mapCoord positionOf scaleOf nanosecondsOf cutQuotient
 day-placed a l v o d e f g O D = rw (f, g, e, small-fits o O, small-fits d D)
@@ -55,7 +67,8 @@ never-less : (x y : ℤ) → x <ℤ y → x ≡ y → ⊥
 never-less x y l e = let k : ltZ x x ≡ true = rw (← e) at (holds (ltZ x y) (l .lt)) in omega (arith, lt-true x x k)
 
 moves : (w : ℤ) (o r d : ℕ) → o < r → r ≤ d → d < natAbs w → natAbs w ≤ 65534
-    → cutQuotient w (pos (o * 86400000000000)) (pos (d * 86400000000000)) ≡ cutQuotient w (pos (r * 86400000000000)) (pos (d * 86400000000000)) → ⊥
+    → cutQuotient w (pos (o * 86400000000000)) (pos (d * 86400000000000)) ≡ cutQuotient w (pos (r * 86400000000000))
+    (pos (d * 86400000000000)) → ⊥
 moves (pos w) o r d a b c m e = never-less _ _ (pixels-grow w o r d (omega arith) a b c m) e
 moves (negsuc w) o r d a b c m e = never-less _ _ (pixels-fall (suc w) o r d (omega arith) a b c m) (sym e)
 
@@ -71,7 +84,8 @@ module _ (a : Axis) (l : Limits) (w : MorePixels a l) (dates : within (pos 1) (a
   width-few : natAbs (l .high -ℤ l .low) ≤ 65534
   width-few = let (low, high) = limits-are l page in between-few (l .high) (l .low) high low
 
-  later : (i j p q : ℤ) → DayOf a i → DayOf a j → dn i ≡ 0 → dn j ≡ 0 → up i < up j → placed a l (day i) ≡ p → placed a l (day j) ≡ q → p ≡ q → ⊥
+  later : (i j p q : ℤ) → DayOf a i → DayOf a j → dn i ≡ 0 → dn j ≡ 0 → up i < up j → placed a l (day i) ≡ p →
+      placed a l (day j) ≡ q → p ≡ q → ⊥
   unfolding offsetOf spanOf
   later i j p q I J zi zj less ep eq e =
       let s = a .«start_head» in
@@ -80,10 +94,14 @@ module _ (a : Axis) (l : Limits) (w : MorePixels a l) (dates : within (pos 1) (a
       let y = within-true s j t (J .inside) in
       let d = up t - up s in
       let no = no-duration (a .kind) dates in
-      let D : d < natAbs (l .high -ℤ l .low) = omega (arith, size-of (t -ℤ s) (up t) (up s) (omega (arith, sub t s)) (omega arith)) in
-      let f : offsetOf a (day i) ≡ pos ((up i - up s) * 86400000000000) = rw (first .no-tail) (days-between (a .kind) i s (up i - up s) no (omega arith)) in
-      let g : offsetOf a (day j) ≡ pos ((up j - up s) * 86400000000000) = rw (first .no-tail) (days-between (a .kind) j s (up j - up s) no (omega arith)) in
-      let h : spanOf a ≡ pos (d * 86400000000000) = rw (first .no-tail, last .no-tail) (days-between (a .kind) t s d no (omega arith)) in
+      let D : d < natAbs (l .high -ℤ l .low) =
+      omega (arith, size-of (t -ℤ s) (up t) (up s) (omega (arith, sub t s)) (omega arith)) in
+      let f : offsetOf a (day i) ≡ pos ((up i - up s) * 86400000000000) =
+      rw (first .no-tail) (days-between (a .kind) i s (up i - up s) no (omega arith)) in
+      let g : offsetOf a (day j) ≡ pos ((up j - up s) * 86400000000000) =
+      rw (first .no-tail) (days-between (a .kind) j s (up j - up s) no (omega arith)) in
+      let h : spanOf a ≡ pos (d * 86400000000000) =
+      rw (first .no-tail, last .no-tail) (days-between (a .kind) t s d no (omega arith)) in
       let u = day-placed a l (day i) (up i - up s) d no f h (omega (arith, width-few)) (omega (arith, width-few)) in
       let v = day-placed a l (day j) (up j - up s) d no g h (omega (arith, width-few)) (omega (arith, width-few)) in
       moves (l .high -ℤ l .low) (up i - up s) (up j - up s) d (omega arith) (omega arith) D width-few

@@ -19,13 +19,16 @@ module _ (d : ℤ) (n : Nanoseconds) (e : n ≡ nanosecondsOf d) (s : Scale) whe
   unfolding mapCoord
   coord-near f =
       ap (λ (z : ℤ). s .low +ℤ cut (positionOf (s .width) z (s .total))) (answer-value d n e (both-true (s .fits) (n .fits) f .1))
-      ∙ sym (ap (λ (b : Bool). cond b (s .low +ℤ cut (positionOf (s .width) d (s .total))) (s .low +ℤ cut (positionOf (s .width) (wholeDays d) (s .days)))) (both ∙ f))
+      ∙ sym (ap (λ (b : Bool). cond b (s .low +ℤ cut (positionOf (s .width) d (s .total)))
+      (s .low +ℤ cut (positionOf (s .width) (wholeDays d) (s .days)))) (both ∙ f))
 
   pub coord-far : s .fits && n .fits ≡ false → s .low +ℤ cut (positionOf (s .width) (wholeDays d) (s .days)) ≡ mapCoord s d
   unfolding mapCoord
-  coord-far f = sym (ap (λ (b : Bool). cond b (s .low +ℤ cut (positionOf (s .width) d (s .total))) (s .low +ℤ cut (positionOf (s .width) (wholeDays d) (s .days)))) (both ∙ f))
+  coord-far f = sym (ap (λ (b : Bool). cond b (s .low +ℤ cut (positionOf (s .width) d (s .total)))
+      (s .low +ℤ cut (positionOf (s .width) (wholeDays d) (s .days)))) (both ∙ f))
 
-  pub duration-near : s .fits ≡ true → n .fits ≡ true → s .low +ℤ cut (add binary64 (positionOf (s .width) (n .value) (s .total)) nudge) ≡ mapDuration s d
+  pub duration-near : s .fits ≡ true → n .fits ≡ true →
+      s .low +ℤ cut (add binary64 (positionOf (s .width) (n .value) (s .total)) nudge) ≡ mapDuration s d
   unfolding mapDuration
   duration-near f g = simp (f, sym (answer-fits d n e) ∙ g, answer-value d n e g)
 
@@ -33,6 +36,7 @@ module _ (d : ℤ) (n : Nanoseconds) (e : n ≡ nanosecondsOf d) (s : Scale) whe
   unfolding mapDuration
   duration-high f g = simp (f, sym (answer-fits d n e) ∙ g)
 
-pub duration-far : (s : Scale) (d : ℤ) → s .fits ≡ false → s .low +ℤ cut (add binary64 (positionOf (s .width) (wholeDays d) (s .days)) nudge) ≡ mapDuration s d
+pub duration-far : (s : Scale) (d : ℤ) → s .fits ≡ false →
+    s .low +ℤ cut (add binary64 (positionOf (s .width) (wholeDays d) (s .days)) nudge) ≡ mapDuration s d
 unfolding mapDuration
 duration-far s d f = simp f

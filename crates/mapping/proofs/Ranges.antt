@@ -40,4 +40,5 @@ dn-32 (negsuc n) f = omega (arith, f .sfits)
 pub sum-fits : (low z : ℤ) → isPixel low ≡ true → SFits w32 z → SFits w64 (low +ℤ z)
 sum-fits low z e f =
     let (a, b) = pixel-range low e in
-    fits (low +ℤ z) (up low + up z) (dn low + dn z) (omega (arith, add low z)) (omega (arith, up-32 z f)) (omega (arith, dn-32 z f))
+    fits (low +ℤ z) (up low + up z) (dn low + dn z) (omega (arith, add low z)) (omega (arith, up-32 z f))
+    (omega (arith, dn-32 z f))

@@ -2,7 +2,8 @@
 use mathlib.Core.Path.{_≡_, refl, sym, _∙_}
 use mathlib.Core.Bool.{false}
 use Prim.Native.Nat.{ℕ, zero, suc, _*_, _/_, _%_, _^_, _≤_, _<_}
-use native.Mathlib.Nat.{div-add-mod', mod-lt, mul-assoc, mul-pos, mul-one, pow-zero, pow-suc, one-le-pow, pow-le-pow-right, mul-le-mul-left, mul-le-mul-right, zero-mod, zero-div}
+use native.Mathlib.Nat.{div-add-mod', mod-lt, mul-assoc, mul-pos, mul-one, pow-zero, pow-suc, one-le-pow}
+use native.Mathlib.Nat.{pow-le-pow-right, mul-le-mul-left, mul-le-mul-right, zero-mod, zero-div}
 use native.Mathlib.Omega.{arith}
 use lib.Dec.{leb}
 use lib.Ieee.Nearest.{div-mono}
@@ -100,4 +101,6 @@ module _ {span n : ℕ} {l : Ladder} (c : Climbable span n l) where
       next-fits k =
           let size = length (l .counts) in
           let up : suc i ≤ placeOf span n l = rw (place-is span n l) at (come-before onward) in
-          rw (climb-next k .units) (mul-le-mul-left (l .unit) (pow-le-pow-right (c .base) (div-mono (suc i) size (placeOf span n l) size (c .some) (c .some) (mul-le-mul-right size up))))
+          rw (climb-next k .units)
+          (mul-le-mul-left (l .unit) (pow-le-pow-right (c .base) (div-mono (suc i) size (placeOf span n l) size (c .some)
+          (c .some) (mul-le-mul-right size up))))

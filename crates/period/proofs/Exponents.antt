@@ -3,7 +3,8 @@ use mathlib.Core.Path.{_≡_, refl}
 use mathlib.Core.Bool.{Bool, true, false, cond}
 use mathlib.Core.Logic.{_⊎_, inl, inr}
 use Prim.Native.Nat.{ℕ, zero, suc, _-_, _*_, _/_, _^_, _≤_, _<_, zero-le, suc-le-suc}
-use native.Mathlib.Nat.{le-refl, le-of-suc-le-suc, lt-of-lt-of-le, lt-of-not-le, not-le-of-lt, mul-le-mul-right, pow-le-pow-right, le-div-iff-mul-le, div-lt-iff-lt-mul}
+use native.Mathlib.Nat.{le-refl, le-of-suc-le-suc, lt-of-lt-of-le, lt-of-not-le, not-le-of-lt, mul-le-mul-right}
+use native.Mathlib.Nat.{pow-le-pow-right, le-div-iff-mul-le, div-lt-iff-lt-mul}
 use native.Mathlib.Omega.{arith}
 use lib.Dec.{leb, lit<}
 use borrow.Author.Tests.{le-leb, lt-leb, leb-false}
@@ -42,14 +43,17 @@ largest : (span n k : ℕ) → Largest span n k (exponentUpTo k span n)
 largest span n zero = rw (at-none span n) (zero-le, inl refl)
 largest span n (suc k) = rw (at-test span n k) (go (leb (10 ^ suc k * n) span) refl (largest span n k))
   where
-    go : (b : Bool) → leb (10 ^ suc k * n) span ≡ b → Largest span n k (exponentUpTo k span n) → Largest span n (suc k) (cond b (suc k) (exponentUpTo k span n))
+    go : (b : Bool) → leb (10 ^ suc k * n) span ≡ b → Largest span n k (exponentUpTo k span n) →
+        Largest span n (suc k) (cond b (suc k) (exponentUpTo k span n))
     go true t h = (le-refl (suc k), inl refl)
     go false t h = (omega (arith, h .0), inr (elim (h .1) [ inl q ↦ rw q (leb-false (10 ^ suc k * n) span t) | inr l ↦ l ]))
 
 -- where the power is below 10 ^ (m + 1), its exponent is m at most, and the next power is too large
-pub below : (span n m : ℕ) → m < 18 → 10 ^ exponentOf span n < 10 ^ suc m → (exponentOf span n ≤ m) × (span < 10 ^ suc (exponentOf span n) * n)
+pub below : (span n m : ℕ) → m < 18 → 10 ^ exponentOf span n < 10 ^ suc m → (exponentOf span n ≤ m)
+    × (span < 10 ^ suc (exponentOf span n) * n)
 below span n m h p =
-    let low : exponentOf span n ≤ m = le-of-suc-le-suc (lt-of-not-le (λ (g : suc m ≤ exponentOf span n). not-le-of-lt p (pow-le-pow-right (lit< tt) g))) in
+    let low : exponentOf span n ≤ m =
+    le-of-suc-le-suc (lt-of-not-le (λ (g : suc m ≤ exponentOf span n). not-le-of-lt p (pow-le-pow-right (lit< tt) g))) in
     let most = rw (from-top span n) at (largest span n 18) in
     (low, elim (most .1) [ inl q ↦ absurd (let z : ⊥ = omega arith in z) | inr l ↦ l ])
 

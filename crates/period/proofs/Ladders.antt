@@ -3,7 +3,8 @@ use mathlib.Core.Path.{_≡_, refl}
 use mathlib.Core.Bool.{Bool, true, false, cond, _&&_}
 use mathlib.Core.List.{List, [], _∷_}
 use Prim.Native.Nat.{ℕ, zero, suc, _*_, _/_, _^_, _≤_, _<_, zero-le, suc-le-suc}
-use native.Mathlib.Nat.{le-trans, le-refl, le-of-suc-le-suc, lt-of-lt-of-le, lt-of-le-of-lt, div-lt-iff-lt-mul, one-le-pow, pow-suc}
+use native.Mathlib.Nat.{le-trans, le-refl, le-of-suc-le-suc, lt-of-lt-of-le, lt-of-le-of-lt, div-lt-iff-lt-mul}
+use native.Mathlib.Nat.{one-le-pow, pow-suc}
 use native.Mathlib.Omega.{arith}
 use lib.Dec.{T, leb, ltb, leb→le, le→leb, ltb→lt, lit<, lit≤}
 use lib.Ieee.Fits.{and-l, and-r}
@@ -32,15 +33,27 @@ module _ (p : ℕ) where
 
   pub is-days : day ≤ p → p < tenDays → ladderOf p ≡ days
   unfolding ladderOf
-  is-days l h = rw (le-ltb p second (le-trans (lit≤ tt) l), le-ltb p hour (le-trans (lit≤ tt) l), le-ltb p day l, lt-ltb p tenDays h) refl
+  is-days l h = rw (
+    le-ltb p second (le-trans (lit≤ tt) l),
+    le-ltb p hour (le-trans (lit≤ tt) l),
+    le-ltb p day l,
+    lt-ltb p tenDays h,
+  ) refl
 
   pub is-longest : tenDays ≤ p → ladderOf p ≡ decimal tenDays
   unfolding ladderOf
-  is-longest l = rw (le-ltb p second (le-trans (lit≤ tt) l), le-ltb p hour (le-trans (lit≤ tt) l), le-ltb p day (le-trans (lit≤ tt) l), le-ltb p tenDays l) refl
+  is-longest l = rw (
+    le-ltb p second (le-trans (lit≤ tt) l),
+    le-ltb p hour (le-trans (lit≤ tt) l),
+    le-ltb p day (le-trans (lit≤ tt) l),
+    le-ltb p tenDays l,
+  ) refl
 
-  by-cases : (P : Ladder → Type 0) → (p < second → P (decimal p)) → (p < hour → P seconds) → (p < day → P hours) → (p < tenDays → P days) → P (decimal tenDays) → P (ladderOf p)
+  by-cases : (P : Ladder → Type 0) → (p < second → P (decimal p)) → (p < hour → P seconds) → (p < day → P hours) →
+      (p < tenDays → P days) → P (decimal tenDays) → P (ladderOf p)
   unfolding ladderOf
-  by-cases P a b c d e = go (ltb p second) (ltb p hour) (ltb p day) (ltb p tenDays) (ltb-true p second) (ltb-true p hour) (ltb-true p day) (ltb-true p tenDays)
+  by-cases P a b c d e = go (ltb p second) (ltb p hour) (ltb p day) (ltb p tenDays) (ltb-true p second) (ltb-true p hour)
+      (ltb-true p day) (ltb-true p tenDays)
     where
       go : (t u v w : Bool) → (t ≡ true → p < second) → (u ≡ true → p < hour) → (v ≡ true → p < day) → (w ≡ true → p < tenDays)
           → P (cond t (decimal p) (cond u seconds (cond v hours (cond w days (decimal tenDays)))))
@@ -67,16 +80,21 @@ pub record Ends (span n : ℕ) (l : Ladder) (top : ℕ) : Type 0 where
   pub climbable : Climbable span n l
   pub most : firstWide span n l ≤ top
 
-module _ (span n : ℕ) (l : Ladder) (m top : ℕ) (hint : n ≤ 4096) (unit : 0 < l .unit) (base : 0 < l .base) (some : 0 < length (l .counts)) (counts : T (small (l .counts)))
-    (m-le : m ≤ 16) (top-fits : top < 2 ^ 63) (steps : T (all (within l top) (suc m))) (reached : span < suc (n * countAt l m) * unitAt l m) where
+module _ (span n : ℕ) (l : Ladder) (m top : ℕ) (hint : n ≤ 4096) (unit : 0 < l .unit) (base : 0 < l .base)
+    (some : 0 < length (l .counts)) (counts : T (small (l .counts)))
+    (m-le : m ≤ 16) (top-fits : top < 2 ^ 63) (steps : T (all (within l top) (suc m)))
+    (reached : span < suc (n * countAt l m) * unitAt l m) where
   step-above : (i : ℕ) → i ≤ m → 0 < stepAt l i
-  step-above i h = ltb→lt 0 (stepAt l i) (and-l (ltb 0 (stepAt l i)) (leb (stepAt l i) top) (at (within l top) (suc m) steps i (suc-le-suc h)))
+  step-above i h = ltb→lt 0 (stepAt l i) (and-l (ltb 0 (stepAt l i)) (leb (stepAt l i) top)
+      (at (within l top) (suc m) steps i (suc-le-suc h)))
 
   step-most : (i : ℕ) → i ≤ m → stepAt l i ≤ top
-  step-most i h = leb→le (stepAt l i) top (and-r (ltb 0 (stepAt l i)) (leb (stepAt l i) top) (at (within l top) (suc m) steps i (suc-le-suc h)))
+  step-most i h = leb→le (stepAt l i) top (and-r (ltb 0 (stepAt l i)) (leb (stepAt l i) top)
+      (at (within l top) (suc m) steps i (suc-le-suc h)))
 
   wide-at-m : T (wide span n l m)
-  wide-at-m = le→leb (span / unitAt l m) (n * countAt l m) (le-of-suc-le-suc (div-lt-iff-lt-mul (factor (countAt l m) (unitAt l m) (step-above m (le-refl m))) .1 reached))
+  wide-at-m = le→leb (span / unitAt l m) (n * countAt l m)
+      (le-of-suc-le-suc (div-lt-iff-lt-mul (factor (countAt l m) (unitAt l m) (step-above m (le-refl m))) .1 reached))
     where
       factor : (k u : ℕ) → 0 < k * u → 0 < u
       factor k zero h = absurd (let z : ⊥ = omega arith in z)
@@ -106,7 +124,8 @@ module _ (span n : ℕ) (l : Ladder) (m top : ℕ) (hint : n ≤ 4096) (unit : 0
 -- ---- the five, each with a step that is wide enough for every span that chooses it
 module _ (span n : ℕ) (hint : n ≤ 4096) (top : ℕ) (high : 50000 * day ≤ top) (top-fits : top < 2 ^ 63) where
   -- a ladder whose steps are 50,000 days at most
-  bounded : (l : Ladder) (m : ℕ) → 0 < l .unit → 0 < l .base → 0 < length (l .counts) → T (small (l .counts)) → m ≤ 16 → T (all (within l (50000 * day)) (suc m))
+  bounded : (l : Ladder) (m : ℕ) → 0 < l .unit → 0 < l .base → 0 < length (l .counts) → T (small (l .counts)) → m ≤ 16 →
+      T (all (within l (50000 * day)) (suc m))
       → span < suc (n * countAt l m) * unitAt l m → Ends span n l top
   bounded l m u b s c h t r =
       let e = ends span n l m (50000 * day) hint u b s c h (lit< tt) t r in
@@ -117,7 +136,8 @@ module _ (span n : ℕ) (hint : n ≤ 4096) (top : ℕ) (high : 50000 * day ≤ 
     unfolding all
     decimal-ends h =
         let (low, next) = below span n 8 (lit< tt) (rw is at h) in
-        rw is (bounded (decimal (10 ^ exponentOf span n)) 3 (one-le-pow (exponentOf span n) 10 (lit< tt)) (lit< tt) (lit< tt) tt (lit≤ tt)
+        rw is (bounded (decimal (10 ^ exponentOf span n)) 3 (one-le-pow (exponentOf span n) 10 (lit< tt)) (lit< tt) (lit< tt)
+        tt (lit≤ tt)
         (at (λ (e : ℕ). all (within (decimal (10 ^ e)) (50000 * day)) 4) 9 tt (exponentOf span n) (suc-le-suc low))
         (lt-of-lt-of-le next (rw (pow-suc 10 (exponentOf span n)) (wider (10 ^ exponentOf span n)))))
       where

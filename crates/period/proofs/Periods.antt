@@ -32,7 +32,8 @@ module _ (span n : ℕ) (s : Bool) (p : ℕ) (is : p ≡ powerOf span n) where
   unfolding periodOf testedOf
   answers-none e = let t = rw is at e in (rw t refl, rw t refl)
 
-  pub answers : noPeriod p s ≡ false → (l : Ladder) → ladderOf p ≡ l → Answers span n s (firstWide span n l) (placeOf span n l + 1)
+  pub answers : noPeriod p s ≡ false → (l : Ladder) → ladderOf p ≡ l → Answers span n s (firstWide span n l)
+      (placeOf span n l + 1)
   unfolding periodOf testedOf
   answers e l q = let t = rw is at e in let k = rw is at q in (rw (t, k) refl, rw (t, k) refl)
 
@@ -50,7 +51,8 @@ in-steps {span} {n} {l} c =
 
 -- ---- the laws
 module _ (span n : ℕ) (s : Bool) where
-  none-or : (P : ℕ → Type 0) → (noPeriod (powerOf span n) s ≡ true → P 0) → P (firstWide span n (ladderOf (powerOf span n))) → P (periodOf span n s)
+  none-or : (P : ℕ → Type 0) → (noPeriod (powerOf span n) s ≡ true → P 0) → P (firstWide span n (ladderOf (powerOf span n))) →
+      P (periodOf span n s)
   unfolding periodOf
   none-or P none some = go (noPeriod (powerOf span n) s) refl
     where
@@ -64,13 +66,15 @@ module _ (span n : ℕ) (s : Bool) where
 
     -- none only where a step of a day or more is wanted and none is allowed
     pub period-above : noPeriod (powerOf span n) s ≡ false → 0 < periodOf span n s
-    period-above e = none-or (λ (x : ℕ). 0 < x) (λ t. absurd (let z : _≡_ {A = ℕ} 0 1 = cc in let w : ⊥ = omega arith in w)) (found .climbable .above)
+    period-above e = none-or (λ (x : ℕ). 0 < x) (λ t. absurd (let z : _≡_ {A = ℕ} 0 1 = cc in let w : ⊥ = omega arith in w))
+        (found .climbable .above)
 
     pub period-fits : periodOf span n s < 2 ^ 63
     period-fits = none-or (λ (x : ℕ). x < 2 ^ 63) (λ t. lit< tt) (found .climbable .fits)
 
     pub period-room : 0 < periodOf span n s → span < (n + 1) * periodOf span n s
-    period-room h = none-or (λ (x : ℕ). 0 < x → span < (n + 1) * x) (λ t z. absurd (lt-irrefl 0 z)) (λ z. omega (arith, in-steps (found .climbable))) h
+    period-room h = none-or (λ (x : ℕ). 0 < x → span < (n + 1) * x) (λ t z. absurd (lt-irrefl 0 z))
+        (λ z. omega (arith, in-steps (found .climbable))) h
 
     -- of the ticks that are a period apart from the first on, the i-th is in the span only if i is n at most
     pub period-few : (i : ℕ) → 0 < periodOf span n s → i * periodOf span n s < span → i ≤ n
@@ -78,4 +82,5 @@ module _ (span n : ℕ) (s : Bool) where
 
   -- a duration that starts above 0 has a span of 4 * 10 ^ 18 at most: its start and this period, 4.32 * 10 ^ 18, fit 63 bits
   pub period-short : span ≤ 4000000000000000000 → 0 < n → n ≤ 4096 → periodOf span n s ≤ 50000 * day
-  period-short h N hint = none-or (λ (x : ℕ). x ≤ 50000 * day) (λ t. zero-le) (short-ends span n N hint (powerOf span n) refl h .most)
+  period-short h N hint = none-or (λ (x : ℕ). x ≤ 50000 * day) (λ t. zero-le) (short-ends span n N hint (powerOf span n)
+      refl h .most)

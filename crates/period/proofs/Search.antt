@@ -40,7 +40,8 @@ unfolding firstFrom
 passes test zero i b h k t = let e : b ≡ i = omega arith in (rw e at t, h)
 passes test (suc more) i b h k t = go (test i) refl (λ l. passes test more (suc i) b l (omega arith) t)
   where
-    go : (c : Bool) → test i ≡ c → (suc i ≤ b → Passes test b (firstFrom test more (suc i))) → Passes test b (cond c i (firstFrom test more (suc i)))
+    go : (c : Bool) → test i ≡ c → (suc i ≤ b → Passes test b (firstFrom test more (suc i))) →
+        Passes test b (cond c i (firstFrom test more (suc i)))
     go true e later = (rw e tt, h)
     go false e later = elim (eq-or-lt-of-le h) [ inl p ↦ absurd (rw (← p, e) at t) | inr l ↦ later l ]
 

@@ -69,7 +69,8 @@ fn largest_power(span: u64, n: u64) -> u64
 // The first step of a ladder that is wide enough. `whole` is how many whole units the span has.
 fn climb(span: u64, n: u64, start: u64, base: u64, counts: &[u64]) -> Period
     requires { ⌜ Climbable span n (ladder start base (now counts)) ⌝ }
-    ensures { λ r. ⌜ (r .nanoseconds ≡ firstWide span n (ladder start base (now (counts .entry)))) × (r .tested ≡ placeOf span n (ladder start base (now (counts .entry))) + 1) ⌝ }
+    ensures { λ r. ⌜ (r .nanoseconds ≡ firstWide span n (ladder start base (now (counts .entry))))
+        × (r .tested ≡ placeOf span n (ladder start base (now (counts .entry))) + 1) ⌝ }
 {
     let mut unit = start;
     let mut whole = span / unit;

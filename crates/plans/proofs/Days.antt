@@ -50,7 +50,9 @@ module _ (a : Axis) where
   unfolding fromDay
   from-start = go (ltb 0 (up (a .«start_tail») / 1000000000)) (ltb-false 0 (up (a .«start_tail») / 1000000000))
     where
-      go : (b : Bool) → (b ≡ false → up (a .«start_tail») / 1000000000 ≤ 0) → (up (a .«start_head») ≤ up (a .«start_head») + cond b 1 0) × (up (a .«start_head») + cond b 1 0 ≡ up (a .«start_head») → up (a .«start_tail») < 1000000000)
+      go : (b : Bool) → (b ≡ false → up (a .«start_tail») / 1000000000 ≤ 0) →
+          (up (a .«start_head») ≤ up (a .«start_head») + cond b 1 0)
+          × (up (a .«start_head») + cond b 1 0 ≡ up (a .«start_head») → up (a .«start_tail») < 1000000000)
       go true f = (omega arith, λ e. omega arith)
       go false f = (omega arith, λ e. omega (arith, f refl))
 
@@ -126,7 +128,8 @@ module _ (d n : ℕ) where
   step-week a b =
       let p : 0 < d = omega arith in
       rw (lt-ltb 0 d p, lt-leb d n a, le-leb (d / 7) n b)
-      (either (ltb 0 (d / 7) && true) (eqb (d / 7) 0) _ (λ e. eq-eqb (d / 7) 0 (omega (arith, ltb-false 0 (d / 7) (first (ltb 0 (d / 7)) e)))))
+      (either (ltb 0 (d / 7) && true) (eqb (d / 7) 0) _
+      (λ e. eq-eqb (d / 7) 0 (omega (arith, ltb-false 0 (d / 7) (first (ltb 0 (d / 7)) e)))))
 
   pub step-more : n < d / 7 → 7 * min (weeksPer (d / 7) n) (d / 7 + 1) ≡ dateStep d n
   unfolding dateStep
@@ -145,7 +148,8 @@ module _ (d n : ℕ) where
       let (p, q) = weeks-room (d / 7) n (omega arith) h in
       (omega arith, omega arith, omega arith)
 
-  wide-cases : (x y z : Bool) (k : ℕ) → (x ≡ true → d ≤ n) → (y ≡ true → d / 7 ≤ n) → (y ≡ false → z ≡ false → n < d / 7) → (z ≡ true → d / 7 ≡ 0)
+  wide-cases : (x y z : Bool) (k : ℕ) → (x ≡ true → d ≤ n) → (y ≡ true → d / 7 ≤ n) → (y ≡ false → z ≡ false → n < d / 7) →
+      (z ≡ true → d / 7 ≡ 0)
       → (n < d / 7 → Wide k) → Wide (cond x 1 (cond y 7 (cond z 7 k)))
   wide-cases true y z k p q r t m = (omega arith, omega (arith, p refl), omega arith)
   wide-cases false true z k p q r t m = (omega arith, omega (arith, q refl), omega arith)
@@ -164,7 +168,8 @@ module _ (d n : ℕ) where
       wide-cases (ltb 0 d && leb d n) (ltb 0 (d / 7) && leb (d / 7) n) (eqb (d / 7) 0) (7 * min (weeksPer (d / 7) n) (d / 7 + 1))
       (λ e. leb-true d n (both-true (ltb 0 d) (leb d n) e .1))
       (λ e. leb-true (d / 7) n (both-true (ltb 0 (d / 7)) (leb (d / 7) n) e .1))
-      (λ e f. more (ltb 0 (d / 7)) (leb (d / 7) n) (ltb-true 0 (d / 7)) (ltb-false 0 (d / 7)) (leb-true (d / 7) n) (leb-false (d / 7) n) e (eqb-false (d / 7) 0 f))
+      (λ e f. more (ltb 0 (d / 7)) (leb (d / 7) n) (ltb-true 0 (d / 7)) (ltb-false 0 (d / 7)) (leb-true (d / 7) n)
+      (leb-false (d / 7) n) e (eqb-false (d / 7) 0 f))
       (eqb-true (d / 7) 0)
       (λ h. few-weeks h s)
 

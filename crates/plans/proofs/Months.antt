@@ -79,7 +79,8 @@ module _ (t n : ℕ) where
       let q : t / 12 + 1 < (n + 1) * f = fit-room (t / 12 + 1) n (omega arith) in
       (omega arith, omega arith, omega (arith, fit-most (t / 12 + 1) n))
 
-  cases : (k : ℕ) (a b c : Bool) → (a ≡ true → t ≤ n) → (b ≡ true → t ≤ n * 3) → (c ≡ true → t ≤ n * 6) → Wide t n k → Wide t n (cond a 1 (cond b 3 (cond c 6 k)))
+  cases : (k : ℕ) (a b c : Bool) → (a ≡ true → t ≤ n) → (b ≡ true → t ≤ n * 3) → (c ≡ true → t ≤ n * 6) → Wide t n k →
+      Wide t n (cond a 1 (cond b 3 (cond c 6 k)))
   cases k true b c p q r h = (omega arith, omega (arith, p refl), omega arith)
   cases k false true c p q r h = (omega arith, omega (arith, q refl), omega arith)
   cases k false false true p q r h = (omega arith, omega (arith, r refl), omega arith)
@@ -87,7 +88,8 @@ module _ (t n : ℕ) where
 
   pub month-wide : t < 120000 → Wide t n (monthStep t n)
   unfolding monthStep
-  month-wide h = cases (yearStep t n) (leb t n) (leb t (n * 3)) (leb t (n * 6)) (leb-true t n) (leb-true t (n * 3)) (leb-true t (n * 6)) (year-wide h)
+  month-wide h = cases (yearStep t n) (leb t n) (leb t (n * 3)) (leb t (n * 6)) (leb-true t n) (leb-true t (n * 3))
+      (leb-true t (n * 6)) (year-wide h)
 
   -- ---- as the code chooses it
   pub each-month : t ≤ n → 1 ≡ monthStep t n

@@ -22,10 +22,12 @@ use Rattle.plans.specs.Plans.{monthly, yearly, planOf}
 -- ---- kinds
 module _ (a : Axis) where
   pub one-dated : leZ (a .kind) (pos 1) ≡ true → isDuration (a .kind) ≡ false
-  one-dated e = ap (λ (b : Bool). b && leZ (a .kind) (pos 7)) (is-gt (pos 7) (a .kind) (omega (arith, le-true (a .kind) (pos 1) e)))
+  one-dated e = ap (λ (b : Bool). b && leZ (a .kind) (pos 7))
+      (is-gt (pos 7) (a .kind) (omega (arith, le-true (a .kind) (pos 1) e)))
 
   below-seven : (x : ℤ) → up x ≤ 6 → within x (a .kind) x ≡ true → isDuration (a .kind) ≡ false
-  below-seven x h e = ap (λ (b : Bool). b && leZ (a .kind) (pos 7)) (is-gt (pos 7) (a .kind) (omega (arith, within-true x (a .kind) x e)))
+  below-seven x h e = ap (λ (b : Bool). b && leZ (a .kind) (pos 7))
+      (is-gt (pos 7) (a .kind) (omega (arith, within-true x (a .kind) x e)))
 
   pub monthly-dated : monthly a ≡ true → isDuration (a .kind) ≡ false
   unfolding monthly
@@ -51,7 +53,8 @@ module _ (a : Axis) where
         | inr x ↦ omega (arith, le-false (a .kind) (pos m) x)
       ]
 
-  pub four-or-seven : known a ≡ true → leZ (a .kind) (pos 1) ≡ false → monthly a ≡ false → yearly a ≡ false → within (pos 4) (a .kind) (pos 7) ≡ true
+  pub four-or-seven : known a ≡ true → leZ (a .kind) (pos 1) ≡ false → monthly a ≡ false → yearly a ≡ false →
+      within (pos 4) (a .kind) (pos 7) ≡ true
   unfolding known monthly yearly
   four-or-seven k o m y =
       let (l, h) = within-true (pos 1) (a .kind) (pos 7) k in

@@ -4,7 +4,8 @@ use mathlib.Core.Path.{_≡_, refl, sym, ap, _∙_, subst}
 use mathlib.Core.Bool.{Bool, true, false, cond, not, _&&_, true≢false}
 use mathlib.Core.Logic.{_⊎_, inl, inr}
 use Prim.Native.Nat.{ℕ, zero, suc, _+_, _-_, _*_, _/_, _%_, _^_, _≤_, _<_}
-use native.Mathlib.Nat.{mul-le-mul-left, div-one, mod-one, zero-mul, div-eq-of-lt, mod-eq-of-lt, mul-add-div-right, mul-add-mod-self-right, div-lt-iff-lt-mul}
+use native.Mathlib.Nat.{mul-le-mul-left, div-one, mod-one, zero-mul, div-eq-of-lt, mod-eq-of-lt, mul-add-div-right}
+use native.Mathlib.Nat.{mul-add-mod-self-right, div-lt-iff-lt-mul}
 use native.Mathlib.Decide.{decLe}
 use native.Mathlib.Omega.{arith}
 use lib.Dec.{leb}
@@ -42,12 +43,17 @@ use Rattle.steps.proofs.Order.{is-smaller, not-earlier, not-before-second}
 use Rattle.steps.proofs.Demand.{Kept, steps-fine, kept-sound}
 use Rattle.plans.specs.Days.{Dated, fromDay, toDay, evenly, dateStep, daysBy, dayPlan}
 use Rattle.plans.specs.Months.{fromMonth, toMonth, yearStep, monthStep, monthsBy, monthPlan, yearPlan}
-use Rattle.plans.specs.Times.{periodIn, perHead, shift, timePlan, Timed, daysIn, firstSecond, secondsLeft, spanDaysPlan, Long}
+use Rattle.plans.specs.Times.{periodIn, perHead, shift, timePlan, Timed, daysIn, firstSecond, secondsLeft}
+use Rattle.plans.specs.Times.{spanDaysPlan, Long}
 use Rattle.plans.specs.Plans.{tick, monthly, yearly, Accepted, planOf}
-use Rattle.plans.proofs.Days.{start-value, end-value, from-range, to-range, from-start, from-next, from-date, to-is, step-wide, days-kept}
+use Rattle.plans.proofs.Days.{start-value, end-value, from-range, to-range, from-start, from-next, from-date}
+use Rattle.plans.proofs.Days.{to-is, step-wide, days-kept}
 use Rattle.plans.proofs.Months.{Wide, last-month, first-month, last-most, first-most, year-wide, month-wide, months-kept}
-use Rattle.plans.proofs.Plans.{one-dated, monthly-dated, yearly-dated, four-or-seven, plan-days, plan-months, plan-years, plan-times, plan-long, plan-dates}
-use Rattle.plans.proofs.Spans.{start-duration, end-duration, shift-small, some-period, timed, long, First, first-is, dn-of, not-fitting, left-from-0, left-small, left-most, left-last, total-range}
+use Rattle.plans.proofs.Plans.{one-dated, monthly-dated, yearly-dated, four-or-seven, plan-days, plan-months}
+use Rattle.plans.proofs.Plans.{plan-years, plan-times, plan-long, plan-dates}
+use Rattle.plans.proofs.Spans.{start-duration, end-duration, shift-small, some-period, timed, long, First}
+use Rattle.plans.proofs.Spans.{first-is, dn-of, not-fitting, left-from-0, left-small, left-most, left-last}
+use Rattle.plans.proofs.Spans.{total-range}
 
 pub record Good (a : Axis) (n : ℕ) (s : Steps) : Type 0 where
   pub sound : Sound s
@@ -59,7 +65,8 @@ mag-of (negsuc n) k a b = omega arith
 
 -- ---- ticks at midnight
 -- not before the whole second of v: the day is not before that of v, and only its own within the first second
-day-from : (v : Tick) (x : ℕ) → dn (v .head) ≡ 0 → up (v .head) ≤ x → (x ≡ up (v .head) → up (v .tail) < 1000000000) → Later (order.day (pos x)) (wholeSecond v) → ⊥
+day-from : (v : Tick) (x : ℕ) → dn (v .head) ≡ 0 → up (v .head) ≤ x → (x ≡ up (v .head) → up (v .tail) < 1000000000) →
+    Later (order.day (pos x)) (wholeSecond v) → ⊥
 day-from v x z h t (by-head p) = omega (arith, is-smaller p)
 day-from v x z h t (by-tail e q) =
     let s : up (v .tail) < 1000000000 = t (omega (arith, ap up e)) in
@@ -94,11 +101,14 @@ module _ (a : Axis) (n : ℕ) (r : Dated a) where
       let k : Kept (s .step) (s .count) n (d + 1) = rw z (days-kept d n (omega arith)) in
       let x : fromDay a + 0 ≡ fromDay a = omega arith in
       record {
-        sound = kept-sound s n (d + 1) k (omega arith) (omega arith) (mag-of (pos (fromDay a)) (2 ^ 60) (omega arith) (omega arith))
-            (rw (div-one (dateStep d n)) (omega (arith, step-wide d n (omega arith)))) (rw (div-one (0 + (d + 1))) (omega arith)) no-months;
+        sound = kept-sound s n (d + 1) k (omega arith) (omega arith) (mag-of (pos (fromDay a)) (2 ^ 60) (omega arith)
+            (omega arith))
+            (rw (div-one (dateStep d n)) (omega (arith, step-wide d n (omega arith))))
+            (rw (div-one (0 + (d + 1))) (omega arith)) no-months;
         fine = steps-fine s n (d + 1) d (tick (start a)) (tick (end a)) (omega arith) k (λ h. omega arith)
             (rw (heads-tick s 0 refl refl, x) (day-from (tick (start a)) (fromDay a) (v .head-dn) p q))
-            (rw (heads-tick s d refl refl, e) (day-to (tick (end a)) (toDay a) (w .head-dn) (w .tail-dn) (omega (arith, to-is a))));
+            (rw (heads-tick s d refl refl, e) (day-to (tick (end a)) (toDay a) (w .head-dn) (w .tail-dn)
+            (omega (arith, to-is a))));
       }
 
   pub day-good : fromDay a ≤ toDay a → Good a n (dayPlan a n)
@@ -120,7 +130,8 @@ module _ (a : Axis) (n : ℕ) (r : Dated a) where
       let h = months-kept m e n k wide in
       let top : m + room < 120000 = omega (arith, first-most a r, last-most a r) in
       record {
-        sound = kept-sound s n room h (omega arith) (omega arith) (omega arith) (rw (div-one k) (omega (arith, wide .2))) (rw (div-one (m + room)) (omega arith)) (λ t. top);
+        sound = kept-sound s n room h (omega arith) (omega arith) (omega arith) (rw (div-one k) (omega (arith, wide .2)))
+            (rw (div-one (m + room)) (omega arith)) (λ t. top);
         fine = steps-fine s n room e (tick (start a)) (tick (end a)) (omega arith) h (λ t. omega arith)
             (day-from (tick (start a)) (firstDay m) (v .head-dn) (omega (arith, f .ahead)) (λ i. q (omega (arith, f .ahead))))
             (day-to (tick (end a)) (firstDay e) (w .head-dn) (w .tail-dn) (omega (arith, l .begun, to-is a)));
@@ -128,24 +139,29 @@ module _ (a : Axis) (n : ℕ) (r : Dated a) where
 
   pub month-good : Good a n (monthPlan a n)
   unfolding monthPlan
-  month-good = months-good (monthStep (toMonth a - fromMonth a) n) (month-wide (toMonth a - fromMonth a) n (omega (arith, last-most a r)))
+  month-good = months-good (monthStep (toMonth a - fromMonth a) n)
+      (month-wide (toMonth a - fromMonth a) n (omega (arith, last-most a r)))
 
   pub year-good : Good a n (yearPlan a n)
   unfolding yearPlan
-  year-good = months-good (yearStep (toMonth a - fromMonth a) n) (year-wide (toMonth a - fromMonth a) n (omega (arith, last-most a r)))
+  year-good = months-good (yearStep (toMonth a - fromMonth a) n)
+      (year-wide (toMonth a - fromMonth a) n (omega (arith, last-most a r)))
 
 -- ---- a period apart
 -- the number x is q whole heads and t
-number-tick : (s : Steps) (q t x : ℕ) (h u : ℤ) → s .months ≡ false → 0 < s .per → x ≡ q * s .per + t → t < s .per → s .base +ℤ pos q ≡ h → pos t ≡ u → valueOf s x ≡ record { head = h; tail = u }
+number-tick : (s : Steps) (q t x : ℕ) (h u : ℤ) → s .months ≡ false → 0 < s .per → x ≡ q * s .per + t → t < s .per →
+    s .base +ℤ pos q ≡ h → pos t ≡ u → valueOf s x ≡ record { head = h; tail = u }
 number-tick s q t x h u m p e l b r =
     let d : x / s .per ≡ q = ap (λ (y : ℕ). y / s .per) e ∙ (mul-add-div-right p q t ∙ omega (arith, div-eq-of-lt l)) in
     let c : x % s .per ≡ t = ap (λ (y : ℕ). y % s .per) e ∙ (mul-add-mod-self-right q (s .per) t ∙ mod-eq-of-lt l) in
     rw (m, d, c, b, r)
 
-heads-in-order : (a : Axis) → inOrder a ≡ true → up (a .«start_head») + dn (a .«end_head») ≤ up (a .«end_head») + dn (a .«start_head»)
+heads-in-order : (a : Axis) → inOrder a ≡ true → up (a .«start_head») + dn (a .«end_head») ≤ up (a .«end_head»)
+    + dn (a .«start_head»)
 unfolding inOrder earlier
 heads-in-order a o =
-    lt-false (a .«end_head») (a .«start_head») (either-false (ltZ (a .«end_head») (a .«start_head»)) (leZ (a .«end_head») (a .«start_head») && ltZ (a .«end_tail») (a .«start_tail»)) (not-true _ o) .0)
+    lt-false (a .«end_head») (a .«start_head») (either-false (ltZ (a .«end_head») (a .«start_head»))
+    (leZ (a .«end_head») (a .«start_head») && ltZ (a .«end_tail») (a .«start_tail»)) (not-true _ o) .0)
 
 pos-up : (z : ℤ) → dn z ≡ 0 → pos (up z) ≡ z
 pos-up z e = same (pos (up z)) z (omega arith)
@@ -158,10 +174,12 @@ module _ (a : Axis) (o : inOrder a ≡ true) where
   heads-dn = not-below heads (omega (arith, sub (a .«end_head») (a .«start_head»), heads-in-order a o))
 
   heads-up : a .«start_head» +ℤ pos (up heads) ≡ a .«end_head»
-  heads-up = same (a .«start_head» +ℤ pos (up heads)) (a .«end_head») (omega (arith, add (a .«start_head») (pos (up heads)), sub (a .«end_head») (a .«start_head»), heads-dn))
+  heads-up = same (a .«start_head» +ℤ pos (up heads)) (a .«end_head»)
+      (omega (arith, add (a .«start_head») (pos (up heads)), sub (a .«end_head») (a .«start_head»), heads-dn))
 
   -- the end, counted from the start's head
-  at-end : (per : ℕ) → spanOf a ≡ heads *ℤ pos per +ℤ (a .«end_tail» -ℤ a .«start_tail») → dn (spanOf a) ≡ 0 → dn (a .«start_tail») ≡ 0 → dn (a .«end_tail») ≡ 0
+  at-end : (per : ℕ) → spanOf a ≡ heads *ℤ pos per +ℤ (a .«end_tail» -ℤ a .«start_tail») → dn (spanOf a) ≡ 0 →
+      dn (a .«start_tail») ≡ 0 → dn (a .«end_tail») ≡ 0
       → up (a .«start_tail») + up (spanOf a) ≡ up heads * per + up (a .«end_tail»)
   at-end per e z s t =
       let y : dn heads * per ≡ 0 = rw heads-dn (zero-mul per) in
@@ -220,12 +238,15 @@ module _ (a : Axis) (n k per x : ℕ) (t : Timed a k) (c : Counts a per) (few : 
   at-start-tick : valueOf even (up (a .«start_tail»)) ≡ tick (start a)
   at-start-tick =
       let y : up (a .«start_tail») ≡ 0 * per + up (a .«start_tail») = omega (arith, zero-mul per) in
-      number-tick even 0 (up (a .«start_tail»)) (up (a .«start_tail»)) (a .«start_head») (a .«start_tail») refl (omega (arith, c .least)) y (c .start-most) (+ℤ-idr (a .«start_head»)) (pos-up (a .«start_tail») (c .start-dn))
+      number-tick even 0 (up (a .«start_tail»)) (up (a .«start_tail»)) (a .«start_head») (a .«start_tail») refl
+      (omega (arith, c .least)) y (c .start-most) (+ℤ-idr (a .«start_head»)) (pos-up (a .«start_tail») (c .start-dn))
 
   at-end-tick : valueOf even (up (a .«start_tail») + up (spanOf a)) ≡ tick (end a)
   at-end-tick =
       let e = at-end a (t .order) per (c .parts) (span-from-0 a (t .real) (t .order)) (c .start-dn) (c .end-dn) in
-      number-tick even (up (heads a (t .order))) (up (a .«end_tail»)) (up (a .«start_tail») + up (spanOf a)) (a .«end_head») (a .«end_tail») refl (omega (arith, c .least)) e (c .end-most) (heads-up a (t .order)) (pos-up (a .«end_tail») (c .end-dn))
+      number-tick even (up (heads a (t .order))) (up (a .«end_tail»)) (up (a .«start_tail») + up (spanOf a)) (a .«end_head»)
+      (a .«end_tail») refl (omega (arith, c .least)) e (c .end-most) (heads-up a (t .order))
+      (pos-up (a .«end_tail») (c .end-dn))
 
   even-good : Good a n even
   even-good =
@@ -234,13 +255,21 @@ module _ (a : Axis) (n k per x : ℕ) (t : Timed a k) (c : Counts a per) (few : 
       let p : 0 < per = omega (arith, c .least) in
       let s = fits-range (spanOf a) (t .fits) in
       let room : e - f ≤ (n + 1) * k = omega arith in
-      let h : Kept k (fitting (e - f) k) n (e - f) = record { stride = t .above; all = refl; few = few-steps (e - f) k n (t .above) room } in
+      let h : Kept k (fitting (e - f) k) n (e - f) = record {
+        stride = t .above;
+        all = refl;
+        few =
+            few-steps (e - f) k n (t .above) room;
+      } in
       let stride : k < 2 ^ 60 * per = omega (arith, t .small, c .least) in
       let top : f + (e - f) < 2 ^ 60 * per = omega (arith, t .small, c .least, c .most, c .start-most) in
       record {
-        sound = kept-sound even n (e - f) h p (omega (arith, c .most)) (mag-of (a .«start_head») (2 ^ 60) (omega (arith, c .head-up)) (omega (arith, c .head-dn))) (div-lt-iff-lt-mul p .1 stride) (div-lt-iff-lt-mul p .1 top) no-months;
+        sound = kept-sound even n (e - f) h p (omega (arith, c .most))
+            (mag-of (a .«start_head») (2 ^ 60) (omega (arith, c .head-up)) (omega (arith, c .head-dn)))
+            (div-lt-iff-lt-mul p .1 stride) (div-lt-iff-lt-mul p .1 top) no-months;
         fine = steps-fine even n (e - f) (e - 1) (tick (start a)) (tick (end a)) p h (λ g. omega arith)
-            (not-before-second (valueOf even f) (tick (start a)) (c .start-dn) (subst (λ (v : Tick). Later (valueOf even f) v → ⊥) at-start-tick (not-earlier even (up (a .«start_tail»)) f p (omega arith))))
+            (not-before-second (valueOf even f) (tick (start a)) (c .start-dn) (subst (λ (v : Tick). Later (valueOf even f) v
+            → ⊥) at-start-tick (not-earlier even (up (a .«start_tail»)) f p (omega arith))))
             (subst (λ (v : Tick). Later v (valueOf even (e - 1)) → ⊥) at-end-tick (not-earlier even (e - 1) e p (omega arith)));
       }
 
@@ -251,7 +280,8 @@ time-good a n q some h =
     let k = periodIn a n in
     let e = some-period a n (t .fits) in
     let s = fits-range (spanOf a) (t .fits) in
-    let few : up (spanOf a) < (n + 1) * k = rw e at (period-room (up (spanOf a)) n (not (isDuration (a .kind))) (omega arith) some (q .most) (rw (← e) at h)) in
+    let few : up (spanOf a) < (n + 1) * k =
+    rw e at (period-room (up (spanOf a)) n (not (isDuration (a .kind))) (omega arith) some (q .most) (rw (← e) at h)) in
     even-good a n k (perHead a) (shift a k) t (counts a (q .real)) few (shift-small a k h)
 
 -- ---- whole days of a long duration
@@ -273,7 +303,13 @@ module _ (a : Axis) (n : ℕ) (l : Long a) where
       omega (arith, is-smaller q)
 
   seconds-to : (x : ℕ) → x ≤ up (a .«end_head» -ℤ seconds) → Later (tick (end a)) (order.day (seconds +ℤ pos x)) → ⊥
-  seconds-to x h (by-head p) = omega (arith, is-smaller p, add seconds (pos x), sub (a .«end_head») seconds, dn-of (a .«end_head» -ℤ seconds) (left-from-0 a l))
+  seconds-to x h (by-head p) = omega (
+    arith,
+    is-smaller p,
+    add seconds (pos x),
+    sub (a .«end_head») seconds,
+    dn-of (a .«end_head» -ℤ seconds) (left-from-0 a l),
+  )
   seconds-to x h (by-tail e q) = let w = end-duration a (l .real) (l .duration) in omega (arith, is-smaller q)
 
   pub long-good : Good a n (spanDaysPlan a n)
@@ -288,17 +324,20 @@ module _ (a : Axis) (n : ℕ) (l : Long a) where
       let room : left ≤ (n + 1) * stride = omega (arith, left-most a l) in
       let z : left - 0 ≡ left = omega arith in
       let above : 0 < stride = omega arith in
-      let h : Kept stride (fitting (left - 0) stride) n left = rw z (record { stride = above; all = refl; few = few-steps left stride n above room }) in
+      let h : Kept stride (fitting (left - 0) stride) n left =
+      rw z (record { stride = above; all = refl; few = few-steps left stride n above room }) in
       let v = start-duration a (l .real) (l .duration) in
       let b = begins in
       let (x, y) = bounded seconds 400000000000 400000000000 (omega arith) (omega arith) in
       let (last, even) = left-last a l in
       let end-at : left - 1 ≤ up (a .«end_head» -ℤ seconds) = omega arith in
       record {
-        sound = kept-sound s n left h (omega arith) (omega arith) (mag-of seconds (2 ^ 60) (omega arith) (omega arith)) (rw (div-one stride) (omega (arith, fit-most total n)))
+        sound = kept-sound s n left h (omega arith) (omega arith) (mag-of seconds (2 ^ 60) (omega arith) (omega arith))
+            (rw (div-one stride) (omega (arith, fit-most total n)))
             (rw (div-one (0 + left)) (omega (arith, left-small a l))) no-months;
         fine = steps-fine s n left (left - 1) (tick (start a)) (tick (end a)) (omega arith) h (λ g. omega arith)
-            (rw (heads-tick s 0 refl refl) (not-before-second (order.day (seconds +ℤ pos 0)) (tick (start a)) (v .tail-dn) seconds-from))
+            (rw (heads-tick s 0 refl refl) (not-before-second (order.day (seconds +ℤ pos 0)) (tick (start a)) (v .tail-dn)
+            seconds-from))
             (rw (heads-tick s (left - 1) refl refl) (seconds-to (left - 1) end-at));
       }
 
@@ -316,7 +355,8 @@ unfolding exponentUpTo
 power-in zero span n = inl refl
 power-in (suc k) span n = go (leb (10 ^ suc k * n) span) refl (power-in k span n)
   where
-    go : (b : Bool) → leb (10 ^ suc k * n) span ≡ b → (exponentUpTo k span n ≡ 0) ⊎ (10 ^ exponentUpTo k span n * n ≤ span) → (cond b (suc k) (exponentUpTo k span n) ≡ 0) ⊎ (10 ^ cond b (suc k) (exponentUpTo k span n) * n ≤ span)
+    go : (b : Bool) → leb (10 ^ suc k * n) span ≡ b → (exponentUpTo k span n ≡ 0) ⊎ (10 ^ exponentUpTo k span n * n ≤ span) →
+        (cond b (suc k) (exponentUpTo k span n) ≡ 0) ⊎ (10 ^ cond b (suc k) (exponentUpTo k span n) * n ≤ span)
     go true e h = inr (leb-true (10 ^ suc k * n) span e)
     go false e h = h
 
@@ -331,7 +371,9 @@ power-most span n some h =
     one g = omega arith
 
 day-long : (span n : ℕ) → span < 2 ^ 63 → 1 ≤ n → n ≤ 4096 → periodOf span n true ≤ 0 → day ≤ span
-day-long span n small some most h = power-most span n some (leb-true day (powerOf span n) (both-true (leb day (powerOf span n)) true (none (noPeriod (powerOf span n) true) refl) .0))
+day-long span n small some most h =
+    power-most span n some
+    (leb-true day (powerOf span n) (both-true (leb day (powerOf span n)) true (none (noPeriod (powerOf span n) true) refl) .0))
   where
     none : (b : Bool) → noPeriod (powerOf span n) true ≡ b → noPeriod (powerOf span n) true ≡ true
     none true e = e

@@ -53,7 +53,8 @@ module _ (a : Axis) (r : ends a ≡ true) where
     pub end-duration : DurationValue (end a)
     end-duration = duration-value (a .kind) (end a) (both-ends a r .second) e
 
-pub near-start : (a : Axis) (k : ℕ) → Timed a k → isDuration (a .kind) ≡ true → (dn (nanoseconds (pos 7) (start a)) ≤ 4000000000000000000) × (up (nanoseconds (pos 7) (start a)) ≤ 4000000000000000000)
+pub near-start : (a : Axis) (k : ℕ) → Timed a k → isDuration (a .kind) ≡ true →
+    (dn (nanoseconds (pos 7) (start a)) ≤ 4000000000000000000) × (up (nanoseconds (pos 7) (start a)) ≤ 4000000000000000000)
 near-start a k t e = near-range (start a) (near-where-fits a e (t .near) (t .fits) .0)
 
 pub shift-small : (a : Axis) (k : ℕ) → 0 < k → shift a k ≤ k
@@ -98,7 +99,8 @@ module _ (a : Axis) (n : ℕ) where
     beyond true e d h =
         let (x, y) = fits-range (spanOf a) e in
         let s : not (isDuration (a .kind)) ≡ false = rw d in
-        let p = period-above (up (spanOf a)) n (not (isDuration (a .kind))) (omega arith) some (q .most) (any-step (powerOf (up (spanOf a)) n) (not (isDuration (a .kind))) s) in
+        let p = period-above (up (spanOf a)) n (not (isDuration (a .kind))) (omega arith) some (q .most)
+        (any-step (powerOf (up (spanOf a)) n) (not (isDuration (a .kind))) s) in
         absurd (let z : ⊥ = omega (arith, rw (some-period e) at p) in z)
 
     pub long : isDuration (a .kind) ≡ true → periodIn a n ≤ 0 → Long a
@@ -130,13 +132,15 @@ module _ (v : Value) (r : DurationValue v) where
   second-fits =
       let (x, y) = days-range in
       let d = daysIn v in
-      fits (d *ℤ pos 86400) (up d * 86400) (dn d * 86400) (omega (arith, mul-up d 86400, mul-dn d 86400)) (omega arith) (omega arith)
+      fits (d *ℤ pos 86400) (up d * 86400) (dn d * 86400) (omega (arith, mul-up d 86400, mul-dn d 86400)) (omega arith)
+      (omega arith)
 
   pub later-fits : SFits w64 (daysIn v *ℤ pos 86400 +ℤ pos 86400)
   later-fits =
       let (x, y) = days-range in
       let d = daysIn v in
-      fits (d *ℤ pos 86400 +ℤ pos 86400) (up d * 86400 + 86400) (dn d * 86400) (omega (arith, mul-up d 86400, mul-dn d 86400, add (d *ℤ pos 86400) (pos 86400))) (omega arith) (omega arith)
+      fits (d *ℤ pos 86400 +ℤ pos 86400) (up d * 86400 + 86400) (dn d * 86400)
+      (omega (arith, mul-up d 86400, mul-dn d 86400, add (d *ℤ pos 86400) (pos 86400))) (omega arith) (omega arith)
 
   -- the first tick is not before it, equal to it only where it has no tail, and less than two days later
   pub record First (b : ℤ) : Type 0 where
@@ -203,7 +207,15 @@ module _ (a : Axis) (l : Long a) where
       let h = a .«end_head» -ℤ a .«start_head» in
       let t = a .«end_tail» -ℤ a .«start_tail» in
       let z = span-from-0 a (l .real) (l .order) in
-      omega (arith, above, ap up parts, ap dn parts, joint h t 1000000000, sub (a .«end_head») (a .«start_head»), sub (a .«end_tail») (a .«start_tail»))
+      omega (
+        arith,
+        above,
+        ap up parts,
+        ap dn parts,
+        joint h t 1000000000,
+        sub (a .«end_head») (a .«start_head»),
+        sub (a .«end_tail») (a .«start_tail»),
+      )
 
   abbrev first : ℤ
   first = firstSecond (start a)
@@ -220,7 +232,8 @@ module _ (a : Axis) (l : Long a) where
       let s = starts in
       let v = start-duration a (l .real) (l .duration) in
       let w = end-duration a (l .real) (l .duration) in
-      fits (a .«end_head» -ℤ first) (up (a .«end_head») + dn first) (dn (a .«end_head») + up first) (omega (arith, sub (a .«end_head») first))
+      fits (a .«end_head» -ℤ first) (up (a .«end_head») + dn first) (dn (a .«end_head») + up first)
+      (omega (arith, sub (a .«end_head») first))
       (omega arith) (omega arith)
 
   pub left-small : up (a .«end_head» -ℤ first) < 1000000000000
@@ -259,10 +272,19 @@ module _ (a : Axis) (l : Long a) where
       let s = starts in
       let w = end-duration a (l .real) (l .duration) in
       let b = bit (ltZ (pos 0) (a .«end_tail»)) in
-      omega (arith, dn-of total total-from-0, dn-of (a .«end_head» -ℤ first) left-from-0, sub (daysIn (end a)) (daysIn (start a)), sub (a .«end_head») first, days-high (end a) w)
+      omega (
+        arith,
+        dn-of total total-from-0,
+        dn-of (a .«end_head» -ℤ first) left-from-0,
+        sub (daysIn (end a))
+            (daysIn (start a)),
+        sub (a .«end_head») first,
+        days-high (end a) w,
+      )
 
   -- and the last of them is not after the end
-  pub left-last : (secondsLeft a ≤ up (a .«end_head» -ℤ first) + 1) × (up (a .«end_tail») ≡ 0 → secondsLeft a ≤ up (a .«end_head» -ℤ first))
+  pub left-last : (secondsLeft a ≤ up (a .«end_head» -ℤ first) + 1) × (up (a .«end_tail») ≡ 0 →
+      secondsLeft a ≤ up (a .«end_head» -ℤ first))
   unfolding secondsLeft
   left-last =
       let b = bit (ltZ (pos 0) (a .«end_tail»)) in

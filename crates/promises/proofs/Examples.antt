@@ -23,9 +23,12 @@ use Rattle.plans.specs.Times.{periodIn, shiftUp, shiftDown, shift, timePlan, da
 use Rattle.ticks.specs.Answers.{ticksAnswer, ticksHanded, periodAnswer}
 use Rattle.discrete.specs.Counting as count
 use Rattle.discrete.specs.Answers.{checked, asked, indexIn, nextIn, unmapIn, sizeAnswer, indexAnswer, unmapAnswer}
-use Rattle.segmented.specs.Segments.{segmentOn, segmentOf, segmentMappable, marginOf, inner, between, beside, centreOf, segmentPixel}
+use Rattle.segmented.specs.Segments.{segmentOn, segmentOf, segmentMappable, marginOf, inner, between, beside}
+use Rattle.segmented.specs.Segments.{centreOf, segmentPixel}
 use Rattle.segmented.specs.Answers.{segmentMapAnswer}
-use Rattle.promises.specs.Examples.{day-1970, no-leap-year, leap-year, six-days, two-weeks, below-the-power, at-the-power, negative-start, high-limit, earlier-year, no-whole-month, first-centre, table, days, Holds, All}
+use Rattle.promises.specs.Examples.{day-1970, no-leap-year, leap-year, six-days, two-weeks, below-the-power}
+use Rattle.promises.specs.Examples.{at-the-power, negative-start, high-limit, earlier-year, no-whole-month}
+use Rattle.promises.specs.Examples.{first-centre, table, days, Holds, All}
 
 epoch : Holds day-1970
 unfolding leap leapDay monthLength months yearLength years dayNumber isDate inRanges numberOf
@@ -40,27 +43,41 @@ unfolding leap leapDay monthLength months yearLength years dayNumber isDate inRa
 leaps = refl
 
 six-apart : Holds six-days
-unfolding isValue earlier asks.known asks.ends asks.inOrder asks.nearOrLong asks.boldHint nanoseconds difference nanosecondsOf spanOf ladder.firstFrom ladder.placeOf ladder.firstFit fromDay toDay weeksPer dateStep dayPlan plan.monthly plan.yearly plan.planOf periodIn ticksAnswer ticksHanded
+unfolding isValue earlier asks.known asks.ends asks.inOrder asks.nearOrLong asks.boldHint nanoseconds difference nanosecondsOf
+    spanOf ladder.firstFrom ladder.placeOf ladder.firstFit fromDay toDay weeksPer dateStep dayPlan plan.monthly plan.yearly
+    plan.planOf periodIn ticksAnswer ticksHanded
 six-apart = refl
 
 weeks : Holds two-weeks
-unfolding ieee.span ieee.climb ieee.size ieee.odd ieee.units ieee.round ieee.div ieee.ofInt ieee.toUnsigned ceilF isValue earlier asks.known asks.ends asks.inOrder asks.nearOrLong asks.boldHint nanoseconds difference nanosecondsOf spanOf ladder.firstFrom ladder.placeOf ladder.firstFit fromDay toDay weeksPer dateStep dayPlan plan.monthly plan.yearly plan.planOf periodIn ticksAnswer ticksHanded
+unfolding ieee.span ieee.climb ieee.size ieee.odd ieee.units ieee.round ieee.div ieee.ofInt ieee.toUnsigned ceilF isValue
+    earlier asks.known asks.ends asks.inOrder asks.nearOrLong asks.boldHint nanoseconds difference nanosecondsOf spanOf
+    ladder.firstFrom ladder.placeOf ladder.firstFit fromDay toDay weeksPer dateStep dayPlan plan.monthly plan.yearly
+    plan.planOf periodIn ticksAnswer ticksHanded
 weeks = refl
 
 five-hours : Holds below-the-power
-unfolding isValue earlier asks.known asks.ends asks.inOrder asks.hasPeriod asks.nearOrLong asks.boldHint nanoseconds difference nanosecondsOf spanOf ladder.firstFrom ladder.placeOf ladder.firstFit exponentUpTo exponentOf ladderOf periodOf periodIn periodAnswer
+unfolding isValue earlier asks.known asks.ends asks.inOrder asks.hasPeriod asks.nearOrLong asks.boldHint nanoseconds
+    difference nanosecondsOf spanOf ladder.firstFrom ladder.placeOf ladder.firstFit exponentUpTo exponentOf ladderOf periodOf
+    periodIn periodAnswer
 five-hours = refl
 
 four-hours : Holds at-the-power
-unfolding isValue earlier asks.known asks.ends asks.inOrder asks.hasPeriod asks.nearOrLong asks.boldHint nanoseconds difference nanosecondsOf spanOf ladder.firstFrom ladder.placeOf ladder.firstFit exponentUpTo exponentOf ladderOf periodOf periodIn periodAnswer
+unfolding isValue earlier asks.known asks.ends asks.inOrder asks.hasPeriod asks.nearOrLong asks.boldHint nanoseconds
+    difference nanosecondsOf spanOf ladder.firstFrom ladder.placeOf ladder.firstFit exponentUpTo exponentOf ladderOf periodOf
+    periodIn periodAnswer
 four-hours = refl
 
 before-zero : Holds negative-start
-unfolding isValue earlier asks.known asks.ends asks.inOrder asks.nearZero asks.nearOrLong asks.boldHint nanoseconds difference nanosecondsOf spanOf ladder.firstFrom ladder.placeOf ladder.firstFit exponentUpTo exponentOf ladderOf periodOf periodIn plan.monthly plan.yearly plan.planOf shiftUp shiftDown shift timePlan daysIn ticksAnswer ticksHanded
+unfolding isValue earlier asks.known asks.ends asks.inOrder asks.nearZero asks.nearOrLong asks.boldHint nanoseconds difference
+    nanosecondsOf spanOf ladder.firstFrom ladder.placeOf ladder.firstFit exponentUpTo exponentOf ladderOf periodOf periodIn
+    plan.monthly plan.yearly plan.planOf shiftUp shiftDown shift timePlan daysIn ticksAnswer ticksHanded
 before-zero = refl
 
 past-the-last : Holds high-limit
-unfolding isValue earlier asks.known asks.ends asks.inOrder asks.hasUnmap asks.pixels asks.differ asks.unmapPixels ieee.span ieee.climb ieee.size ieee.odd ieee.units ieee.round ieee.mul ieee.div ieee.ofInt ieee.toUnsigned ieee.toSigned floorF count.monthly count.yearly count.origin count.position count.sizeOf count.valueAt count.indexAt count.placeUnder asked unmapIn unmapAnswer
+unfolding isValue earlier asks.known asks.ends asks.inOrder asks.hasUnmap asks.pixels asks.differ asks.unmapPixels ieee.span
+    ieee.climb ieee.size ieee.odd ieee.units ieee.round ieee.mul ieee.div ieee.ofInt ieee.toUnsigned ieee.toSigned floorF
+    count.monthly count.yearly count.origin count.position count.sizeOf count.valueAt count.indexAt count.placeUnder asked
+    unmapIn unmapAnswer
 past-the-last = refl
 
 -- ---- dates of day numbers
@@ -69,35 +86,86 @@ is-date n y m d l r e = sym (the-date n (date y m d) l r e)
 
 december-2019 : dateOf 737424 ≡ date 2019 12 31
 unfolding leap leapDay monthLength months yearLength years dayNumber
-december-2019 = is-date 737424 2019 12 31 (omega arith) (record { year = omega arith; month = omega arith; last = omega arith; day = omega arith; within = omega arith }) refl
+december-2019 = is-date 737424 2019 12 31 (omega arith) (record {
+  year = omega arith;
+  month = omega arith;
+  last =
+      omega arith;
+  day = omega arith;
+  within = omega arith;
+}) refl
 
 january-2020 : dateOf 737425 ≡ date 2020 1 1
 unfolding leap leapDay monthLength months yearLength years dayNumber
-january-2020 = is-date 737425 2020 1 1 (omega arith) (record { year = omega arith; month = omega arith; last = omega arith; day = omega arith; within = omega arith }) refl
+january-2020 = is-date 737425 2020 1 1 (omega arith) (record {
+  year = omega arith;
+  month = omega arith;
+  last =
+      omega arith;
+  day = omega arith;
+  within = omega arith;
+}) refl
 
 december-2021 : dateOf 738155 ≡ date 2021 12 31
 unfolding leap leapDay monthLength months yearLength years dayNumber
-december-2021 = is-date 738155 2021 12 31 (omega arith) (record { year = omega arith; month = omega arith; last = omega arith; day = omega arith; within = omega arith }) refl
+december-2021 = is-date 738155 2021 12 31 (omega arith) (record {
+  year = omega arith;
+  month = omega arith;
+  last =
+      omega arith;
+  day = omega arith;
+  within = omega arith;
+}) refl
 
 january-2022 : dateOf 738156 ≡ date 2022 1 1
 unfolding leap leapDay monthLength months yearLength years dayNumber
-january-2022 = is-date 738156 2022 1 1 (omega arith) (record { year = omega arith; month = omega arith; last = omega arith; day = omega arith; within = omega arith }) refl
+january-2022 = is-date 738156 2022 1 1 (omega arith) (record {
+  year = omega arith;
+  month = omega arith;
+  last =
+      omega arith;
+  day = omega arith;
+  within = omega arith;
+}) refl
 
 counted-as-2020 : Holds earlier-year
-unfolding isValue earlier asks.known asks.ends asks.inOrder asks.hasIndex asks.valueOn count.monthly count.yearly count.firstDay count.firstDate count.dateOn count.origin count.position count.hasPlace count.placeOf indexIn indexAnswer
+unfolding isValue earlier asks.known asks.ends asks.inOrder asks.hasIndex asks.valueOn count.monthly count.yearly
+    count.firstDay count.firstDate count.dateOn count.origin count.position count.hasPlace count.placeOf indexIn indexAnswer
 counted-as-2020 = rw (december-2019, january-2020)
 
 none-whole : Holds no-whole-month
-unfolding isValue earlier asks.known asks.ends asks.inOrder asks.hasIndex asks.nearOrLong asks.boldHint nanoseconds difference nanosecondsOf spanOf ladder.firstFrom ladder.placeOf ladder.firstFit month.monthOf month.wholeMonth month.firstDay fromDay toDay fromMonth toMonth monthStep monthPlan plan.monthly plan.yearly plan.planOf count.monthly count.yearly count.firstDay count.firstDate count.dateOn count.origin count.position count.sizeOf sizeAnswer ticksAnswer ticksHanded
+unfolding isValue earlier asks.known asks.ends asks.inOrder asks.hasIndex asks.nearOrLong asks.boldHint nanoseconds difference
+    nanosecondsOf spanOf ladder.firstFrom ladder.placeOf ladder.firstFit month.monthOf month.wholeMonth month.firstDay fromDay
+    toDay fromMonth toMonth monthStep monthPlan plan.monthly plan.yearly plan.planOf count.monthly count.yearly count.firstDay
+    count.firstDate count.dateOn count.origin count.position count.sizeOf sizeAnswer ticksAnswer ticksHanded
 none-whole = rw (december-2021, january-2022)
 
 sixteen : Holds first-centre
-unfolding isValue earlier asks.known asks.ends asks.inOrder asks.hasIndex asks.pixels asks.valueOn asks.mappable nanoseconds difference nanosecondsOf spanOf offsetOf ieee.span ieee.climb ieee.size ieee.odd ieee.units ieee.round ieee.mul ieee.div ieee.ofInt ieee.toUnsigned ieee.toSigned roundF scaleOf positionOf mapCoord placed count.monthly count.yearly count.origin count.position count.sizeOf count.hasPlace count.placeOf count.valueAt checked nextIn segmentOn segmentOf segmentMappable marginOf inner between beside centreOf segmentPixel segmentMapAnswer
+unfolding isValue earlier asks.known asks.ends asks.inOrder asks.hasIndex asks.pixels asks.valueOn asks.mappable nanoseconds
+    difference nanosecondsOf spanOf offsetOf ieee.span ieee.climb ieee.size ieee.odd ieee.units ieee.round ieee.mul ieee.div
+    ieee.ofInt ieee.toUnsigned ieee.toSigned roundF scaleOf positionOf mapCoord placed count.monthly count.yearly count.origin
+    count.position count.sizeOf count.hasPlace count.placeOf count.valueAt checked nextIn segmentOn segmentOf segmentMappable
+    marginOf inner between beside centreOf segmentPixel segmentMapAnswer
 sixteen = refl
 
 -- THE THEOREM, of all rows, and the days that they name
 pub settled : All table
-settled = (epoch, (no-leap, (leaps, (six-apart, (weeks, (five-hours, (four-hours, (before-zero, (past-the-last, (counted-as-2020, (none-whole, (sixteen, tt))))))))))))
+settled = (
+  epoch,
+  (
+    no-leap,
+    (
+      leaps,
+      (
+        six-apart,
+        (
+          weeks,
+          (five-hours, (four-hours, (before-zero, (past-the-last, (counted-as-2020, (none-whole, (sixteen, tt))))))),
+        ),
+      ),
+    ),
+  ),
+)
 
 pub days-settled : All days
 unfolding leap leapDay monthLength months yearLength years dayNumber isDate inRanges numberOf

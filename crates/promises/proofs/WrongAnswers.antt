@@ -25,9 +25,13 @@ use Rattle.plans.specs.Times.{periodIn}
 use Rattle.ticks.specs.Hints as hints
 use Rattle.ticks.specs.Answers.{ticksAnswer, ticksWritten, periodAnswer}
 use Rattle.discrete.specs.Counting as count
-use Rattle.discrete.specs.Answers.{checked, asked, indexIn, nextIn, previousIn, valueIn, unmapIn, sizeAnswer, indexAnswer, fromIndexAnswer, nextAnswer, previousAnswer, valuesAnswer, unmapAnswer}
-use Rattle.segmented.specs.Segments.{segmentOn, segmentOf, segmentMappable, marginOf, inner, between, beside, centreOf, segmentPixel}
-use Rattle.segmented.specs.Answers.{segmentMapAnswer, segmentTicksAnswer, segmentTicksWritten, segmentSizeAnswer, segmentIndexIn, segmentIndexAnswer, segmentAt, segmentFromAnswer}
+use Rattle.discrete.specs.Answers.{checked, asked, indexIn, nextIn, previousIn, valueIn, unmapIn, sizeAnswer}
+use Rattle.discrete.specs.Answers.{indexAnswer, fromIndexAnswer, nextAnswer, previousAnswer, valuesAnswer}
+use Rattle.discrete.specs.Answers.{unmapAnswer}
+use Rattle.segmented.specs.Segments.{segmentOn, segmentOf, segmentMappable, marginOf, inner, between, beside}
+use Rattle.segmented.specs.Segments.{centreOf, segmentPixel}
+use Rattle.segmented.specs.Answers.{segmentMapAnswer, segmentTicksAnswer, segmentTicksWritten, segmentSizeAnswer}
+use Rattle.segmented.specs.Answers.{segmentIndexIn, segmentIndexAnswer, segmentAt, segmentFromAnswer}
 use Rattle.promises.specs.WrongAnswers as wrong
 use Rattle.promises.specs.WrongAnswers.{Row, RuledOut}
 
@@ -72,81 +76,181 @@ unfolding leap leapDay monthLength months yearLength years dayNumber nextDay day
 date-of = ruled wrong.date-of tt tt
 
 map : RuledOut wrong.map
-unfolding isValue earlier asks.known asks.ends asks.inOrder asks.nearOrLong asks.pixels asks.valueOn asks.mappable nanoseconds difference nanosecondsOf spanOf offsetOf ieee.span ieee.climb ieee.size ieee.odd ieee.units ieee.round ieee.mul ieee.div ieee.ofInt ieee.toUnsigned ieee.toSigned scaleOf positionOf mapCoord placed mapped
+unfolding isValue earlier asks.known asks.ends asks.inOrder asks.nearOrLong asks.pixels asks.valueOn asks.mappable nanoseconds
+    difference nanosecondsOf spanOf offsetOf ieee.span ieee.climb ieee.size ieee.odd ieee.units ieee.round ieee.mul ieee.div
+    ieee.ofInt ieee.toUnsigned ieee.toSigned scaleOf positionOf mapCoord placed mapped
 map = ruled wrong.map tt tt
 
 ticks-bold : RuledOut wrong.ticks-bold
-unfolding isValue earlier asks.known asks.ends asks.inOrder asks.nearOrLong asks.boldHint asks.lightHint nanoseconds difference nanosecondsOf spanOf ladder.firstFrom ladder.placeOf ladder.firstFit ieee.span ieee.climb ieee.size ieee.odd ieee.units ieee.round ieee.mul ieee.div ieee.ofInt ieee.toUnsigned ieee.toSigned ceilF fromDay toDay weeksPer dateStep dayPlan plan.monthly plan.yearly plan.planOf periodIn ticksAnswer ticksWritten
+unfolding isValue earlier asks.known asks.ends asks.inOrder asks.nearOrLong asks.boldHint asks.lightHint nanoseconds
+    difference nanosecondsOf spanOf ladder.firstFrom ladder.placeOf ladder.firstFit ieee.span ieee.climb ieee.size ieee.odd
+    ieee.units ieee.round ieee.mul ieee.div ieee.ofInt ieee.toUnsigned ieee.toSigned ceilF fromDay toDay weeksPer dateStep
+    dayPlan plan.monthly plan.yearly plan.planOf periodIn ticksAnswer ticksWritten
 ticks-bold = ruled wrong.ticks-bold tt tt
 
 ticks-light : RuledOut wrong.ticks-light
-unfolding leap leapDay monthLength months yearLength years dayNumber nextDay daysLater dateOf isValue earlier asks.known asks.ends asks.inOrder asks.nearOrLong asks.boldHint asks.lightHint nanoseconds difference nanosecondsOf spanOf ladder.firstFrom ladder.placeOf ladder.firstFit ieee.span ieee.climb ieee.size ieee.odd ieee.units ieee.round ieee.mul ieee.div ieee.ofInt ieee.toUnsigned ieee.toSigned ceilF fromDay toDay weeksPer dateStep dayPlan plan.monthly plan.yearly plan.planOf periodIn ticksAnswer ticksWritten hints.size hints.refined month.monthOf month.wholeMonth month.firstDay
+unfolding leap leapDay monthLength months yearLength years dayNumber nextDay daysLater dateOf isValue earlier asks.known
+    asks.ends asks.inOrder asks.nearOrLong asks.boldHint asks.lightHint nanoseconds difference nanosecondsOf spanOf
+    ladder.firstFrom ladder.placeOf ladder.firstFit ieee.span ieee.climb ieee.size ieee.odd ieee.units ieee.round ieee.mul
+    ieee.div ieee.ofInt ieee.toUnsigned ieee.toSigned ceilF fromDay toDay weeksPer dateStep dayPlan plan.monthly plan.yearly
+    plan.planOf periodIn ticksAnswer ticksWritten hints.size hints.refined month.monthOf month.wholeMonth month.firstDay
 ticks-light = ruled wrong.ticks-light tt tt
 
 count-bold : RuledOut wrong.count-bold
-unfolding isValue earlier asks.known asks.ends asks.inOrder asks.nearOrLong asks.boldHint asks.lightHint nanoseconds difference nanosecondsOf spanOf ladder.firstFrom ladder.placeOf ladder.firstFit ieee.span ieee.climb ieee.size ieee.odd ieee.units ieee.round ieee.mul ieee.div ieee.ofInt ieee.toUnsigned ieee.toSigned ceilF fromDay toDay weeksPer dateStep dayPlan plan.monthly plan.yearly plan.planOf periodIn ticksAnswer ticksWritten
+unfolding isValue earlier asks.known asks.ends asks.inOrder asks.nearOrLong asks.boldHint asks.lightHint nanoseconds
+    difference nanosecondsOf spanOf ladder.firstFrom ladder.placeOf ladder.firstFit ieee.span ieee.climb ieee.size ieee.odd
+    ieee.units ieee.round ieee.mul ieee.div ieee.ofInt ieee.toUnsigned ieee.toSigned ceilF fromDay toDay weeksPer dateStep
+    dayPlan plan.monthly plan.yearly plan.planOf periodIn ticksAnswer ticksWritten
 count-bold = ruled wrong.count-bold tt tt
 
 count-light : RuledOut wrong.count-light
-unfolding isValue earlier asks.known asks.ends asks.inOrder asks.nearOrLong asks.boldHint asks.lightHint nanoseconds difference nanosecondsOf spanOf ladder.firstFrom ladder.placeOf ladder.firstFit ieee.span ieee.climb ieee.size ieee.odd ieee.units ieee.round ieee.mul ieee.div ieee.ofInt ieee.toUnsigned ieee.toSigned ceilF fromDay toDay weeksPer dateStep dayPlan plan.monthly plan.yearly plan.planOf periodIn ticksAnswer ticksWritten hints.size hints.refined
+unfolding isValue earlier asks.known asks.ends asks.inOrder asks.nearOrLong asks.boldHint asks.lightHint nanoseconds
+    difference nanosecondsOf spanOf ladder.firstFrom ladder.placeOf ladder.firstFit ieee.span ieee.climb ieee.size ieee.odd
+    ieee.units ieee.round ieee.mul ieee.div ieee.ofInt ieee.toUnsigned ieee.toSigned ceilF fromDay toDay weeksPer dateStep
+    dayPlan plan.monthly plan.yearly plan.planOf periodIn ticksAnswer ticksWritten hints.size hints.refined
 count-light = ruled wrong.count-light tt tt
 
 period : RuledOut wrong.period
-unfolding isValue earlier asks.known asks.ends asks.inOrder asks.hasPeriod asks.nearOrLong asks.boldHint nanoseconds difference nanosecondsOf spanOf ladder.firstFrom ladder.placeOf ladder.firstFit exponentUpTo exponentOf ladderOf periodOf periodIn periodAnswer
+unfolding isValue earlier asks.known asks.ends asks.inOrder asks.hasPeriod asks.nearOrLong asks.boldHint nanoseconds
+    difference nanosecondsOf spanOf ladder.firstFrom ladder.placeOf ladder.firstFit exponentUpTo exponentOf ladderOf periodOf
+    periodIn periodAnswer
 period = ruled wrong.period tt tt
 
 unmap : RuledOut wrong.unmap
-unfolding isValue earlier asks.known asks.ends asks.inOrder asks.hasUnmap asks.pixels asks.differ asks.unmapPixels ieee.span ieee.climb ieee.size ieee.odd ieee.units ieee.round ieee.mul ieee.div ieee.ofInt ieee.toUnsigned ieee.toSigned floorF count.monthly count.yearly count.origin count.position count.sizeOf count.valueAt count.indexAt count.placeUnder asked unmapIn unmapAnswer
+unfolding isValue earlier asks.known asks.ends asks.inOrder asks.hasUnmap asks.pixels asks.differ asks.unmapPixels ieee.span
+    ieee.climb ieee.size ieee.odd ieee.units ieee.round ieee.mul ieee.div ieee.ofInt ieee.toUnsigned ieee.toSigned floorF
+    count.monthly count.yearly count.origin count.position count.sizeOf count.valueAt count.indexAt count.placeUnder asked
+    unmapIn unmapAnswer
 unmap = ruled wrong.unmap tt tt
 
 size : RuledOut wrong.size
-unfolding isValue earlier asks.known asks.ends asks.inOrder asks.hasIndex count.monthly count.yearly count.firstDay count.firstDate count.dateOn count.origin count.position count.sizeOf count.hasPlace count.placeOf count.monthAt count.valueAt sizeAnswer
+unfolding isValue earlier asks.known asks.ends asks.inOrder asks.hasIndex count.monthly count.yearly count.firstDay
+    count.firstDate count.dateOn count.origin count.position count.sizeOf count.hasPlace count.placeOf count.monthAt
+    count.valueAt sizeAnswer
 size = ruled wrong.size tt tt
 
 index-of : RuledOut wrong.index-of
-unfolding leap leapDay monthLength months yearLength years dayNumber nextDay daysLater dateOf isValue earlier asks.known asks.ends asks.inOrder asks.hasIndex asks.valueOn count.monthly count.yearly count.firstDay count.firstDate count.dateOn count.origin count.position count.sizeOf count.hasPlace count.placeOf count.monthAt count.valueAt indexIn indexAnswer
+unfolding leap leapDay monthLength months yearLength years dayNumber nextDay daysLater dateOf isValue earlier asks.known
+    asks.ends asks.inOrder asks.hasIndex asks.valueOn count.monthly count.yearly count.firstDay count.firstDate count.dateOn
+    count.origin count.position count.sizeOf count.hasPlace count.placeOf count.monthAt count.valueAt indexIn indexAnswer
 index-of = ruled wrong.index-of tt tt
 
 from-index : RuledOut wrong.from-index
-unfolding isValue earlier asks.known asks.ends asks.inOrder asks.hasIndex count.monthly count.yearly count.firstDay count.firstDate count.dateOn count.origin count.position count.sizeOf count.hasPlace count.placeOf count.monthAt count.valueAt asked fromIndexAnswer
+unfolding isValue earlier asks.known asks.ends asks.inOrder asks.hasIndex count.monthly count.yearly count.firstDay
+    count.firstDate count.dateOn count.origin count.position count.sizeOf count.hasPlace count.placeOf count.monthAt
+    count.valueAt asked fromIndexAnswer
 from-index = ruled wrong.from-index tt tt
 
 next : RuledOut wrong.next
-unfolding leap leapDay monthLength months yearLength years dayNumber nextDay daysLater dateOf isValue earlier asks.known asks.ends asks.inOrder asks.hasIndex asks.valueOn count.monthly count.yearly count.firstDay count.firstDate count.dateOn count.origin count.position count.sizeOf count.hasPlace count.placeOf count.monthAt count.valueAt asked nextIn nextAnswer
+unfolding leap leapDay monthLength months yearLength years dayNumber nextDay daysLater dateOf isValue earlier asks.known
+    asks.ends asks.inOrder asks.hasIndex asks.valueOn count.monthly count.yearly count.firstDay count.firstDate count.dateOn
+    count.origin count.position count.sizeOf count.hasPlace count.placeOf count.monthAt count.valueAt asked nextIn nextAnswer
 next = ruled wrong.next tt tt
 
 previous : RuledOut wrong.previous
-unfolding leap leapDay monthLength months yearLength years dayNumber nextDay daysLater dateOf isValue earlier asks.known asks.ends asks.inOrder asks.hasIndex asks.valueOn count.monthly count.yearly count.firstDay count.firstDate count.dateOn count.origin count.position count.sizeOf count.hasPlace count.placeOf count.monthAt count.valueAt asked previousIn previousAnswer
+unfolding leap leapDay monthLength months yearLength years dayNumber nextDay daysLater dateOf isValue earlier asks.known
+    asks.ends asks.inOrder asks.hasIndex asks.valueOn count.monthly count.yearly count.firstDay count.firstDate count.dateOn
+    count.origin count.position count.sizeOf count.hasPlace count.placeOf count.monthAt count.valueAt asked previousIn
+    previousAnswer
 previous = ruled wrong.previous tt tt
 
 cursor : RuledOut wrong.cursor
-unfolding isValue earlier asks.known asks.ends asks.inOrder asks.hasIndex count.monthly count.yearly count.firstDay count.firstDate count.dateOn count.origin count.position count.sizeOf count.hasPlace count.placeOf count.monthAt count.valueAt asked valueIn valuesAnswer
+unfolding isValue earlier asks.known asks.ends asks.inOrder asks.hasIndex count.monthly count.yearly count.firstDay
+    count.firstDate count.dateOn count.origin count.position count.sizeOf count.hasPlace count.placeOf count.monthAt
+    count.valueAt asked valueIn valuesAnswer
 cursor = ruled wrong.cursor tt tt
 
 segment-map : RuledOut wrong.segment-map
-unfolding isValue earlier asks.known asks.ends asks.inOrder asks.hasIndex asks.pixels asks.valueOn asks.mappable nanoseconds difference nanosecondsOf spanOf offsetOf ieee.span ieee.climb ieee.size ieee.odd ieee.units ieee.round ieee.mul ieee.div ieee.ofInt ieee.toUnsigned ieee.toSigned scaleOf positionOf mapCoord placed roundF count.monthly count.yearly count.firstDay count.firstDate count.dateOn count.origin count.position count.sizeOf count.hasPlace count.placeOf count.monthAt count.valueAt checked nextIn segmentOn segmentOf segmentMappable marginOf inner between beside centreOf segmentPixel segmentMapAnswer
+unfolding isValue earlier asks.known asks.ends asks.inOrder asks.hasIndex asks.pixels asks.valueOn asks.mappable nanoseconds
+    difference nanosecondsOf spanOf offsetOf ieee.span ieee.climb ieee.size ieee.odd ieee.units ieee.round ieee.mul ieee.div
+    ieee.ofInt ieee.toUnsigned ieee.toSigned scaleOf positionOf mapCoord placed roundF count.monthly count.yearly
+    count.firstDay count.firstDate count.dateOn count.origin count.position count.sizeOf count.hasPlace count.placeOf
+    count.monthAt count.valueAt checked nextIn segmentOn segmentOf segmentMappable marginOf inner between beside centreOf
+    segmentPixel segmentMapAnswer
 segment-map = ruled wrong.segment-map tt tt
 
 segment-ticks-bold : RuledOut wrong.segment-ticks-bold
-unfolding isValue earlier asks.known asks.ends asks.inOrder asks.nearOrLong asks.boldHint asks.lightHint nanoseconds difference nanosecondsOf spanOf ladder.firstFrom ladder.placeOf ladder.firstFit ieee.span ieee.climb ieee.size ieee.odd ieee.units ieee.round ieee.mul ieee.div ieee.ofInt ieee.toUnsigned ieee.toSigned ceilF fromDay toDay weeksPer dateStep dayPlan plan.monthly plan.yearly plan.planOf periodIn ticksAnswer ticksWritten asks.hasIndex segmentTicksAnswer segmentTicksWritten
+unfolding isValue earlier asks.known asks.ends asks.inOrder asks.nearOrLong asks.boldHint asks.lightHint nanoseconds
+    difference nanosecondsOf spanOf ladder.firstFrom ladder.placeOf ladder.firstFit ieee.span ieee.climb ieee.size ieee.odd
+    ieee.units ieee.round ieee.mul ieee.div ieee.ofInt ieee.toUnsigned ieee.toSigned ceilF fromDay toDay weeksPer dateStep
+    dayPlan plan.monthly plan.yearly plan.planOf periodIn ticksAnswer ticksWritten asks.hasIndex segmentTicksAnswer
+    segmentTicksWritten
 segment-ticks-bold = ruled wrong.segment-ticks-bold tt tt
 
 segment-ticks-light : RuledOut wrong.segment-ticks-light
-unfolding isValue earlier asks.known asks.ends asks.inOrder asks.nearOrLong asks.boldHint asks.lightHint nanoseconds difference nanosecondsOf spanOf ladder.firstFrom ladder.placeOf ladder.firstFit ieee.span ieee.climb ieee.size ieee.odd ieee.units ieee.round ieee.mul ieee.div ieee.ofInt ieee.toUnsigned ieee.toSigned ceilF fromDay toDay weeksPer dateStep dayPlan plan.monthly plan.yearly plan.planOf periodIn ticksAnswer ticksWritten hints.size hints.refined asks.hasIndex segmentTicksAnswer segmentTicksWritten
+unfolding isValue earlier asks.known asks.ends asks.inOrder asks.nearOrLong asks.boldHint asks.lightHint nanoseconds
+    difference nanosecondsOf spanOf ladder.firstFrom ladder.placeOf ladder.firstFit ieee.span ieee.climb ieee.size ieee.odd
+    ieee.units ieee.round ieee.mul ieee.div ieee.ofInt ieee.toUnsigned ieee.toSigned ceilF fromDay toDay weeksPer dateStep
+    dayPlan plan.monthly plan.yearly plan.planOf periodIn ticksAnswer ticksWritten hints.size hints.refined asks.hasIndex
+    segmentTicksAnswer segmentTicksWritten
 segment-ticks-light = ruled wrong.segment-ticks-light tt tt
 
 segment-size : RuledOut wrong.segment-size
-unfolding isValue earlier asks.known asks.ends asks.inOrder asks.hasIndex count.monthly count.yearly count.firstDay count.firstDate count.dateOn count.origin count.position count.sizeOf count.hasPlace count.placeOf count.monthAt count.valueAt segmentSizeAnswer
+unfolding isValue earlier asks.known asks.ends asks.inOrder asks.hasIndex count.monthly count.yearly count.firstDay
+    count.firstDate count.dateOn count.origin count.position count.sizeOf count.hasPlace count.placeOf count.monthAt
+    count.valueAt segmentSizeAnswer
 segment-size = ruled wrong.segment-size tt tt
 
 segment-index-of : RuledOut wrong.segment-index-of
-unfolding isValue earlier asks.known asks.ends asks.inOrder asks.hasIndex count.monthly count.yearly count.firstDay count.firstDate count.dateOn count.origin count.position count.sizeOf count.hasPlace count.placeOf count.monthAt count.valueAt segmentOn segmentOf segmentIndexIn segmentIndexAnswer
+unfolding isValue earlier asks.known asks.ends asks.inOrder asks.hasIndex count.monthly count.yearly count.firstDay
+    count.firstDate count.dateOn count.origin count.position count.sizeOf count.hasPlace count.placeOf count.monthAt
+    count.valueAt segmentOn segmentOf segmentIndexIn segmentIndexAnswer
 segment-index-of = ruled wrong.segment-index-of tt tt
 
 segment-from-index : RuledOut wrong.segment-from-index
-unfolding isValue earlier asks.known asks.ends asks.inOrder asks.hasIndex count.monthly count.yearly count.firstDay count.firstDate count.dateOn count.origin count.position count.sizeOf count.hasPlace count.placeOf count.monthAt count.valueAt segmentAt segmentFromAnswer
+unfolding isValue earlier asks.known asks.ends asks.inOrder asks.hasIndex count.monthly count.yearly count.firstDay
+    count.firstDate count.dateOn count.origin count.position count.sizeOf count.hasPlace count.placeOf count.monthAt
+    count.valueAt segmentAt segmentFromAnswer
 segment-from-index = ruled wrong.segment-from-index tt tt
 
 -- THE THEOREM, of all rows
 pub ruled-out : wrong.All wrong.table
-ruled-out = (day-number, (date-of, (map, (ticks-bold, (ticks-light, (count-bold, (count-light, (period, (unmap, (size, (index-of, (from-index, (next, (previous, (cursor, (segment-map, (segment-ticks-bold, (segment-ticks-light, (segment-size, (segment-index-of, (segment-from-index, tt)))))))))))))))))))))
+ruled-out = (
+  day-number,
+  (
+    date-of,
+    (
+      map,
+      (
+        ticks-bold,
+        (
+          ticks-light,
+          (
+            count-bold,
+            (
+              count-light,
+              (
+                period,
+                (
+                  unmap,
+                  (
+                    size,
+                    (
+                      index-of,
+                      (
+                        from-index,
+                        (
+                          next,
+                          (
+                            previous,
+                            (
+                              cursor,
+                              (
+                                segment-map,
+                                (segment-ticks-bold, (segment-ticks-light, (segment-size, (segment-index-of, (segment-from-index, tt))))),
+                              ),
+                            ),
+                          ),
+                        ),
+                      ),
+                    ),
+                  ),
+                ),
+              ),
+            ),
+          ),
+        ),
+      ),
+    ),
+  ),
+)

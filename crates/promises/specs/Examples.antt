@@ -113,7 +113,11 @@ at-the-power =
 abbrev pub negative-start : Example
 negative-start =
     record {
-      answer = listed (axis (pos 7) (record { head = negsuc 0; tail = pos 999999999 }) (record { head = pos 0; tail = pos 4 })) (hint 1);
+      answer = listed (axis (pos 7) (record { head = negsuc 0; tail = pos 999999999 }) (record {
+        head = pos 0;
+        tail =
+            pos 4;
+      })) (hint 1);
       settled = pos 0 ∷ (pos 1 ∷ (negsuc 0 ∷ (pos 999999999 ∷ [])));
     }
 
@@ -148,7 +152,8 @@ no-whole-month =
 abbrev pub first-centre : Example
 first-centre =
     record {
-      answer = pixels (pixelReply (segmentMapAnswer (axis (pos 1) (day 737850) (day 737852)) (limits (pos 0) (pos 100)) (centre (day 737850))));
+      answer = pixels (pixelReply (segmentMapAnswer (axis (pos 1) (day 737850) (day 737852)) (limits (pos 0) (pos 100))
+          (centre (day 737850))));
       settled = pos 0 ∷ (pos 16 ∷ []);
     }
 

@@ -10,12 +10,15 @@ use Rattle.calendar.specs.Questions.{numberOf, dateAt}
 use Rattle.mapping.specs.Mapping.{mapped}
 use Rattle.ticks.specs.Hints.{Hint, bold, light}
 use Rattle.ticks.specs.Answers.{ticksAnswer, ticksWritten, periodAnswer}
-use Rattle.discrete.specs.Answers.{sizeAnswer, indexAnswer, fromIndexAnswer, nextAnswer, previousAnswer, valuesAnswer, unmapAnswer}
-use Rattle.segmented.specs.Answers.{segmentMapAnswer, segmentTicksAnswer, segmentTicksWritten, segmentSizeAnswer, segmentIndexAnswer, segmentFromAnswer}
+use Rattle.discrete.specs.Answers.{sizeAnswer, indexAnswer, fromIndexAnswer, nextAnswer, previousAnswer}
+use Rattle.discrete.specs.Answers.{valuesAnswer, unmapAnswer}
+use Rattle.segmented.specs.Answers.{segmentMapAnswer, segmentTicksAnswer, segmentTicksWritten, segmentSizeAnswer}
+use Rattle.segmented.specs.Answers.{segmentIndexAnswer, segmentFromAnswer}
 use Rattle.ordered.specs.declared.OrderedDate.{OrderedDate}
 use Rattle.ordered.specs.declared.OrderedStep.{OrderedStep}
 use Rattle.ordered.specs.declared.OrderedSegment.{OrderedSegment}
-use Rattle.ordered.specs.Replies.{dayReply, dateReply, pixelReply, countReply, periodReply, numberReply, valueReply, stepReply, segmentReply}
+use Rattle.ordered.specs.Replies.{dayReply, dateReply, pixelReply, countReply, periodReply, numberReply, valueReply}
+use Rattle.ordered.specs.Replies.{stepReply, segmentReply}
 use Rattle.promises.specs.Examples.{numbers, pixels, periods, values, date, day, at, axis, hint, limits, centre}
 
 abbrev pub dates : OrderedDate → List ℤ
@@ -48,7 +51,12 @@ pub record Row : Type 0 where
 
 -- ordered_day_number, 2000-02-29: refused as if 2000 were no leap year; one day less
 abbrev pub day-number : Row
-day-number = record { answer = numbers (dayReply (numberOf (date 2000 2 29))); wrong = pos 8 ∷ (pos 0 ∷ []); other = pos 0 ∷ (pos 730178 ∷ []) }
+day-number = record {
+  answer = numbers (dayReply (numberOf (date 2000 2 29)));
+  wrong = pos 8 ∷ (pos 0 ∷ []);
+  other =
+      pos 0 ∷ (pos 730178 ∷ []);
+}
 
 -- ordered_date_of, day 60, which is 0001-03-01: 0001-02-29; month and day exchanged
 abbrev pub date-of : Row
@@ -124,7 +132,12 @@ unmap =
 
 -- ordered_size, days 1 to 10: without the last day; one more
 abbrev pub size : Row
-size = record { answer = numbers (numberReply (sizeAnswer (axis (pos 1) (day 1) (day 10)))); wrong = pos 0 ∷ (pos 9 ∷ []); other = pos 0 ∷ (pos 11 ∷ []) }
+size = record {
+  answer = numbers (numberReply (sizeAnswer (axis (pos 1) (day 1) (day 10))));
+  wrong =
+      pos 0 ∷ (pos 9 ∷ []);
+  other = pos 0 ∷ (pos 11 ∷ []);
+}
 
 -- ordered_index_of, months from 0002-01-01 on, 0001-12-31: none; the first
 abbrev pub index-of : Row
@@ -211,7 +224,12 @@ segment-size =
 abbrev pub segment-index-of : Row
 segment-index-of =
     record {
-      answer = numbers (numberReply (segmentIndexAnswer (axis (pos 1) (day 5) (day 6)) (record { case = pos 3; head = pos 0; tail = pos 0 })));
+      answer = numbers (numberReply (segmentIndexAnswer (axis (pos 1) (day 5) (day 6)) (record {
+        case = pos 3;
+        head =
+            pos 0;
+        tail = pos 0;
+      })));
       wrong = negsuc 0 ∷ (pos 0 ∷ []);
       other = pos 0 ∷ (pos 1 ∷ []);
     }

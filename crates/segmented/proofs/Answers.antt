@@ -36,7 +36,10 @@ use Rattle.segmented.specs.declared.SegmentAnswer.{SegmentAnswer}
 use Rattle.segmented.specs.declared.SegmentAnswer.the-variants as segment
 use Rattle.segmented.specs.declared.Segment.{Segment}
 use Rattle.segmented.specs.Segments.{valueIn, SegmentOn, segmentOn, segmentOf, segmentMappable, segmentPixel}
-use Rattle.segmented.specs.Answers.{exactly, segmentAt, segmentAsked, pixelAsked, segmentValueQuestions, segmentKindQuestions, segmentMapAnswer, ticksAsked, writtenAsked, segmentTicksAnswer, segmentTicksWritten, segmentQuestions, segmentSizeAnswer, segmentIndexIn, segmentIndexAnswer}
+use Rattle.segmented.specs.Answers.{exactly, segmentAt, segmentAsked, pixelAsked, segmentValueQuestions}
+use Rattle.segmented.specs.Answers.{segmentKindQuestions, segmentMapAnswer, ticksAsked, writtenAsked}
+use Rattle.segmented.specs.Answers.{segmentTicksAnswer, segmentTicksWritten, segmentQuestions}
+use Rattle.segmented.specs.Answers.{segmentSizeAnswer, segmentIndexIn, segmentIndexAnswer}
 
 module _ (a : Axis) (i : ℕ) where
   pub segment-value : i < sizeOf a → segmentAt a i ≡ exactly (checked (value.At (valueAt a i)))
@@ -57,7 +60,8 @@ segment-refused (suc k) q v e n = rw e
 
 -- question 8's yes, of the segment value
 module _ (a : Axis) (s : Segment) where
-  on-value : (k : ℤ) → within k (s .case) k ≡ true → up k + dn (pos 3) < up (pos 3) + dn k → segmentOn a s ≡ true → valueOn a (valueIn s) ≡ true
+  on-value : (k : ℤ) → within k (s .case) k ≡ true → up k + dn (pos 3) < up (pos 3) + dn k → segmentOn a s ≡ true →
+      valueOn a (valueIn s) ≡ true
   unfolding segmentOn
   on-value k t l e =
       elim (either-true (within (pos 3) (s .case) (pos 3)) (within (pos 1) (s .case) (pos 2) && valueOn a (valueIn s)) e) [
@@ -68,7 +72,8 @@ module _ (a : Axis) (s : Segment) where
         | inr rest ↦ let (p, q) = both-true (within (pos 1) (s .case) (pos 2)) (valueOn a (valueIn s)) rest in q
       ]
 
-  cases : (x y : Bool) → (x ≡ true → valueOn a (valueIn s) ≡ true) → (y ≡ true → valueOn a (valueIn s) ≡ true) → SegmentOn a (cond x (Exact (valueIn s)) (cond y (CenterOf (valueIn s)) Last))
+  cases : (x y : Bool) → (x ≡ true → valueOn a (valueIn s) ≡ true) → (y ≡ true → valueOn a (valueIn s) ≡ true) →
+      SegmentOn a (cond x (Exact (valueIn s)) (cond y (CenterOf (valueIn s)) Last))
   cases true y f g = f refl
   cases false true f g = g refl
   cases false false f g = tt
@@ -96,22 +101,26 @@ module _ (a : Axis) (l : Limits) (s : Segment) where
   map-refused zero e n = absurd (n refl)
   map-refused (suc q) e n = ap (λ (k : ℕ). asked k (segmentMappable a (segmentOf s))) e
 
-  pub map-nine : firstNo (segmentValueQuestions a l s) ≡ 0 → segmentMappable a (segmentOf s) ≡ false → pixel.Refused 9 ≡ segmentMapAnswer a l s
+  pub map-nine : firstNo (segmentValueQuestions a l s) ≡ 0 → segmentMappable a (segmentOf s) ≡ false →
+      pixel.Refused 9 ≡ segmentMapAnswer a l s
   unfolding segmentMapAnswer
   map-nine e f = sym (λ i. asked (e i) (f i))
 
-  pub map-is : firstNo (segmentValueQuestions a l s) ≡ 0 → segmentMappable a (segmentOf s) ≡ true → segmentPixel a l (segmentOf s) ≡ segmentMapAnswer a l s
+  pub map-is : firstNo (segmentValueQuestions a l s) ≡ 0 → segmentMappable a (segmentOf s) ≡ true →
+      segmentPixel a l (segmentOf s) ≡ segmentMapAnswer a l s
   unfolding segmentMapAnswer
   map-is e f = sym (λ i. asked (e i) (f i))
 
 -- ---- ticks: a refusal of the kind, and none
 module _ (a : Axis) (h : Hint) where
-  pub ticks-refused : (q : ℕ) → q ≡ firstNo (segmentKindQuestions a) → (q ≡ 0 → ⊥) → (k : ℕ) → Refused q ≡ segmentTicksAnswer a h k
+  pub ticks-refused : (q : ℕ) → q ≡ firstNo (segmentKindQuestions a) → (q ≡ 0 → ⊥) → (k : ℕ) →
+      Refused q ≡ segmentTicksAnswer a h k
   unfolding segmentTicksAnswer
   ticks-refused zero e n k = absurd (n refl)
   ticks-refused (suc q) e n k = ap (λ (r : ℕ). ticksAsked r (ticksAnswer a h k)) e
 
-  pub ticks-unwritten : (q : ℕ) → q ≡ firstNo (segmentKindQuestions a) → (q ≡ 0 → ⊥) → (d : List ℤ) → d ≡ segmentTicksWritten a h d
+  pub ticks-unwritten : (q : ℕ) → q ≡ firstNo (segmentKindQuestions a) → (q ≡ 0 → ⊥) → (d : List ℤ) →
+      d ≡ segmentTicksWritten a h d
   unfolding segmentTicksWritten
   ticks-unwritten zero e n d = absurd (n refl)
   ticks-unwritten (suc q) e n d = ap (λ (r : ℕ). writtenAsked r (ticksWritten a h d) d) e

@@ -30,7 +30,8 @@ is-pixel : (p : ℤ) → up p ≤ 32767 + dn p → dn p ≤ 32767 + up p → isP
 is-pixel p a b = rw (is-le (negsuc 32766) p (omega arith), is-le p (pos 32767) (omega arith))
 
 -- from high back by m, which goes no further than to low
-module _ (low high m : ℤ) (p : isPixel low ≡ true) (q : isPixel high ≡ true) (u : up m ≤ up (high -ℤ low)) (d : dn m ≤ dn (high -ℤ low)) where
+module _ (low high m : ℤ) (p : isPixel low ≡ true) (q : isPixel high ≡ true) (u : up m ≤ up (high -ℤ low))
+    (d : dn m ≤ dn (high -ℤ low)) where
   back-range : (up (high -ℤ m) ≤ 32767 + dn (high -ℤ m)) × (dn (high -ℤ m) ≤ 32767 + up (high -ℤ m))
   back-range =
       let (a, b) = pixel-range low p in
@@ -55,9 +56,11 @@ module _ (size : ℕ) (l : Limits) (s : Some size) (p : pixels l ≡ true) where
 
   pub margin-is : marginOf size l ≡ withSign (below-zero width) whole
   unfolding marginOf
-  margin-is = ratio-round binary32 width size 31 (omega (arith, width-few)) (s .least) (omega (arith, s .most)) (omega (arith, margin-few))
+  margin-is = ratio-round binary32 width size 31 (omega (arith, width-few)) (s .least) (omega (arith, s .most))
+      (omega (arith, margin-few))
 
-  back : (up (l .high -ℤ marginOf size l) ≤ 32767 + dn (l .high -ℤ marginOf size l)) × (dn (l .high -ℤ marginOf size l) ≤ 32767 + up (l .high -ℤ marginOf size l))
+  back : (up (l .high -ℤ marginOf size l) ≤ 32767 + dn (l .high -ℤ marginOf size l))
+      × (dn (l .high -ℤ marginOf size l) ≤ 32767 + up (l .high -ℤ marginOf size l))
   back =
       let (x, y) = limits-are l p in
       let (u, d) = no-further width whole (halfUp-le (natAbs width) size (s .least)) in

@@ -43,7 +43,8 @@ module _ (left right : ℤ) where
   unfolding between
   between-sum e = rw (e, and-false (fitsI32 right), and-false (fitsI32 left))
 
-  pub between-is : fitsI32 left ≡ true → fitsI32 right ≡ true → fitsI32 (left +ℤ right) ≡ true → pixel.At (half (left +ℤ right)) ≡ between left right
+  pub between-is : fitsI32 left ≡ true → fitsI32 right ≡ true → fitsI32 (left +ℤ right) ≡ true →
+      pixel.At (half (left +ℤ right)) ≡ between left right
   unfolding between
   between-is e f g = rw (e, f, g)
 

@@ -105,9 +105,11 @@ pub counted-fine : (s : Steps) (d : List ℤ) (n : ℕ) (start end : Tick) → F
 counted-fine s d n start end f = rw (front-is s d) (front-fine s (length d) n start end f)
 
 -- the same where the answer is a count
-pub read-fine : (s : Steps) (d : List ℤ) (n c : ℕ) (start end : Tick) → Fine n start end (ticks s) → listedOf s (length d) ≡ Ticks c
+pub read-fine : (s : Steps) (d : List ℤ) (n c : ℕ) (start end : Tick) → Fine n start end (ticks s) → listedOf s (length d)
+    ≡ Ticks c
     → Fine n start end (take (2 * c) (after s d))
-read-fine s d n c start end f e = subst (λ (x : ℕ). Fine n start end (take (2 * x) (after s d))) (ap countOf e) (counted-fine s d n start end f)
+read-fine s d n c start end f e = subst (λ (x : ℕ). Fine n start end (take (2 * x) (after s d))) (ap countOf e)
+    (counted-fine s d n start end f)
 
 -- ---- the same facts keep a progression in range
 last-in : (k c n room : ℕ) → Kept k c n room → (c - 1) * k ≤ room
@@ -116,7 +118,8 @@ last-in k (suc c) n room h =
     let a : c < fitting room k = omega (arith, h .all) in
     rw sub-one (omega (arith, inside room k c (h .stride) a))
 
-pub kept-sound : (s : Steps) (n room : ℕ) → Kept (s .step) (s .count) n room → 0 < s .per → s .per < 2 ^ 60 → mag (s .base) < 2 ^ 60
+pub kept-sound : (s : Steps) (n room : ℕ) → Kept (s .step) (s .count) n room → 0 < s .per → s .per < 2 ^ 60 →
+    mag (s .base) < 2 ^ 60
     → s .step / s .per < 2 ^ 60 → (s .first + room) / s .per < 2 ^ 60 → (s .months ≡ true → s .first + room < 120000) → Sound s
 kept-sound s n room k p small base stride top month =
     let l = last-in (s .step) (s .count) n room k in

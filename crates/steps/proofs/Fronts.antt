@@ -23,7 +23,8 @@ module _ (s : Steps) (d : List ℤ) where
   pub within-lent : 2 * countOf (listedOf s (length d)) ≤ length d
   within-lent = room (hasRoom s (length d)) refl
 
-  cut : (b : Bool) → take (2 * countOf (cond b (Ticks (s .count)) (Refused 11))) (cond b (ticks s ++ drop (2 * s .count) d) d) ≡ cond b (ticks s) []
+  cut : (b : Bool) → take (2 * countOf (cond b (Ticks (s .count)) (Refused 11))) (cond b (ticks s ++ drop (2 * s .count) d) d)
+      ≡ cond b (ticks s) []
   cut true = take-at (ticks s) (drop (2 * s .count) d) (2 * s .count) (length-pairs (tickOf s) (s .count))
   cut false = refl
 

@@ -128,7 +128,8 @@ module _ (day : ℕ) (from : 1 ≤ day) (to : day ≤ 3652425) where
       let t = dateOf day in
       rw e at (day-on (t .year) (t .month) (t .day) r)
 
-  whole : (b : Bool) → (b ≡ true → 1 < dateOf day .day) → (b ≡ false → dateOf day .day ≤ 1) → FromMonth (monthOf day + cond b 1 0) day
+  whole : (b : Bool) → (b ≡ true → 1 < dateOf day .day) → (b ≡ false → dateOf day .day ≤ 1) →
+      FromMonth (monthOf day + cond b 1 0) day
   whole true p q = record {
     ahead = omega (arith, in-month .going);
     first = λ k l. elim (eq-or-lt-of-le l) [
@@ -154,7 +155,10 @@ not-above : (m k day : ℕ) → firstDay m ≤ day → day < firstDay (k + 1) �
 not-above m k day a b =
     elim (decLe m k) [
       | yes l ↦ l
-      | no l ↦ absurd (elim (eq-or-lt-of-le (let g : k + 1 ≤ m = omega arith in g)) [ inl e ↦ clash (rw e at b) | inr q ↦ later (first-days (k + 1) m q) ])
+      | no l ↦ absurd (elim (eq-or-lt-of-le (let g : k + 1 ≤ m = omega arith in g)) [
+        | inl e ↦ clash (rw e at b)
+        | inr q ↦ later (first-days (k + 1) m q)
+      ])
     ]
   where
     clash : day < firstDay m → ⊥
@@ -170,7 +174,11 @@ pub one-whole : (m k day : ℕ) → FromMonth m day → FromMonth k day → m �
 one-whole m k day a b = omega (arith, not-early m k day a b, not-early k m day b a)
   where
     not-early : (m k day : ℕ) → FromMonth m day → FromMonth k day → m ≤ k
-    not-early m k day a b = elim (decLe m k) [ yes l ↦ l | no l ↦ absurd (let g : k < m = omega arith in clash (a .first k g) (b .ahead)) ]
+    not-early m k day a b = elim (decLe m k) [
+      | yes l ↦ l
+      | no l ↦ absurd (let g : k < m = omega arith in
+          clash (a .first k g) (b .ahead))
+    ]
       where
         clash : firstDay k < day → day ≤ firstDay k → ⊥
         clash p q = omega arith

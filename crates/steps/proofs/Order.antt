@@ -43,9 +43,12 @@ irrefl l = asym l l
 -- what is later than a later tick is later
 pub trans : {a b c : Tick} → Later a b → Later b c → Later a c
 trans {a} {b} {c} (by-head p) (by-head q) = by-head (smaller (a .head) (c .head) (omega (arith, is-smaller p, is-smaller q)))
-trans {a} {b} {c} (by-head p) (by-tail q r) = by-head (smaller (a .head) (c .head) (omega (arith, is-smaller p, ap up q, ap dn q)))
-trans {a} {b} {c} (by-tail p q) (by-head r) = by-head (smaller (a .head) (c .head) (omega (arith, is-smaller r, ap up p, ap dn p)))
-trans {a} {b} {c} (by-tail p q) (by-tail r t) = by-tail (p ∙ r) (smaller (a .tail) (c .tail) (omega (arith, is-smaller q, is-smaller t)))
+trans {a} {b} {c} (by-head p) (by-tail q r) =
+    by-head (smaller (a .head) (c .head) (omega (arith, is-smaller p, ap up q, ap dn q)))
+trans {a} {b} {c} (by-tail p q) (by-head r) =
+    by-head (smaller (a .head) (c .head) (omega (arith, is-smaller r, ap up p, ap dn p)))
+trans {a} {b} {c} (by-tail p q) (by-tail r t) =
+    by-tail (p ∙ r) (smaller (a .tail) (c .tail) (omega (arith, is-smaller q, is-smaller t)))
 
 -- ---- days: ticks with no tail
 abbrev pub day : ℤ → Tick

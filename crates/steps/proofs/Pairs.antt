@@ -41,7 +41,8 @@ module _ (f : ℕ → Tick) where
       let l = length-pairs n in
       let m = length-push (pairs f n) (2 * n) (f n .head) l in
       elim (eq-or-lt-of-le h) [
-        | inl p ↦ let e : n ≡ i = omega arith in rw (← e) (getD-at (pairs f n ++ (f n .head ∷ [])) (f n .tail) [] (pos 0) (2 * n + 1) m)
+        | inl p ↦ let e : n ≡ i = omega arith in
+            rw (← e) (getD-at (pairs f n ++ (f n .head ∷ [])) (f n .tail) [] (pos 0) (2 * n + 1) m)
         | inr q ↦
             let a : 2 * i + 1 < length (pairs f n ++ (f n .head ∷ [])) = omega arith in
             let b : 2 * i + 1 < length (pairs f n) = omega arith in
@@ -73,7 +74,8 @@ module _ {s : Steps} {d l : List ℤ} {i at : ℕ} (w : Written s d l i at) wher
         turns = omega arith;
         at-is = omega (arith, w .at-is);
         length-is = simp length-set (w .length-is);
-        list-is = rw (add-one i, e) (push-two l (pairs (tickOf s) i) d at (tickOf s i .head) (tickOf s i .tail) (w .list-is) (length-pairs (tickOf s) i ∙ sym (w .at-is)) next);
+        list-is = rw (add-one i, e) (push-two l (pairs (tickOf s) i) d at (tickOf s i .head) (tickOf s i .tail) (w .list-is)
+            (length-pairs (tickOf s) i ∙ sym (w .at-is)) next);
       }
 
   pub all-written : s .count ≤ i → l ≡ ticks s ++ drop (2 * s .count) d

@@ -2,7 +2,9 @@
 use mathlib.Core.Path.{_≡_, ap, _∙_}
 use mathlib.Core.Bool.{true}
 use Prim.Native.Nat.{ℕ, _+_, _-_, _*_, _/_, _%_, _^_, _≤_, _<_}
-use native.Mathlib.Nat.{mul-le-mul-right, div-lt-iff-lt-mul, mod-lt, add-mul, one-mul, div-add-mod', mul-add-div-right, mul-add-mod-self-right, div-eq-of-lt, mod-eq-of-lt, div-eq-sub-div, mod-eq-sub-mod}
+use native.Mathlib.Nat.{mul-le-mul-right, div-lt-iff-lt-mul, mod-lt, add-mul, one-mul, div-add-mod'}
+use native.Mathlib.Nat.{mul-add-div-right, mul-add-mod-self-right, div-eq-of-lt, mod-eq-of-lt, div-eq-sub-div}
+use native.Mathlib.Nat.{mod-eq-sub-mod}
 use native.Mathlib.Omega.{arith}
 use lib.IntN.{ℤ, pos, negsuc, _+ℤ_}
 use lib.Signed.{mag}
@@ -75,5 +77,6 @@ module _ (s : Steps) (S : Sound s) (i : ℕ) (h : i < s .count) where
 
   pub head-fits : SFits w64 (s .base +ℤ pos (place s i / s .per))
   head-fits =
-      fits (s .base +ℤ pos (place s i / s .per)) (up (s .base) + place s i / s .per) (dn (s .base)) (omega (arith, add (s .base) (pos (place s i / s .per))))
+      fits (s .base +ℤ pos (place s i / s .per)) (up (s .base) + place s i / s .per) (dn (s .base))
+      (omega (arith, add (s .base) (pos (place s i / s .per))))
       (omega (arith, head-small, up-base (s .base) (S .base))) (omega (arith, dn-base (s .base) (S .base)))

@@ -14,7 +14,8 @@ use Rattle.laws.proofs.Tests.{and-false}
 use Rattle.values.specs.Values.{isValue}
 use Rattle.text_read.specs.Fields.{untilOf, fieldOf, readNumber, readDate, readStamp}
 use Rattle.text_read.specs.declared.NumberField.{NumberField}
-use Rattle.text_line.specs.Line.{sameAs, kinds, placeIn, kindOf, countOf, inForm, restOf, unreal, ofDate, ofStamp, ofSpan, valueOf, allOf, requestOf, readLine}
+use Rattle.text_line.specs.Line.{sameAs, kinds, placeIn, kindOf, countOf, inForm, restOf, unreal, ofDate}
+use Rattle.text_line.specs.Line.{ofStamp, ofSpan, valueOf, allOf, requestOf, readLine}
 use Rattle.text_line.specs.declared.ValueField.{ValueField}
 use Rattle.text_line.specs.declared.Line.{Line}
 use Rattle.text_line.specs.declared.Line.the-variants as line
@@ -118,7 +119,8 @@ unfolding readLine
 line-not s e = rw e
 
 -- the six fields as they are handed on
-pub line-all : (r : Line) (s a b c d e : List ℕ) (k : ℕ) (x y : ValueField) (n l h : NumberField) → r ≡ requestOf k x y n l h → inForm s ≡ true
+pub line-all : (r : Line) (s a b c d e : List ℕ) (k : ℕ) (x y : ValueField) (n l h : NumberField) → r ≡ requestOf k x y n l h
+    → inForm s ≡ true
     → a ≡ restOf s → b ≡ restOf a → c ≡ restOf b → d ≡ restOf c → e ≡ restOf d
     → k ≡ kindOf (fieldOf s) → x ≡ valueOf k a → y ≡ valueOf k b → n ≡ readNumber c → l ≡ readNumber d → h ≡ readNumber e
     → r ≡ readLine s

@@ -129,7 +129,14 @@ valueOf kind s = cond (leb kind 3) (ofDate (readDate s)) (cond (leb kind 6) (ofS
 
 -- ---- the line
 abbrev pub axisOf : ℕ → Value → Value → Axis
-axisOf kind a b = record { kind = pos kind; «start_head» = a .head; «start_tail» = a .tail; «end_head» = b .head; «end_tail» = b .tail }
+axisOf kind a b = record {
+  kind = pos kind;
+  «start_head» = a .head;
+  «start_tail» = a .tail;
+  «end_head» = b .head;
+  «end_tail» =
+      b .tail;
+}
 
 abbrev pub request : ℕ → Value → Value → ℤ → ℤ → ℤ → Request
 request kind a b n l h = record { axis = axisOf kind a b; hint = record { n = n }; limits = record { low = l; high = h } }

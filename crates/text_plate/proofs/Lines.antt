@@ -99,7 +99,8 @@ goes-long (suc n) s t h k = refl
 ended-long : (n : ℕ) (s t : List ℕ) → 120 < length s → 120 < length t → endedText n s ≡ endedText n t
 unfolding endedText
 ended-long zero s t h k = refl
-ended-long (suc n) s t h k = ended-some (suc n) s (λ e. omega arith) (λ e. omega arith) ∙ sym (ended-some (suc n) t (λ e. omega arith) (λ e. omega arith))
+ended-long (suc n) s t h k = ended-some (suc n) s (λ e. omega arith) (λ e. omega arith)
+    ∙ sym (ended-some (suc n) t (λ e. omega arith) (λ e. omega arith))
 
 module _ (n : ℕ) (a b : List ℕ) (e : take 121 a ≡ take 121 b) where
   pub finished-same : finishedText n a ≡ finishedText n b

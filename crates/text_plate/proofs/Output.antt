@@ -30,34 +30,46 @@ same-more a b q e = sym (take-front 121 a q) ∙ (ap (λ (l : List ℕ). take 12
 same-to-come : (s : List ℕ) (n : ℕ) (a b : List ℕ) → take 121 a ≡ take 121 b → toCome n a s ≡ toCome n b s
 unfolding toCome
 same-to-come [] n a b e = ended-same n a b e
-same-to-come (x ∷ s) n a b e = rw (finished-same n a b e, goes-same n a b e, same-to-come s n (a ++ (x ∷ [])) (b ++ (x ∷ [])) (same-more a b (x ∷ []) e))
+same-to-come (x ∷ s) n a b e = rw (
+  finished-same n a b e,
+  goes-same n a b e,
+  same-to-come s n (a ++ (x ∷ [])) (b ++ (x ∷ []))
+      (same-more a b (x ∷ []) e),
+)
 
 -- ---- a chunk with no LF, and one up to its first LF
-no-end : (chunk : List ℕ) (n : ℕ) (begun more : List ℕ) → length chunk ≤ untilOf 10 chunk → toCome n begun (chunk ++ more) ≡ toCome n (begun ++ chunk) more
+no-end : (chunk : List ℕ) (n : ℕ) (begun more : List ℕ) → length chunk ≤ untilOf 10 chunk → toCome n begun (chunk ++ more)
+    ≡ toCome n (begun ++ chunk) more
 unfolding toCome untilOf
 no-end [] n begun more h = ap (λ (l : List ℕ). toCome n l more) (sym (append-nil begun))
 no-end (x ∷ s) n begun more h = go (eqb x 10) h (λ l. no-end s n (begun ++ (x ∷ [])) more l)
   where
     go : (t : Bool) → suc (length s) ≤ cond t 0 (suc (untilOf 10 s))
         → (length s ≤ untilOf 10 s → toCome n (begun ++ (x ∷ [])) (s ++ more) ≡ toCome n ((begun ++ (x ∷ [])) ++ s) more)
-        → cond t (finishedText n begun ++ cond (goesOn n begun) (toCome (suc n) [] (s ++ more)) []) (toCome n (begun ++ (x ∷ [])) (s ++ more)) ≡ toCome n (begun ++ (x ∷ s)) more
+        → cond t (finishedText n begun ++ cond (goesOn n begun) (toCome (suc n) [] (s ++ more)) [])
+        (toCome n (begun ++ (x ∷ [])) (s ++ more)) ≡ toCome n (begun ++ (x ∷ s)) more
     go true l again = absurd (let z : ⊥ = omega arith in z)
     go false l again = again (omega arith) ∙ ap (λ (b : List ℕ). toCome n b more) (append-assoc begun (x ∷ []) s)
 
 abbrev afterLine : ℕ → List ℕ → List ℕ → List ℕ
 afterLine n line rest = finishedText n line ++ cond (goesOn n line) (toCome (suc n) [] rest) []
 
-to-end : (chunk : List ℕ) (n : ℕ) (begun more : List ℕ) → untilOf 10 chunk < length chunk → toCome n begun (chunk ++ more) ≡ afterLine n (begun ++ take (untilOf 10 chunk) chunk) (drop (suc (untilOf 10 chunk)) chunk ++ more)
+to-end : (chunk : List ℕ) (n : ℕ) (begun more : List ℕ) → untilOf 10 chunk < length chunk → toCome n begun (chunk ++ more)
+    ≡ afterLine n (begun ++ take (untilOf 10 chunk) chunk) (drop (suc (untilOf 10 chunk)) chunk ++ more)
 unfolding toCome untilOf
 to-end [] n begun more h = absurd (let z : ⊥ = omega arith in z)
 to-end (x ∷ s) n begun more h = go (eqb x 10) h (λ l. to-end s n (begun ++ (x ∷ [])) more l)
   where
     go : (t : Bool) → cond t 0 (suc (untilOf 10 s)) < suc (length s)
-        → (untilOf 10 s < length s → toCome n (begun ++ (x ∷ [])) (s ++ more) ≡ afterLine n ((begun ++ (x ∷ [])) ++ take (untilOf 10 s) s) (drop (suc (untilOf 10 s)) s ++ more))
-        → cond t (finishedText n begun ++ cond (goesOn n begun) (toCome (suc n) [] (s ++ more)) []) (toCome n (begun ++ (x ∷ [])) (s ++ more))
-        ≡ afterLine n (begun ++ take (cond t 0 (suc (untilOf 10 s))) (x ∷ s)) (drop (suc (cond t 0 (suc (untilOf 10 s)))) (x ∷ s) ++ more)
+        → (untilOf 10 s < length s → toCome n (begun ++ (x ∷ [])) (s ++ more)
+        ≡ afterLine n ((begun ++ (x ∷ [])) ++ take (untilOf 10 s) s) (drop (suc (untilOf 10 s)) s ++ more))
+        → cond t (finishedText n begun ++ cond (goesOn n begun) (toCome (suc n) [] (s ++ more)) [])
+        (toCome n (begun ++ (x ∷ [])) (s ++ more))
+        ≡ afterLine n (begun ++ take (cond t 0 (suc (untilOf 10 s))) (x ∷ s)) (drop (suc (cond t 0 (suc (untilOf 10 s))))
+        (x ∷ s) ++ more)
     go true l again = rw (append-nil begun)
-    go false l again = again (omega arith) ∙ ap (λ (b : List ℕ). afterLine n b (drop (suc (untilOf 10 s)) s ++ more)) (append-assoc begun (x ∷ []) (take (untilOf 10 s) s))
+    go false l again = again (omega arith) ∙ ap (λ (b : List ℕ). afterLine n b (drop (suc (untilOf 10 s)) s ++ more))
+        (append-assoc begun (x ∷ []) (take (untilOf 10 s) s))
 
 -- ---- a turn
 take-twice : (n : ℕ) (s : List ℕ) → take n (take n s) ≡ take n s
@@ -81,11 +93,13 @@ module _ (begun chunk : List ℕ) (f : Fed) (after : List ℕ) (h : Ate begun ch
       rw none (no-end chunk n begun more l ∙ same-to-come more n (begun ++ chunk) (take (f .len) after) (rw all at same-line))
 
   -- it has one: the line is finished
-  pub turn-end : f .ended ≡ true → toCome n begun (chunk ++ more) ≡ afterLine n (take (f .len) after) (drop (f .used) chunk ++ more)
+  pub turn-end : f .ended ≡ true → toCome n begun (chunk ++ more) ≡ afterLine n (take (f .len) after)
+      (drop (f .used) chunk ++ more)
   turn-end e =
       let t = sym (h .ended) ∙ e in
       let l : untilOf 10 chunk < length chunk = ltb-true (untilOf 10 chunk) (length chunk) t in
-      let u : f .used ≡ suc (untilOf 10 chunk) = h .used ∙ (ap (λ (b : Bool). cond b (untilOf 10 chunk + 1) (untilOf 10 chunk)) t ∙ add-one (untilOf 10 chunk)) in
+      let u : f .used ≡ suc (untilOf 10 chunk) =
+      h .used ∙ (ap (λ (b : Bool). cond b (untilOf 10 chunk + 1) (untilOf 10 chunk)) t ∙ add-one (untilOf 10 chunk)) in
       let line = begun ++ take (untilOf 10 chunk) chunk in
       to-end chunk n begun more l
       ∙ rw (u, finished-same n line (take (f .len) after) same-line, goes-same n line (take (f .len) after) same-line)
@@ -96,7 +110,13 @@ most = 18446744073709551615
 
 module _ (s : State) (kept chunk : List ℕ) (f : Fed) (after : List ℕ) (h : Ate (take (s .len) kept) chunk f after) where
   pub turned-on : (out : List ℕ) → f .ended ≡ false
-      → Turned s kept chunk (record { state = record { number = s .number; len = f .len }; goes = true; used = f .used; written = 0 }) after out
+      → Turned s kept chunk (record {
+        state = record { number = s .number; len = f .len };
+        goes = true;
+        used =
+            f .used;
+        written = 0;
+      }) after out
   turned-on out e =
       let u = used-some (take (s .len) kept) chunk f after h in
       record {
@@ -141,11 +161,13 @@ no-front-left : (ls : List (List ℕ)) (left : List ℕ) → frontLeft [] ls lef
 no-front-left [] left = refl
 no-front-left (l ∷ ls) left = refl
 
-one-more : (p : List ℕ) (b : ℕ) (ls : List (List ℕ)) (left : List ℕ) → frontLines (p ++ (b ∷ [])) ls ≡ frontLines p (joined b ls left .lines)
+one-more : (p : List ℕ) (b : ℕ) (ls : List (List ℕ)) (left : List ℕ) → frontLines (p ++ (b ∷ [])) ls
+    ≡ frontLines p (joined b ls left .lines)
 one-more p b [] left = refl
 one-more p b (l ∷ ls) left = ap (λ (x : List ℕ). x ∷ ls) (append-assoc p (b ∷ []) l)
 
-one-more-left : (p : List ℕ) (b : ℕ) (ls : List (List ℕ)) (left : List ℕ) → frontLeft (p ++ (b ∷ [])) ls left ≡ frontLeft p (joined b ls left .lines) (joined b ls left .left)
+one-more-left : (p : List ℕ) (b : ℕ) (ls : List (List ℕ)) (left : List ℕ) → frontLeft (p ++ (b ∷ [])) ls left
+    ≡ frontLeft p (joined b ls left .lines) (joined b ls left .left)
 one-more-left p b [] left = append-assoc p (b ∷ []) left
 one-more-left p b (l ∷ ls) left = refl
 
@@ -173,8 +195,10 @@ unfolding toCome cut finishedText goesOn
 lines-come [] n p = at-end n p
 lines-come (b ∷ s) n p = go (eqb b 10) (lines-come s (suc n) []) (lines-come s n (p ++ (b ∷ [])))
   where
-    go : (t : Bool) → toCome (suc (suc n)) [] s ≡ linesOf (suc (suc n)) [] (cut s) → toCome (suc n) (p ++ (b ∷ [])) s ≡ linesOf (suc n) (p ++ (b ∷ [])) (cut s)
-        → cond t (rowsOf (suc n) p ++ toCome (suc (suc n)) [] s) (toCome (suc n) (p ++ (b ∷ [])) s) ≡ linesOf (suc n) p (cond t (lineEnded (cut s)) (joined b (cut s .lines) (cut s .left)))
+    go : (t : Bool) → toCome (suc (suc n)) [] s ≡ linesOf (suc (suc n)) [] (cut s) → toCome (suc n) (p ++ (b ∷ [])) s
+        ≡ linesOf (suc n) (p ++ (b ∷ [])) (cut s)
+        → cond t (rowsOf (suc n) p ++ toCome (suc (suc n)) [] s) (toCome (suc n) (p ++ (b ∷ [])) s) ≡ linesOf (suc n) p
+        (cond t (lineEnded (cut s)) (joined b (cut s .lines) (cut s .left)))
     go true x y = ap (λ (l : List ℕ). rowsOf (suc n) p ++ l) x ∙ new-line (suc n) p (cut s)
     go false x y = y ∙ same-lines (suc n) p b (cut s)
 
@@ -182,10 +206,12 @@ lines-come (b ∷ s) n p = go (eqb b 10) (lines-come s (suc n) []) (lines-come s
 abbrev plateFrom : List ℕ → Cut → List ℕ
 plateFrom p c = plateText (frontLines p (c .lines)) (frontLeft p (c .lines) (c .left))
 
-names-line : (p : List ℕ) (c : Cut) → cond (isNames p) outputNames noNames ++ cond (isNames p) (linesOf 1 [] c) [] ≡ plateFrom p (lineEnded c)
+names-line : (p : List ℕ) (c : Cut) → cond (isNames p) outputNames noNames ++ cond (isNames p) (linesOf 1 [] c) []
+    ≡ plateFrom p (lineEnded c)
 names-line p c = rw (no-front (c .lines), no-front-left (c .lines) (c .left), append-nil p) (go (isNames p))
   where
-    go : (t : Bool) → cond t outputNames noNames ++ cond t (linesText 1 (c .lines) (c .left)) [] ≡ cond t (outputNames ++ linesText 1 (c .lines) (c .left)) noNames
+    go : (t : Bool) → cond t outputNames noNames ++ cond t (linesText 1 (c .lines) (c .left)) []
+        ≡ cond t (outputNames ++ linesText 1 (c .lines) (c .left)) noNames
     go true = refl
     go false = append-nil noNames
 
@@ -198,7 +224,8 @@ names-come [] p = refl
 names-come (b ∷ s) p = go (eqb b 10) (lines-come s 0 []) (names-come s (p ++ (b ∷ [])))
   where
     go : (t : Bool) → toCome 1 [] s ≡ linesOf 1 [] (cut s) → toCome 0 (p ++ (b ∷ [])) s ≡ plateFrom (p ++ (b ∷ [])) (cut s)
-        → cond t (cond (isNames p) outputNames noNames ++ cond (isNames p) (toCome 1 [] s) []) (toCome 0 (p ++ (b ∷ [])) s) ≡ plateFrom p (cond t (lineEnded (cut s)) (joined b (cut s .lines) (cut s .left)))
+        → cond t (cond (isNames p) outputNames noNames ++ cond (isNames p) (toCome 1 [] s) []) (toCome 0 (p ++ (b ∷ [])) s)
+        ≡ plateFrom p (cond t (lineEnded (cut s)) (joined b (cut s .lines) (cut s .left)))
     go true x y = rw x (names-line p (cut s))
     go false x y = y ∙ same-names p b (cut s)
 

@@ -14,7 +14,8 @@ at-end : (n : ℕ) (begun : List ℕ) → toCome n begun [] ≡ endedText n begu
 unfolding toCome
 at-end n begun = refl
 
-pub prints : {s : State} {kept input printed : List ℕ} → Prints s kept input printed → printed ≡ toCome (s .number) (take (s .len) kept) input
+pub prints : {s : State} {kept input printed : List ℕ} → Prints s kept input printed →
+    printed ≡ toCome (s .number) (take (s .len) kept) input
 prints (more rest l t e p) =
     sym (t .output l rest ∙ rw (e, ← prints p))
 prints (last {s} {kept} {chunk} {after} {out} {r} rest l t e) =

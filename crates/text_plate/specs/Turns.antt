@@ -51,4 +51,5 @@ pub record Turned (s : State) (kept chunk : List ℕ) (r : Taken) (after out : L
   pub room : r .written ≤ length out
   pub output : s .number < 18446744073709551615 → (more : List ℕ)
       → toCome (s .number) (take (s .len) kept) (chunk ++ more)
-      ≡ take (r .written) out ++ cond (r .goes) (toCome (r .state .number) (take (r .state .len) after) (drop (r .used) chunk ++ more)) []
+      ≡ take (r .written) out ++ cond (r .goes) (toCome (r .state .number) (take (r .state .len) after)
+      (drop (r .used) chunk ++ more)) []

@@ -37,7 +37,8 @@ module _ (s : List ℕ) (i : ℕ) (h : i < length s) where
   unfolding untilOf
   until-on c e = rw (drop-cons s i 0 h, ne-eqb _ _ e, add-one i)
 
-  pub digit-on : (n : ℕ) → isDigit (getD s i 0) ≡ true → digitsFrom n (drop i s) ≡ digitsFrom (n * 10 + (getD s i 0 - 48)) (drop (i + 1) s)
+  pub digit-on : (n : ℕ) → isDigit (getD s i 0) ≡ true → digitsFrom n (drop i s) ≡ digitsFrom (n * 10 + (getD s i 0 - 48))
+      (drop (i + 1) s)
   unfolding digitsFrom
   digit-on n e = rw (drop-cons s i 0 h, e, add-one i)
 
@@ -90,16 +91,19 @@ not-read m e = let z : _≡_ {A = ℕ} 0 1 = cc in omega arith
 
 digits-bound : (s : List ℕ) (n i k m : ℕ) → n < 10 ^ i → i + length s ≤ k → digitsFrom n s ≡ whole.Value m → m < 10 ^ k
 unfolding digitsFrom
-digits-bound [] n i k m h l e = let q : n ≡ m = cc in let p : 10 ^ i ≤ 10 ^ k = pow-le-pow-right (lit< tt) (omega arith) in omega arith
+digits-bound [] n i k m h l e = let q : n ≡ m = cc in let p : 10 ^ i ≤ 10 ^ k = pow-le-pow-right (lit< tt) (omega arith) in
+    omega arith
 digits-bound (b ∷ s) n i k m h l e =
     let q = chosen (isDigit b) (digitsFrom (n * 10 + (b - 48)) s) whole.Unread (whole.Value m) (not-read m) e in
-    digits-bound s (n * 10 + (b - 48)) (i + 1) k m (grow n (b - 48) i h (omega (arith, digit-value b (q .0)))) (omega arith) (q .1)
+    digits-bound s (n * 10 + (b - 48)) (i + 1) k m (grow n (b - 48) i h (omega (arith, digit-value b (q .0)))) (omega arith)
+    (q .1)
 
 -- what reads has at most 12 digits
 digits-length : (s : List ℕ) (m : ℕ) → digitsOf s ≡ whole.Value m → (length s ≤ 12) × (digitsFrom 0 s ≡ whole.Value m)
 unfolding digitsOf
 digits-length s m e =
-    let p = skipped (ltb (length s) 1) whole.Unread (cond (ltb 12 (length s)) whole.Unread (digitsFrom 0 s)) (whole.Value m) (not-read m) e in
+    let p = skipped (ltb (length s) 1) whole.Unread (cond (ltb 12 (length s)) whole.Unread (digitsFrom 0 s)) (whole.Value m)
+    (not-read m) e in
     let q = skipped (ltb 12 (length s)) whole.Unread (digitsFrom 0 s) (whole.Value m) (not-read m) (p .1) in
     (ltb-false 12 (length s) (q .0), q .1)
 
@@ -149,7 +153,8 @@ module _ (s : List ℕ) (w sep : ℕ) where
   triple-second h k = rw (eq-eqb _ _ h, ne-eqb _ _ k)
 
   pub triple-all : getD s w 0 ≡ sep → getD s (w + 3) 0 ≡ sep
-      → tripleOf w sep s ≡ threeOf (digitsOf (take w s)) (digitsOf (take ((w + 3) - (w + 1)) (drop (w + 1) s))) (digitsOf (take ((w + 6) - (w + 4)) (drop (w + 4) s)))
+      → tripleOf w sep s ≡ threeOf (digitsOf (take w s)) (digitsOf (take ((w + 3) - (w + 1)) (drop (w + 1) s)))
+      (digitsOf (take ((w + 6) - (w + 4)) (drop (w + 4) s)))
   unfolding tripleOf
   triple-all h k =
       let two : (w + 3) - (w + 1) ≡ 2 = omega arith in
@@ -173,14 +178,17 @@ module _ (s : List ℕ) where
   unfolding readStamp
   stamp-no-t h k = rw (eq-eqb _ _ h, ne-eqb _ _ k)
 
-  pub stamp-is : untilOf 32 s ≡ 19 → getD s 10 0 ≡ 84 → readStamp s ≡ stampOf (tripleOf 4 45 s) (tripleOf 2 58 (take 8 (drop 11 s)))
+  pub stamp-is : untilOf 32 s ≡ 19 → getD s 10 0 ≡ 84 → readStamp s ≡ stampOf (tripleOf 4 45 s)
+      (tripleOf 2 58 (take 8 (drop 11 s)))
   unfolding readStamp
   stamp-is h k = rw (eq-eqb _ _ h, eq-eqb _ _ k)
 
 -- ---- how many digits the numbers of a date have
-three-read : (a b c : Whole) (x y z : ℕ) → threeOf a b c ≡ three.Of x y z → (a ≡ whole.Value x) × ((b ≡ whole.Value y) × (c ≡ whole.Value z))
+three-read : (a b c : Whole) (x y z : ℕ) → threeOf a b c ≡ three.Of x y z → (a ≡ whole.Value x)
+    × ((b ≡ whole.Value y) × (c ≡ whole.Value z))
 three-read (whole.Value a) (whole.Value b) (whole.Value c) x y z e = (cc, (cc, cc))
-three-read (whole.Value a) (whole.Value b) whole.Unread x y z e = let f : _≡_ {A = ℕ} 0 1 = cc in absurd (let w : ⊥ = omega arith in w)
+three-read (whole.Value a) (whole.Value b) whole.Unread x y z e = let f : _≡_ {A = ℕ} 0 1 = cc in
+    absurd (let w : ⊥ = omega arith in w)
 three-read (whole.Value a) whole.Unread c x y z e = let f : _≡_ {A = ℕ} 0 1 = cc in absurd (let w : ⊥ = omega arith in w)
 three-read whole.Unread b c x y z e = let f : _≡_ {A = ℕ} 0 1 = cc in absurd (let w : ⊥ = omega arith in w)
 
@@ -195,10 +203,12 @@ unfolding tripleOf
 triple-read w sep s x y z e =
     let p = chosen (eqb (getD s w 0) sep) _ three.Unread (three.Of x y z) (none-of x y z) e in
     let q = chosen (eqb (getD s (w + 3) 0) sep) _ three.Unread (three.Of x y z) (none-of x y z) (p .1) in
-    let (a, (b, c)) = three-read (digitsOf (take w s)) (digitsOf (take 2 (drop (w + 1) s))) (digitsOf (take 2 (drop (w + 4) s))) x y z (q .1) in
+    let (a, (b, c)) = three-read (digitsOf (take w s)) (digitsOf (take 2 (drop (w + 1) s)))
+    (digitsOf (take 2 (drop (w + 4) s))) x y z (q .1) in
     (front-below w s x a, (front-below 2 (drop (w + 1) s) y b, front-below 2 (drop (w + 4) s) z c))
 
-by-date : (t : Three) (d : Day) → ((x y z : ℕ) → t ≡ three.Of x y z → (x < 10000) × ((y < 100) × (z < 100))) → dateOf t ≡ date.Read d → Typed d
+by-date : (t : Three) (d : Day) → ((x y z : ℕ) → t ≡ three.Of x y z → (x < 10000) × ((y < 100) × (z < 100))) →
+    dateOf t ≡ date.Read d → Typed d
 by-date (three.Of x y z) d f e =
     let same : record { year = x; month = y; day = z } ≡ d = cc in
     let (a, (b, c)) = f x y z refl in
@@ -208,10 +218,12 @@ by-date three.Unread d f e = let g : _≡_ {A = ℕ} 0 1 = cc in absurd (let w :
 pub date-typed : (s : List ℕ) (d : Day) → readDate s ≡ date.Read d → Typed d
 unfolding readDate
 date-typed s d e =
-    let p = chosen (eqb (untilOf 32 s) 10) (dateOf (tripleOf 4 45 s)) date.Unread (date.Read d) (λ n. let g : _≡_ {A = ℕ} 0 1 = cc in omega arith) e in
+    let p = chosen (eqb (untilOf 32 s) 10) (dateOf (tripleOf 4 45 s)) date.Unread (date.Read d)
+    (λ n. let g : _≡_ {A = ℕ} 0 1 = cc in omega arith) e in
     by-date (tripleOf 4 45 s) d (triple-read 4 45 s) (p .1)
 
-by-stamp : (t u : Three) (m : Moment) → ((x y z : ℕ) → t ≡ three.Of x y z → (x < 10000) × ((y < 100) × (z < 100))) → stampOf t u ≡ stamp.Read m → Typed (m .date)
+by-stamp : (t u : Three) (m : Moment) → ((x y z : ℕ) → t ≡ three.Of x y z → (x < 10000) × ((y < 100) × (z < 100))) →
+    stampOf t u ≡ stamp.Read m → Typed (m .date)
 by-stamp (three.Of x y z) (three.Of h n c) m f e =
     let same : record { date = record { year = x; month = y; day = z }; hour = h; minute = n; second = c } ≡ m = cc in
     let (a, (b, c)) = f x y z refl in
@@ -223,5 +235,6 @@ pub stamp-typed : (s : List ℕ) (m : Moment) → readStamp s ≡ stamp.Read m �
 unfolding readStamp
 stamp-typed s m e =
     let p = chosen (eqb (untilOf 32 s) 19) _ stamp.Unread (stamp.Read m) (λ n. let g : _≡_ {A = ℕ} 0 1 = cc in omega arith) e in
-    let q = chosen (eqb (getD s 10 0) 84) _ stamp.Unread (stamp.Read m) (λ n. let g : _≡_ {A = ℕ} 0 1 = cc in omega arith) (p .1) in
+    let q = chosen (eqb (getD s 10 0) 84) _ stamp.Unread (stamp.Read m) (λ n. let g : _≡_ {A = ℕ} 0 1 = cc in
+    omega arith) (p .1) in
     by-stamp (tripleOf 4 45 s) (tripleOf 2 58 (take 8 (drop 11 s))) m (triple-read 4 45 s) (q .1)

@@ -44,7 +44,8 @@ module _ (number : ℕ) (a : Axis) (l : Limits) (list : List ℤ) where
   unfolding ticksText
   no-ticks = refl
 
-  pub one-more : (k : ℕ) → ticksText number a l list (k + 1) ≡ ticksText number a l list k ++ rowText number (a .kind) (valueAt list k) (mapped a l (valueAt list k))
+  pub one-more : (k : ℕ) → ticksText number a l list (k + 1) ≡ ticksText number a l list k ++ rowText number (a .kind)
+      (valueAt list k) (mapped a l (valueAt list k))
   unfolding ticksText
   one-more k = rw (add-one k)
 
@@ -88,17 +89,22 @@ module _ (a : Axis) (h : BoldPoints) (d : List ℤ) (c : ℕ) (e : ticksAnswer a
       let q : Accepted a (up (h .n)) = listing-accepted a (bold h) accepted in
       let f = handed-fine in
       record {
-        ticks = λ i k. record { day = λ x. on-day a (limit (bold h)) (q .real) (ticksHanded a (bold h) (length d)) f i (omega arith) x };
+        ticks = λ i k. record {
+          day = λ x. on-day a (limit (bold h)) (q .real) (ticksHanded a (bold h) (length d)) f i
+              (omega arith) x;
+        };
         most = omega (arith, f .few, q .most);
       }
 
 -- ---- the lines that answer a request, and a line
 module _ (number : ℕ) (q : Request) where
-  pub request-refused : (n : ℕ) → ticksAnswer (q .axis) (bold (q .hint)) 8194 ≡ Refused n → requestText number q ≡ refusalText number n
+  pub request-refused : (n : ℕ) → ticksAnswer (q .axis) (bold (q .hint)) 8194 ≡ Refused n → requestText number q
+      ≡ refusalText number n
   unfolding requestText
   request-refused n e = rw e
 
-  pub request-listed : (c : ℕ) → ticksAnswer (q .axis) (bold (q .hint)) 8194 ≡ Ticks c → requestText number q ≡ listText number (q .axis) (q .limits) (ticksHanded (q .axis) (bold (q .hint)) 8194)
+  pub request-listed : (c : ℕ) → ticksAnswer (q .axis) (bold (q .hint)) 8194 ≡ Ticks c → requestText number q
+      ≡ listText number (q .axis) (q .limits) (ticksHanded (q .axis) (bold (q .hint)) 8194)
   unfolding requestText
   request-listed c e = rw e
 

@@ -16,7 +16,8 @@ module _ (kind : ℤ) (v : Value) where
   unfolding tickText
   tick-date e = rw e
 
-  pub tick-date-time : leZ kind (pos 3) ≡ false → leZ kind (pos 6) ≡ true → tickText kind v ≡ dateTimeText (up (v .head)) (up (v .tail))
+  pub tick-date-time : leZ kind (pos 3) ≡ false → leZ kind (pos 6) ≡ true → tickText kind v ≡ dateTimeText (up (v .head))
+      (up (v .tail))
   unfolding tickText
   tick-date-time e f = rw (e, f)
 

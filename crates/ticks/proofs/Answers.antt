@@ -17,7 +17,8 @@ use Rattle.steps.proofs.Fronts.{within-lent, front-is}
 use Rattle.plans.specs.Times.{periodIn}
 use Rattle.ticks.specs.declared.PeriodAnswer.the-variants as period
 use Rattle.ticks.specs.Hints.{Hint, planFor}
-use Rattle.ticks.specs.Answers.{tickQuestions, answered, written, handed, ticksAnswer, ticksWritten, ticksHanded, periodQuestions, periodReply, periodAnswer}
+use Rattle.ticks.specs.Answers.{tickQuestions, answered, written, handed, ticksAnswer, ticksWritten}
+use Rattle.ticks.specs.Answers.{ticksHanded, periodQuestions, periodReply, periodAnswer}
 
 no-answer : (q : ℕ) (s : Steps) (k : ℕ) → (q ≡ 0 → ⊥) → answered q s k ≡ Refused q
 no-answer zero s k h = absurd (h refl)
@@ -63,7 +64,8 @@ module _ (a : Axis) (h : Hint) where
   unfolding ticksAnswer ticksWritten ticksHanded
   handed-is d = go (firstNo (tickQuestions a h))
     where
-      go : (q : ℕ) → take (2 * countOf (answered q (planFor a h) (length d))) (written q (planFor a h) d) ≡ handed q (planFor a h) (length d)
+      go : (q : ℕ) → take (2 * countOf (answered q (planFor a h) (length d))) (written q (planFor a h) d)
+          ≡ handed q (planFor a h) (length d)
       go zero = front-is (planFor a h) d
       go (suc q) = refl
 

@@ -43,7 +43,8 @@ kind-is k m e = let r = within-true m k m e in same m k (omega arith)
 coarse : (a : Axis) → monthly a || yearly a ≡ true → Coarse (a .kind)
 unfolding monthly yearly
 coarse a e =
-    elim (either-true (within (pos 2) (a .kind) (pos 2) || within (pos 5) (a .kind) (pos 5)) (within (pos 3) (a .kind) (pos 3) || within (pos 6) (a .kind) (pos 6)) e) [
+    elim (either-true (within (pos 2) (a .kind) (pos 2) || within (pos 5) (a .kind) (pos 5)) (within (pos 3) (a .kind) (pos 3)
+    || within (pos 6) (a .kind) (pos 6)) e) [
       | inl x ↦
           elim (either-true (within (pos 2) (a .kind) (pos 2)) (within (pos 5) (a .kind) (pos 5)) x) [
             | inl y ↦ subst (λ (k : ℤ). Coarse k) (kind-is (a .kind) (pos 2) y) two
@@ -148,11 +149,22 @@ module _ (a : Axis) (b : ℕ) where
   goes-finer e h = rw (e, le-leb (size a) (2 * b) h)
 
 -- ---- what no refusal says
-pub bold-accepted : (a : Axis) (h : BoldPoints) → firstNo (tickQuestions a (bold h)) ≡ 0 → Accepted a (up (h .n)) × (dn (h .n) ≡ 0)
+pub bold-accepted : (a : Axis) (h : BoldPoints) → firstNo (tickQuestions a (bold h)) ≡ 0 → Accepted a (up (h .n))
+    × (dn (h .n) ≡ 0)
 bold-accepted a h e =
     let row = tickQuestions a (bold h) in
-    let r = bold-range a h (told 6 row tt e) in
-    (record { kind = told 1 row tt e; real = told 3 row tt e; order = told 4 row tt e; near = told 5 row tt e; most = r .most; some = r .some }, r .none-below)
+    let r = bold-range a h (told 6 row tt e) in (
+      record {
+        kind = told 1 row tt e;
+        real = told 3 row tt e;
+        order = told 4 row tt e;
+        near = told 5 row tt e;
+        most =
+            r .most;
+        some = r .some;
+      },
+      r .none-below,
+    )
 
 pub record LightAccepted (a : Axis) (h : LightPoints) : Type 0 where
   pub axis : Accepted a (up (h .n))
@@ -165,17 +177,37 @@ light-accepted a h e =
     let row = tickQuestions a (light h) in
     let (r, z, m) = light-range a h (told 6 row tt e) in
     record {
-      axis = record { kind = told 1 row tt e; real = told 3 row tt e; order = told 4 row tt e; near = told 5 row tt e; most = r .most; some = r .some };
+      axis = record {
+        kind = told 1 row tt e;
+        real = told 3 row tt e;
+        order = told 4 row tt e;
+        near = told 5 row tt e;
+        most =
+            r .most;
+        some = r .some;
+      };
       limit-dn = r .none-below;
       bold-dn = z;
       bold-most = m;
     }
 
-pub period-accepted : (a : Axis) (h : BoldPoints) → firstNo (periodQuestions a h) ≡ 0 → Accepted a (up (h .n)) × (hasPeriod a ≡ true) × (dn (h .n) ≡ 0)
+pub period-accepted : (a : Axis) (h : BoldPoints) → firstNo (periodQuestions a h) ≡ 0 → Accepted a (up (h .n))
+    × (hasPeriod a ≡ true) × (dn (h .n) ≡ 0)
 period-accepted a h e =
     let row = periodQuestions a h in
-    let r = bold-range a h (told 6 row tt e) in
-    (record { kind = told 1 row tt e; real = told 3 row tt e; order = told 4 row tt e; near = told 5 row tt e; most = r .most; some = r .some }, told 2 row tt e, r .none-below)
+    let r = bold-range a h (told 6 row tt e) in (
+      record {
+        kind = told 1 row tt e;
+        real = told 3 row tt e;
+        order = told 4 row tt e;
+        near = told 5 row tt e;
+        most =
+            r .most;
+        some = r .some;
+      },
+      told 2 row tt e,
+      r .none-below,
+    )
 
 -- either hint: the axis that lists
 pub listing-accepted : (a : Axis) (h : hints.Hint) → firstNo (tickQuestions a h) ≡ 0 → Accepted (listing a h) (limit h)

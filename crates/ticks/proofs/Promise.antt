@@ -37,10 +37,13 @@ module _ (a : Axis) (h : Hint) (z : firstNo (tickQuestions a h) ≡ 0) where
       (subst (λ (v : Value). Fine (limit h) (tick (start (listing a h))) (tick v) (ticks (planFor a h))) e (good .fine))
 
 -- the ticks that are read from the lent numbers after an accepted call
-pub list-fine : (a : Axis) (h : Hint) (d : List ℤ) (c : ℕ) → ticksAnswer a h (length d) ≡ Ticks c → Fine (limit h) (tick (start a)) (tick (end a)) (take (2 * c) (ticksWritten a h d))
+pub list-fine : (a : Axis) (h : Hint) (d : List ℤ) (c : ℕ) → ticksAnswer a h (length d) ≡ Ticks c →
+    Fine (limit h) (tick (start a)) (tick (end a)) (take (2 * c) (ticksWritten a h d))
 unfolding ticksAnswer ticksWritten
 list-fine a h d c = go (firstNo (tickQuestions a h)) (plan-fine a h)
   where
-    go : (q : ℕ) → (q ≡ 0 → Fine (limit h) (tick (start a)) (tick (end a)) (ticks (planFor a h))) → answered q (planFor a h) (length d) ≡ Ticks c → Fine (limit h) (tick (start a)) (tick (end a)) (take (2 * c) (written q (planFor a h) d))
+    go : (q : ℕ) → (q ≡ 0 → Fine (limit h) (tick (start a)) (tick (end a)) (ticks (planFor a h))) →
+        answered q (planFor a h) (length d) ≡ Ticks c → Fine (limit h) (tick (start a)) (tick (end a))
+        (take (2 * c) (written q (planFor a h) d))
     go zero f e = read-fine (planFor a h) d (limit h) c (tick (start a)) (tick (end a)) (f refl) e
     go (suc q) f e = let w : _≡_ {A = ℕ} 0 1 = cc in absurd (let x : ⊥ = omega arith in x)

@@ -38,7 +38,11 @@ answer-high z h = simp (too-high z h)
 module _ (day nano : ℕ) (n : nano < 86400000000000) where
   is-one : 1 ≤ day → day ≤ 3652059 → isDateTime (pos (instant day nano)) ≡ true
   unfolding isDateTime
-  is-one h l = rw (is-le (pos 86400000000000) (pos (instant day nano)) (omega arith), is-le (pos (instant day nano)) (pos 315537983999999999999) (omega arith))
+  is-one h l = rw (
+    is-le (pos 86400000000000) (pos (instant day nano)) (omega arith),
+    is-le (pos (instant day nano))
+        (pos 315537983999999999999) (omega arith),
+  )
 
   head-is : instant day nano / 86400000000000 ≡ day
   head-is = omega arith
@@ -46,7 +50,8 @@ module _ (day nano : ℕ) (n : nano < 86400000000000) where
   tail-is : instant day nano % 86400000000000 ≡ nano
   tail-is = omega arith
 
-  pub answer-at : 1 ≤ day → day ≤ 3652059 → At (record { head = pos day; tail = pos nano }) ≡ dateTimeAnswer (pos (instant day nano))
+  pub answer-at : 1 ≤ day → day ≤ 3652059 → At (record { head = pos day; tail = pos nano })
+      ≡ dateTimeAnswer (pos (instant day nano))
   unfolding dateTimeAnswer
   answer-at h l =
       sym (ap (λ (b : Bool). cond b (At (dateTime (pos (instant day nano)))) (Refused 10)) (is-one h l)
@@ -55,7 +60,8 @@ module _ (day nano : ℕ) (n : nano < 86400000000000) where
   pub answer-none : leb 1 day && leb day 3652059 ≡ false → Refused 10 ≡ dateTimeAnswer (pos (instant day nano))
   answer-none e = go (leb 1 day) (leb day 3652059) (leb-false 1 day) (leb-false day 3652059) e
     where
-      go : (p q : Bool) → (p ≡ false → day < 1) → (q ≡ false → 3652059 < day) → p && q ≡ false → Refused 10 ≡ dateTimeAnswer (pos (instant day nano))
+      go : (p q : Bool) → (p ≡ false → day < 1) → (q ≡ false → 3652059 < day) → p && q ≡ false →
+          Refused 10 ≡ dateTimeAnswer (pos (instant day nano))
       go false q u v e = let l = u refl in answer-low (pos (instant day nano)) (omega arith)
       go true q u v e = let l = v e in answer-high (pos (instant day nano)) (omega arith)
 

@@ -3,7 +3,8 @@
 use mathlib.Core.Path.{_≡_, refl, sym, _∙_, ap}
 use mathlib.Core.Bool.{Bool, true, false, cond, not, _&&_, _||_}
 use Prim.Native.Nat.{ℕ, zero, suc, _+_, _*_, _/_, _%_, _≤_, _<_}
-use native.Mathlib.Nat.{zero-div, mul-zero, le-trans, le-of-lt, div-mul-le-self, mul-le-mul-right, mod-lt, le-div-iff-mul-le, div-le-self, div-le-of-le-mul}
+use native.Mathlib.Nat.{zero-div, mul-zero, le-trans, le-of-lt, div-mul-le-self, mul-le-mul-right, mod-lt}
+use native.Mathlib.Nat.{le-div-iff-mul-le, div-le-self, div-le-of-le-mul}
 use native.Mathlib.Omega.{arith}
 use lib.Dec.{eqb, ltb, leb}
 use lib.IntN.{ℤ, pos, negsuc, negℤ, natAbs, _+ℤ_, _*ℤ_}
@@ -36,7 +37,16 @@ quot-both (suc x) w = refl
 sum-neg : (a b : ℕ) → negℤ (pos a) +ℤ negℤ (pos b) ≡ negℤ (pos (a + b))
 sum-neg a b =
     same (negℤ (pos a) +ℤ negℤ (pos b)) (negℤ (pos (a + b)))
-    (omega (arith, add (negℤ (pos a)) (negℤ (pos b)), neg-up (pos a), neg-dn (pos a), neg-up (pos b), neg-dn (pos b), neg-up (pos (a + b)), neg-dn (pos (a + b))))
+    (omega (
+      arith,
+      add (negℤ (pos a)) (negℤ (pos b)),
+      neg-up (pos a),
+      neg-dn (pos a),
+      neg-up (pos b),
+      neg-dn (pos b),
+      neg-up (pos (a + b)),
+      neg-dn (pos (a + b)),
+    ))
 
 -- ---- the test of the product, on sizes
 zero-test : (n : ℕ) → isZero (pos n) ≡ eqb n 0
@@ -48,9 +58,11 @@ zero-test n = go (eqb n 0) refl
 
 -- a factor below 0 passes only as 0
 down-test : (a F : ℕ) (r : Bool) → F ≤ 9223372036854775807
-    → isZero (negℤ (pos F)) || (ltZ (pos a) (quotZ (pos 9223372036854775807) (negℤ (pos F))) || (r && leZ (pos a) (quotZ (pos 9223372036854775807) (negℤ (pos F))))) ≡ eqb F 0
+    → isZero (negℤ (pos F)) || (ltZ (pos a) (quotZ (pos 9223372036854775807) (negℤ (pos F)))
+    || (r && leZ (pos a) (quotZ (pos 9223372036854775807) (negℤ (pos F))))) ≡ eqb F 0
 down-test a zero r h = refl
-down-test a (suc f) r h = go (9223372036854775807 / suc f) (at-least-one (omega arith)) ∙ sym (ne-eqb (suc f) 0 (λ z. omega arith))
+down-test a (suc f) r h = go (9223372036854775807 / suc f) (at-least-one (omega arith))
+    ∙ sym (ne-eqb (suc f) 0 (λ z. omega arith))
   where
     at-least-one : 1 * suc f ≤ 9223372036854775807 → 1 ≤ 9223372036854775807 / suc f
     at-least-one m = le-div-iff-mul-le {k = suc f} {x = 1} {y = 9223372036854775807} (omega arith) .1 m
@@ -63,23 +75,29 @@ pub product-fits : (s : ℕ) (w o : ℤ) → s ≤ 9223372036854775807 → 0 < n
     → productFits o (quotZ (pos s) w) (remZ (pos s) w) ≡ sizesFit (ltZ w (pos 0)) (natAbs o) (s / natAbs w) (s % natAbs w)
 product-fits s (pos w) o h l =
     rw (zero-test (s / w), zero-test (s % w), is-ge (pos w) (pos 0) (omega arith))
-product-fits s (negsuc w) o h l = down-test (natAbs o) (s / suc w) (isZero (pos (s % suc w))) (omega (arith, div-le-self s (suc w))) ∙ sym (or-false (eqb (s / suc w) 0))
+product-fits s (negsuc w) o h l = down-test (natAbs o) (s / suc w) (isZero (pos (s % suc w)))
+    (omega (arith, div-le-self s (suc w))) ∙ sym (or-false (eqb (s / suc w) 0))
 
 -- ---- where it passes, the product fits
-pub product-most : (down : Bool) (size factor rest : ℕ) → sizesFit down size factor rest ≡ true → size * factor ≤ 9223372036854775807
+pub product-most : (down : Bool) (size factor rest : ℕ) → sizesFit down size factor rest ≡ true →
+    size * factor ≤ 9223372036854775807
 product-most down size factor rest e = go (eqb factor 0) (eqb-true factor 0) e
   where
     small : size ≤ 9223372036854775807 / factor → size * factor ≤ 9223372036854775807
     small h = le-trans (mul-le-mul-right factor h) (div-mul-le-self 9223372036854775807 factor)
 
-    late : (d p q r : Bool) → (p ≡ true → size < 9223372036854775807 / factor) → (r ≡ true → size ≤ 9223372036854775807 / factor) → not d && (p || (q && r)) ≡ true → size ≤ 9223372036854775807 / factor
+    late : (d p q r : Bool) → (p ≡ true → size < 9223372036854775807 / factor) →
+        (r ≡ true → size ≤ 9223372036854775807 / factor) → not d && (p || (q && r)) ≡ true → size ≤ 9223372036854775807 / factor
     late false true q r u v e = le-of-lt (u refl)
     late false false q r u v e = v (both-true q r e .1)
     late true p q r u v e = let z : _≡_ {A = ℕ} 0 1 = cc in absurd (let w : ⊥ = omega arith in w)
 
-    go : (z : Bool) → (z ≡ true → factor ≡ 0) → z || (not down && (ltb size (9223372036854775807 / factor) || (eqb rest 0 && leb size (9223372036854775807 / factor)))) ≡ true → size * factor ≤ 9223372036854775807
+    go : (z : Bool) → (z ≡ true → factor ≡ 0) →
+        z || (not down && (ltb size (9223372036854775807 / factor)
+        || (eqb rest 0 && leb size (9223372036854775807 / factor)))) ≡ true → size * factor ≤ 9223372036854775807
     go true u e = let z = u refl in rw (z, mul-zero size) (omega arith)
-    go false u e = small (late down (ltb size (9223372036854775807 / factor)) (eqb rest 0) (leb size (9223372036854775807 / factor)) (ltb-true size _) (leb-true size _) e)
+    go false u e = small (late down (ltb size (9223372036854775807 / factor)) (eqb rest 0)
+        (leb size (9223372036854775807 / factor)) (ltb-true size _) (leb-true size _) e)
 
 -- the rest of the division adds at most one for each pixel
 pub rest-most : (s w size : ℕ) → 0 < w → s % w * size / w ≤ size
@@ -92,7 +110,15 @@ no-factor f e = eqb-true f 0 (sym (or-false (eqb f 0)) ∙ e)
 down-pos : (o f x : ℕ) → f ≡ 0 → pos o *ℤ negℤ (pos f) +ℤ negℤ (pos x) ≡ negℤ (pos (o * f + x))
 down-pos o zero x e =
     same (pos (o * 0) +ℤ negℤ (pos x)) (negℤ (pos (o * 0 + x)))
-    (omega (arith, mul-zero o, add (pos (o * 0)) (negℤ (pos x)), neg-up (pos x), neg-dn (pos x), neg-up (pos (o * 0 + x)), neg-dn (pos (o * 0 + x))))
+    (omega (
+      arith,
+      mul-zero o,
+      add (pos (o * 0)) (negℤ (pos x)),
+      neg-up (pos x),
+      neg-dn (pos x),
+      neg-up (pos (o * 0 + x)),
+      neg-dn (pos (o * 0 + x)),
+    ))
 down-pos o (suc f) x e = absurd (let w : ⊥ = omega arith in w)
 
 down-neg : (o f x : ℕ) → f ≡ 0 → negsuc o *ℤ negℤ (pos f) +ℤ pos x ≡ pos (suc o * f + x)
@@ -106,7 +132,8 @@ pub moved-is : (s : ℕ) (w o : ℤ) → 0 < natAbs w → sizesFit (ltZ w (pos 0
 moved-is s (pos w) (pos o) h e = rw (is-ge (pos w) (pos 0) (omega arith), is-ge (pos o) (pos 0) (omega arith))
 moved-is s (pos w) (negsuc o) h e =
     rw (is-ge (pos w) (pos 0) (omega arith))
-    (ap (λ (z : ℤ). negℤ (pos (suc o * (s / w))) +ℤ z) (quot-neg (s % w * suc o) w) ∙ sum-neg (suc o * (s / w)) (s % w * suc o / w))
+    (ap (λ (z : ℤ). negℤ (pos (suc o * (s / w))) +ℤ z) (quot-neg (s % w * suc o) w) ∙ sum-neg (suc o * (s / w))
+    (s % w * suc o / w))
 moved-is s (negsuc w) (pos o) h e =
     rw (is-ge (pos o) (pos 0) (omega arith)) (down-pos o (s / suc w) (s % suc w * o / suc w) (no-factor (s / suc w) e))
 moved-is s (negsuc w) (negsuc o) h e =
@@ -121,16 +148,20 @@ days-is (negsuc n) k = refl
 -- ---- the branches of unmapping
 pub moved-long : (d w o : ℤ) → fitsI64 d ≡ false → daysBy (wholeDays d) w o *ℤ pos 86400000000000 ≡ movedBy d w o
 unfolding movedBy
-moved-long d w o e = sym (ap (λ (b : Bool). cond (b && productFits o (quotZ d w) (remZ d w)) (byNanoseconds d w o) (daysBy (wholeDays d) w o *ℤ pos 86400000000000)) e)
+moved-long d w o e = sym (ap (λ (b : Bool). cond (b && productFits o (quotZ d w) (remZ d w)) (byNanoseconds d w o)
+    (daysBy (wholeDays d) w o *ℤ pos 86400000000000)) e)
 
 module _ (s : ℕ) (w o : ℤ) (h : s ≤ 9223372036854775807) (l : 0 < natAbs w) where
-  tested : fitsI64 (pos s) && productFits o (quotZ (pos s) w) (remZ (pos s) w) ≡ sizesFit (ltZ w (pos 0)) (natAbs o) (s / natAbs w) (s % natAbs w)
-  tested = ap (λ (b : Bool). b && productFits o (quotZ (pos s) w) (remZ (pos s) w)) (fits-yes (pos s) h (omega arith)) ∙ product-fits s w o h l
+  tested : fitsI64 (pos s) && productFits o (quotZ (pos s) w) (remZ (pos s) w) ≡ sizesFit (ltZ w (pos 0)) (natAbs o)
+      (s / natAbs w) (s % natAbs w)
+  tested = ap (λ (b : Bool). b && productFits o (quotZ (pos s) w) (remZ (pos s) w)) (fits-yes (pos s) h (omega arith))
+      ∙ product-fits s w o h l
 
   pub branch : (b : Bool) → sizesFit (ltZ w (pos 0)) (natAbs o) (s / natAbs w) (s % natAbs w) ≡ b
       → movedBy (pos s) w o ≡ cond b (byNanoseconds (pos s) w o) (daysBy (wholeDays (pos s)) w o *ℤ pos 86400000000000)
   unfolding movedBy
-  branch b e = ap (λ (t : Bool). cond t (byNanoseconds (pos s) w o) (daysBy (wholeDays (pos s)) w o *ℤ pos 86400000000000)) (tested ∙ e)
+  branch b e = ap (λ (t : Bool). cond t (byNanoseconds (pos s) w o) (daysBy (wholeDays (pos s)) w o *ℤ pos 86400000000000))
+      (tested ∙ e)
 
 -- ---- the start of an axis, as parts
 pub size-up : (z : ℤ) → dn z ≡ 0 → natAbs z ≡ up z
@@ -141,8 +172,18 @@ pub whole : (z : ℤ) → dn z ≡ 0 → pos (natAbs z) ≡ z
 whole (pos n) e = refl
 whole (negsuc n) e = absurd (let w : ⊥ = omega arith in w)
 
-pub start-is : (k : ℤ) (v : Value) → isDuration k ≡ false → DayValue v → pos (instant (natAbs (v .head)) (natAbs (v .tail))) ≡ nanoseconds k v
+pub start-is : (k : ℤ) (v : Value) → isDuration k ≡ false → DayValue v → pos (instant (natAbs (v .head)) (natAbs (v .tail)))
+    ≡ nanoseconds k v
 unfolding nanoseconds
 start-is k v e d =
     rw e (same (pos (instant (natAbs (v .head)) (natAbs (v .tail)))) (v .head *ℤ pos 86400000000000 +ℤ v .tail)
-    (omega (arith, add (v .head *ℤ pos 86400000000000) (v .tail), mul-up (v .head) 86400000000000, mul-dn (v .head) 86400000000000, size-up (v .head) (d .head-dn), size-up (v .tail) (d .tail-dn), d .head-dn, d .tail-dn)))
+    (omega (
+      arith,
+      add (v .head *ℤ pos 86400000000000) (v .tail),
+      mul-up (v .head) 86400000000000,
+      mul-dn (v .head) 86400000000000,
+      size-up (v .head) (d .head-dn),
+      size-up (v .tail) (d .tail-dn),
+      d .head-dn,
+      d .tail-dn,
+    )))

@@ -21,7 +21,8 @@ use Rattle.values.proofs.Joining.{joint, Ahead, ahead}
 use Rattle.values.proofs.Values.{date-value, day-value, duration-value}
 
 -- ---- heads and tails
-far : (x y : ℤ) (m : ℕ) → up x + dn y ≤ m + (up y + dn x) → up y + dn x ≤ m + (up x + dn y) → (dn (y -ℤ x) ≤ m) × (up (y -ℤ x) ≤ m)
+far : (x y : ℤ) (m : ℕ) → up x + dn y ≤ m + (up y + dn x) → up y + dn x ≤ m + (up x + dn y) →
+    (dn (y -ℤ x) ≤ m) × (up (y -ℤ x) ≤ m)
 far x y m a b = bounded (y -ℤ x) m m (omega (arith, sub y x)) (omega (arith, sub y x))
 
 pub record Near (a b : Value) (heads tails : ℕ) : Type 0 where
@@ -50,15 +51,22 @@ module _ (kind : ℤ) (a b : Value) (v : Both kind a b) where
   pub parts-fit : SFits w64 (b .head -ℤ a .head) × SFits w64 (b .tail -ℤ a .tail)
   parts-fit = go (isDuration kind) refl
     where
-      from : (m n : ℕ) → Near a b m n → m ≤ 631152000000 → n ≤ 86400000000000 → SFits w64 (b .head -ℤ a .head) × SFits w64 (b .tail -ℤ a .tail)
-      from m n r l k = (fits (b .head -ℤ a .head) (up (b .head -ℤ a .head)) (dn (b .head -ℤ a .head)) refl (omega arith) (omega arith), fits (b .tail -ℤ a .tail) (up (b .tail -ℤ a .tail)) (dn (b .tail -ℤ a .tail)) refl (omega arith) (omega arith))
+      from : (m n : ℕ) → Near a b m n → m ≤ 631152000000 → n ≤ 86400000000000 → SFits w64 (b .head -ℤ a .head)
+          × SFits w64 (b .tail -ℤ a .tail)
+      from m n r l k = (
+        fits (b .head -ℤ a .head) (up (b .head -ℤ a .head)) (dn (b .head -ℤ a .head)) refl (omega arith)
+            (omega arith),
+        fits (b .tail -ℤ a .tail) (up (b .tail -ℤ a .tail)) (dn (b .tail -ℤ a .tail)) refl (omega arith)
+            (omega arith),
+      )
 
       go : (t : Bool) → isDuration kind ≡ t → SFits w64 (b .head -ℤ a .head) × SFits w64 (b .tail -ℤ a .tail)
       go true e = from 631152000000 1000000000 (durations-near e) (omega arith) (omega arith)
       go false e = from 3652058 86400000000000 (days-near e) (omega arith) (omega arith)
 
 -- ---- nanoseconds: of the heads' difference and the tails'
-apart-by : (a b : Value) (k : ℕ) → up (b .head -ℤ a .head) * k + (dn (b .head) * k + up (a .head) * k) ≡ up (b .head) * k + dn (a .head) * k + dn (b .head -ℤ a .head) * k
+apart-by : (a b : Value) (k : ℕ) → up (b .head -ℤ a .head) * k + (dn (b .head) * k + up (a .head) * k) ≡ up (b .head) * k
+    + dn (a .head) * k + dn (b .head -ℤ a .head) * k
     → (b .head -ℤ a .head) *ℤ pos k +ℤ (b .tail -ℤ a .tail) ≡ (b .head *ℤ pos k +ℤ b .tail) -ℤ (a .head *ℤ pos k +ℤ a .tail)
 apart-by a b k e =
     let h = b .head -ℤ a .head in
@@ -66,41 +74,86 @@ apart-by a b k e =
     let x = a .head *ℤ pos k +ℤ a .tail in
     let y = b .head *ℤ pos k +ℤ b .tail in
     same (h *ℤ pos k +ℤ t) (y -ℤ x)
-    (omega (arith, add (h *ℤ pos k) t, mul-up h k, mul-dn h k, sub (b .tail) (a .tail), sub y x, add (b .head *ℤ pos k) (b .tail), mul-up (b .head) k, mul-dn (b .head) k, add (a .head *ℤ pos k) (a .tail), mul-up (a .head) k, mul-dn (a .head) k))
+    (omega (
+      arith,
+      add (h *ℤ pos k) t,
+      mul-up h k,
+      mul-dn h k,
+      sub (b .tail) (a .tail),
+      sub y x,
+      add (b .head *ℤ pos k)
+          (b .tail),
+      mul-up (b .head) k,
+      mul-dn (b .head) k,
+      add (a .head *ℤ pos k) (a .tail),
+      mul-up (a .head) k,
+      mul-dn (a .head) k,
+    ))
 
 module _ (kind : ℤ) (a b : Value) where
-  pub days-apart : isDuration kind ≡ false → difference kind a b ≡ (b .head -ℤ a .head) *ℤ pos 86400000000000 +ℤ (b .tail -ℤ a .tail)
+  pub days-apart : isDuration kind ≡ false → difference kind a b ≡ (b .head -ℤ a .head) *ℤ pos 86400000000000 +ℤ
+      (b .tail -ℤ a .tail)
   unfolding difference
   days-apart e = rw e (sym (apart-by a b 86400000000000 (omega (arith, sub (b .head) (a .head)))))
 
-  pub durations-apart : isDuration kind ≡ true → difference kind a b ≡ (b .head -ℤ a .head) *ℤ pos 1000000000 +ℤ (b .tail -ℤ a .tail)
+  pub durations-apart : isDuration kind ≡ true → difference kind a b ≡ (b .head -ℤ a .head) *ℤ pos 1000000000 +ℤ
+      (b .tail -ℤ a .tail)
   unfolding difference
   durations-apart e = rw e (sym (apart-by a b 1000000000 (omega (arith, sub (b .head) (a .head)))))
 
 -- ---- the parts of a difference
 module _ (kind : ℤ) (a b : Value) (v : Both kind a b) where
-  pub days-of : isDuration kind ≡ false → Of kind a b (record { heads = b .head -ℤ a .head; tails = b .tail -ℤ a .tail; unit = pos 86400000000000; most = pos 106751 })
+  pub days-of : isDuration kind ≡ false → Of kind a b (record {
+    heads = b .head -ℤ a .head;
+    tails = b .tail -ℤ a .tail;
+    unit =
+        pos 86400000000000;
+    most = pos 106751;
+  })
   days-of e =
       let n = days-near kind a b v e in
       record {
-        sound = record { known = day; tails-up = n .tails-up; tails-dn = n .tails-dn; heads-up = omega arith; heads-dn = omega arith };
+        sound = record {
+          known = day;
+          tails-up = n .tails-up;
+          tails-dn = n .tails-dn;
+          heads-up = omega arith;
+          heads-dn =
+              omega arith;
+        };
         unit-is = rw e;
         sum-is = sym (days-apart kind a b e);
       }
 
-  pub seconds-of : isDuration kind ≡ true → Of kind a b (record { heads = b .head -ℤ a .head; tails = b .tail -ℤ a .tail; unit = pos 1000000000; most = pos 9223372036 })
+  pub seconds-of : isDuration kind ≡ true →
+      Of kind a b (record {
+        heads = b .head -ℤ a .head;
+        tails = b .tail -ℤ a .tail;
+        unit = pos 1000000000;
+        most =
+            pos 9223372036;
+      })
   seconds-of e =
       let n = durations-near kind a b v e in
       record {
-        sound = record { known = second; tails-up = n .tails-up; tails-dn = n .tails-dn; heads-up = n .heads-up; heads-dn = n .heads-dn };
+        sound = record {
+          known = second;
+          tails-up = n .tails-up;
+          tails-dn = n .tails-dn;
+          heads-up = n .heads-up;
+          heads-dn =
+              n .heads-dn;
+        };
         unit-is = rw e;
         sum-is = sym (durations-apart kind a b e);
       }
 
 -- dates have no tails
-pub dates-apart : (kind : ℤ) (a b : Value) → Both kind a b → leZ kind (pos 3) ≡ true → difference kind a b ≡ (b .head -ℤ a .head) *ℤ pos 86400000000000
+pub dates-apart : (kind : ℤ) (a b : Value) → Both kind a b → leZ kind (pos 3) ≡ true → difference kind a b
+    ≡ (b .head -ℤ a .head) *ℤ pos 86400000000000
 dates-apart kind a b v e =
-    let n : isDuration kind ≡ false = ap (λ (t : Bool). t && leZ kind (pos 7)) (is-gt (pos 7) kind (omega (arith, le-true kind (pos 3) e))) in
+    let n : isDuration kind ≡ false =
+    ap (λ (t : Bool). t && leZ kind (pos 7)) (is-gt (pos 7) kind (omega (arith, le-true kind (pos 3) e))) in
     let x = date-value kind a (v .first) e in
     let y = date-value kind b (v .second) e in
     days-apart kind a b n ∙ (rw (x .no-tail, y .no-tail) (+ℤ-idr ((b .head -ℤ a .head) *ℤ pos 86400000000000)))
@@ -110,29 +163,47 @@ pub by-seconds : (x : ℤ) → quotZ (quotZ x (pos 1000000000)) (pos 86400) ≡ 
 by-seconds x =
     let s = quotZ x (pos 1000000000) in
     same (quotZ s (pos 86400)) (quotZ x (pos 86400000000000))
-    (omega (arith, quot-up s 86400, quot-dn s 86400, quot-up x 1000000000, quot-dn x 1000000000, quot-up x 86400000000000, quot-dn x 86400000000000))
+    (omega (
+      arith,
+      quot-up s 86400,
+      quot-dn s 86400,
+      quot-up x 1000000000,
+      quot-dn x 1000000000,
+      quot-up x 86400000000000,
+      quot-dn x 86400000000000,
+    ))
 
 -- no two values of a kind are further apart
-pub whole-range : (kind : ℤ) (a b : Value) → Both kind a b → (dn (wholeDays (difference kind a b)) ≤ 7305000) × (up (wholeDays (difference kind a b)) ≤ 7305000)
+pub whole-range : (kind : ℤ) (a b : Value) → Both kind a b → (dn (wholeDays (difference kind a b)) ≤ 7305000)
+    × (up (wholeDays (difference kind a b)) ≤ 7305000)
 whole-range kind a b v = go (isDuration kind) refl
   where
-    from : (h t : ℤ) (k : ℕ) → difference kind a b ≡ h *ℤ pos k +ℤ t → dn h * k + dn t ≤ 631152000000999999999 → up h * k + up t ≤ 631152000000999999999 → (dn (wholeDays (difference kind a b)) ≤ 7305000) × (up (wholeDays (difference kind a b)) ≤ 7305000)
+    from : (h t : ℤ) (k : ℕ) → difference kind a b ≡ h *ℤ pos k +ℤ t → dn h * k + dn t ≤ 631152000000999999999 →
+        up h * k + up t ≤ 631152000000999999999 → (dn (wholeDays (difference kind a b)) ≤ 7305000)
+        × (up (wholeDays (difference kind a b)) ≤ 7305000)
     from h t k e l m =
         let x = difference kind a b in
-        let r = bounded x 631152000000999999999 631152000000999999999 (omega (arith, joint h t k, ap up e, ap dn e)) (omega (arith, joint h t k, ap up e, ap dn e)) in
+        let r = bounded x 631152000000999999999 631152000000999999999 (omega (arith, joint h t k, ap up e, ap dn e))
+        (omega (arith, joint h t k, ap up e, ap dn e)) in
         (omega (arith, quot-dn x 86400000000000), omega (arith, quot-up x 86400000000000))
 
-    go : (t : Bool) → isDuration kind ≡ t → (dn (wholeDays (difference kind a b)) ≤ 7305000) × (up (wholeDays (difference kind a b)) ≤ 7305000)
-    go true e = let n = durations-near kind a b v e in from (b .head -ℤ a .head) (b .tail -ℤ a .tail) 1000000000 (durations-apart kind a b e) (omega arith) (omega arith)
-    go false e = let n = days-near kind a b v e in from (b .head -ℤ a .head) (b .tail -ℤ a .tail) 86400000000000 (days-apart kind a b e) (omega arith) (omega arith)
+    go : (t : Bool) → isDuration kind ≡ t → (dn (wholeDays (difference kind a b)) ≤ 7305000)
+        × (up (wholeDays (difference kind a b)) ≤ 7305000)
+    go true e = let n = durations-near kind a b v e in
+        from (b .head -ℤ a .head) (b .tail -ℤ a .tail) 1000000000 (durations-apart kind a b e) (omega arith) (omega arith)
+    go false e = let n = days-near kind a b v e in
+        from (b .head -ℤ a .head) (b .tail -ℤ a .tail) 86400000000000 (days-apart kind a b e) (omega arith) (omega arith)
 
 -- ---- the order of values is that of their nanoseconds
 module _ (kind : ℤ) (a b : Value) (v : Both kind a b) where
-  order : (s : ℕ) → s ≤ 1 → Ahead (b .head -ℤ a .head) (b .tail -ℤ a .tail) s → dn (difference kind a b) + s ≤ up (difference kind a b)
+  order : (s : ℕ) → s ≤ 1 → Ahead (b .head -ℤ a .head) (b .tail -ℤ a .tail) s → dn (difference kind a b)
+      + s ≤ up (difference kind a b)
   order s l o = go (isDuration kind) refl
     where
-      at : (p : Parts) → p .heads ≡ b .head -ℤ a .head → p .tails ≡ b .tail -ℤ a .tail → Of kind a b p → dn (difference kind a b) + s ≤ up (difference kind a b)
-      at p h t q = rw (q .sum-is) at (ahead (p .heads) (p .tails) (p .unit) (p .most) s l (q .sound .known) (q .sound .tails-dn) (rw (h, t) o))
+      at : (p : Parts) → p .heads ≡ b .head -ℤ a .head → p .tails ≡ b .tail -ℤ a .tail → Of kind a b p →
+          dn (difference kind a b) + s ≤ up (difference kind a b)
+      at p h t q = rw (q .sum-is) at (ahead (p .heads) (p .tails) (p .unit) (p .most) s l (q .sound .known)
+          (q .sound .tails-dn) (rw (h, t) o))
 
       go : (d : Bool) → isDuration kind ≡ d → dn (difference kind a b) + s ≤ up (difference kind a b)
       go true e = at _ refl refl (seconds-of kind a b v e)
@@ -144,9 +215,11 @@ module _ (kind : ℤ) (a b : Value) (v : Both kind a b) where
   later-apart e =
       let h = sub (b .head) (a .head) in
       let t = sub (b .tail) (a .tail) in
-      let o : Ahead (b .head -ℤ a .head) (b .tail -ℤ a .tail) 1 = elim (either-true (ltZ (a .head) (b .head)) (leZ (a .head) (b .head) && ltZ (a .tail) (b .tail)) e) [
+      let o : Ahead (b .head -ℤ a .head) (b .tail -ℤ a .tail) 1 =
+      elim (either-true (ltZ (a .head) (b .head)) (leZ (a .head) (b .head) && ltZ (a .tail) (b .tail)) e) [
         | inl x ↦ inl (omega (arith, lt-true (a .head) (b .head) x))
-        | inr y ↦ (let (x, z) = both-true (leZ (a .head) (b .head)) (ltZ (a .tail) (b .tail)) y in inr (omega (arith, le-true (a .head) (b .head) x), omega (arith, lt-true (a .tail) (b .tail) z)))
+        | inr y ↦ (let (x, z) = both-true (leZ (a .head) (b .head)) (ltZ (a .tail) (b .tail)) y in
+            inr (omega (arith, le-true (a .head) (b .head) x), omega (arith, lt-true (a .tail) (b .tail) z)))
       ] in
       let k = order 1 (omega arith) o in
       let z : dn (difference kind a b) ≡ 0 = not-below (difference kind a b) (omega arith) in
@@ -159,7 +232,8 @@ module _ (kind : ℤ) (a b : Value) (v : Both kind a b) where
       let h = sub (b .head) (a .head) in
       let t = sub (b .tail) (a .tail) in
       let (x, y) = either-false (ltZ (b .head) (a .head)) (leZ (b .head) (a .head) && ltZ (b .tail) (a .tail)) e in
-      let o : Ahead (b .head -ℤ a .head) (b .tail -ℤ a .tail) 0 = elim (not-both (leZ (b .head) (a .head)) (ltZ (b .tail) (a .tail)) y) [
+      let o : Ahead (b .head -ℤ a .head) (b .tail -ℤ a .tail) 0 =
+      elim (not-both (leZ (b .head) (a .head)) (ltZ (b .tail) (a .tail)) y) [
         | inl w ↦ inl (omega (arith, le-false (b .head) (a .head) w))
         | inr w ↦ inr (omega (arith, lt-false (b .head) (a .head) x), omega (arith, lt-false (b .tail) (a .tail) w))
       ] in

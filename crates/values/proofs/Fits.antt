@@ -39,7 +39,8 @@ too-low x h = answer x (pos 0) false (below x h) refl
 
 -- ---- what a caller reads
 pub fits-range : (x : ℤ) → fitsI64 x ≡ true → (dn x ≤ 9223372036854775808) × (up x ≤ 9223372036854775807)
-fits-range x e = let (a, b) = within-true (negsuc 9223372036854775807) x (pos 9223372036854775807) e in bounded x 9223372036854775808 9223372036854775807 (omega arith) (omega arith)
+fits-range x e = let (a, b) = within-true (negsuc 9223372036854775807) x (pos 9223372036854775807) e in
+    bounded x 9223372036854775808 9223372036854775807 (omega arith) (omega arith)
 
 pub fits-is : (x : ℤ) → nanosecondsOf x .fits ≡ fitsI64 x
 unfolding nanosecondsOf

@@ -11,7 +11,8 @@ use lib.Signed.{ltZ, leZ, quotZ}
 use mir.Syntax.{w64}
 use mir.Val.{SFits}
 use Rattle.laws.specs.Numbers.{up, dn}
-use Rattle.laws.proofs.Signed.{lt-true, lt-false, le-true, le-false, add, sub, mul-up, mul-dn, quot-up, quot-dn, up-fits, fits, same, count-fits}
+use Rattle.laws.proofs.Signed.{lt-true, lt-false, le-true, le-false, add, sub, mul-up, mul-dn, quot-up, quot-dn}
+use Rattle.laws.proofs.Signed.{up-fits, fits, same, count-fits}
 use Rattle.laws.proofs.Tests.{both-true}
 use Rattle.values.specs.declared.Parts.{Parts}
 use Rattle.values.specs.Parts.{Unit, day, second, Sound}
@@ -33,7 +34,8 @@ in-range p s =
     let (u, q) = unit-fits (p .unit) (p .most) (s .known) in
     record {
       heads = fits (p .heads) (up (p .heads)) (dn (p .heads)) refl (omega arith) (omega arith);
-      tails = fits (p .tails) (up (p .tails)) (dn (p .tails)) refl (omega (arith, up-fits (p .unit) u)) (omega (arith, up-fits (p .unit) u));
+      tails = fits (p .tails) (up (p .tails)) (dn (p .tails)) refl (omega (arith, up-fits (p .unit) u))
+          (omega (arith, up-fits (p .unit) u));
       unit = u;
       most = q;
     }
@@ -55,11 +57,13 @@ module _ (h t : ℤ) (k : ℕ) where
   product : up h * k < 2 ^ 63 + dn h * k → dn h * k ≤ 2 ^ 63 + up h * k → SFits w64 (h *ℤ pos k)
   product a b = fits (h *ℤ pos k) (up h * k) (dn h * k) (omega (arith, mul-up h k, mul-dn h k)) a b
 
-  joint-fits : up h * k + up t < 2 ^ 63 + (dn h * k + dn t) → dn h * k + dn t ≤ 2 ^ 63 + (up h * k + up t) → SFits w64 (h *ℤ pos k +ℤ t)
+  joint-fits : up h * k + up t < 2 ^ 63 + (dn h * k + dn t) → dn h * k + dn t ≤ 2 ^ 63 + (up h * k + up t) →
+      SFits w64 (h *ℤ pos k +ℤ t)
   joint-fits a b = fits (h *ℤ pos k +ℤ t) (up h * k + up t) (dn h * k + dn t) (omega (arith, joint)) a b
 
 -- ---- fewer heads than most, on either side of zero
-pub near : (h t u q : ℤ) → Unit u q → up t < up u → dn t < up u → leZ q h ≡ false → leZ h (negℤ q) ≡ false → SFits w64 (h *ℤ u) × SFits w64 (h *ℤ u +ℤ t)
+pub near : (h t u q : ℤ) → Unit u q → up t < up u → dn t < up u → leZ q h ≡ false → leZ h (negℤ q) ≡ false →
+    SFits w64 (h *ℤ u) × SFits w64 (h *ℤ u +ℤ t)
 near h t _ _ day a b c d =
     let x = le-false (pos 106751) h c in
     let y = le-false h (negsuc 106750) d in
@@ -76,23 +80,30 @@ one-less h a b = fits (h -ℤ pos 1) (up h) (dn h + 1) (omega (arith, sub h (pos
 pub one-more : (h : ℤ) → up h ≤ 631152000000 → dn h ≤ 631152000000 → SFits w64 (h +ℤ pos 1)
 one-more h a b = fits (h +ℤ pos 1) (up h + 1) (dn h) (omega (arith, add h (pos 1))) (omega arith) (omega arith)
 
-moved : (m r h t : ℤ) (k : ℕ) → up m * k + up r + (dn h * k + dn t) ≡ up h * k + up t + (dn m * k + dn r) → m *ℤ pos k +ℤ r ≡ h *ℤ pos k +ℤ t
+moved : (m r h t : ℤ) (k : ℕ) → up m * k + up r + (dn h * k + dn t) ≡ up h * k + up t + (dn m * k + dn r) →
+    m *ℤ pos k +ℤ r ≡ h *ℤ pos k +ℤ t
 moved m r h t k e = same (m *ℤ pos k +ℤ r) (h *ℤ pos k +ℤ t) (omega (arith, joint m r k, joint h t k))
 
 pub carried : (h t u q : ℤ) → Unit u q → (h -ℤ pos 1) *ℤ u +ℤ (t +ℤ u) ≡ h *ℤ u +ℤ t
-carried h t _ _ day = moved (h -ℤ pos 1) (t +ℤ pos 86400000000000) h t 86400000000000 (omega (arith, sub h (pos 1), add t (pos 86400000000000)))
-carried h t _ _ second = moved (h -ℤ pos 1) (t +ℤ pos 1000000000) h t 1000000000 (omega (arith, sub h (pos 1), add t (pos 1000000000)))
+carried h t _ _ day = moved (h -ℤ pos 1) (t +ℤ pos 86400000000000) h t 86400000000000
+    (omega (arith, sub h (pos 1), add t (pos 86400000000000)))
+carried h t _ _ second = moved (h -ℤ pos 1) (t +ℤ pos 1000000000) h t 1000000000
+    (omega (arith, sub h (pos 1), add t (pos 1000000000)))
 
 pub borrowed : (h t u q : ℤ) → Unit u q → (h +ℤ pos 1) *ℤ u +ℤ (t -ℤ u) ≡ h *ℤ u +ℤ t
-borrowed h t _ _ day = moved (h +ℤ pos 1) (t -ℤ pos 86400000000000) h t 86400000000000 (omega (arith, add h (pos 1), sub t (pos 86400000000000)))
-borrowed h t _ _ second = moved (h +ℤ pos 1) (t -ℤ pos 1000000000) h t 1000000000 (omega (arith, add h (pos 1), sub t (pos 1000000000)))
+borrowed h t _ _ day = moved (h +ℤ pos 1) (t -ℤ pos 86400000000000) h t 86400000000000
+    (omega (arith, add h (pos 1), sub t (pos 86400000000000)))
+borrowed h t _ _ second = moved (h +ℤ pos 1) (t -ℤ pos 1000000000) h t 1000000000
+    (omega (arith, add h (pos 1), sub t (pos 1000000000)))
 
 -- more heads than that do not fit, whatever the tails are
-pub heads-high : (h t u q : ℤ) → Unit u q → dn t < up u → ltZ q (h -ℤ pos 1) ≡ true → 9223372036854775807 + dn (h *ℤ u +ℤ t) < up (h *ℤ u +ℤ t)
+pub heads-high : (h t u q : ℤ) → Unit u q → dn t < up u → ltZ q (h -ℤ pos 1) ≡ true → 9223372036854775807 + dn (h *ℤ u +ℤ t)
+    < up (h *ℤ u +ℤ t)
 heads-high h t _ _ day a e = omega (arith, lt-true (pos 106751) (h -ℤ pos 1) e, sub h (pos 1), joint h t 86400000000000)
 heads-high h t _ _ second a e = omega (arith, lt-true (pos 9223372036) (h -ℤ pos 1) e, sub h (pos 1), joint h t 1000000000)
 
-pub heads-low : (h t u q : ℤ) → Unit u q → up t < up u → ltZ (h +ℤ pos 1) (negℤ q) ≡ true → 9223372036854775808 + up (h *ℤ u +ℤ t) < dn (h *ℤ u +ℤ t)
+pub heads-low : (h t u q : ℤ) → Unit u q → up t < up u → ltZ (h +ℤ pos 1) (negℤ q) ≡ true → 9223372036854775808
+    + up (h *ℤ u +ℤ t) < dn (h *ℤ u +ℤ t)
 heads-low h t _ _ day a e = omega (arith, lt-true (h +ℤ pos 1) (negsuc 106750) e, add h (pos 1), joint h t 86400000000000)
 heads-low h t _ _ second a e = omega (arith, lt-true (h +ℤ pos 1) (negsuc 9223372035) e, add h (pos 1), joint h t 1000000000)
 
@@ -147,75 +158,103 @@ heads-below h _ _ second a b =
     scaled-below (h +ℤ pos 1) 1000000000 (omega (arith, add h (pos 1))) (omega arith)
 
 pub tails-above : (t u q : ℤ) → Unit u q → up t < up u → dn t < up u → Above (t +ℤ u)
-tails-above t _ _ day a b = from-above (t +ℤ pos 86400000000000) (up t + 86400000000000) (dn t) (omega (arith, add t (pos 86400000000000))) (omega arith) (omega arith)
-tails-above t _ _ second a b = from-above (t +ℤ pos 1000000000) (up t + 1000000000) (dn t) (omega (arith, add t (pos 1000000000))) (omega arith) (omega arith)
+tails-above t _ _ day a b = from-above (t +ℤ pos 86400000000000) (up t + 86400000000000) (dn t)
+    (omega (arith, add t (pos 86400000000000))) (omega arith) (omega arith)
+tails-above t _ _ second a b = from-above (t +ℤ pos 1000000000) (up t + 1000000000) (dn t)
+    (omega (arith, add t (pos 1000000000))) (omega arith) (omega arith)
 
 pub tails-below : (t u q : ℤ) → Unit u q → up t < up u → dn t < up u → Below (t -ℤ u)
-tails-below t _ _ day a b = from-below (t -ℤ pos 86400000000000) (up t) (dn t + 86400000000000) (omega (arith, sub t (pos 86400000000000))) (omega arith) (omega arith)
-tails-below t _ _ second a b = from-below (t -ℤ pos 1000000000) (up t) (dn t + 1000000000) (omega (arith, sub t (pos 1000000000))) (omega arith) (omega arith)
+tails-below t _ _ day a b = from-below (t -ℤ pos 86400000000000) (up t) (dn t + 86400000000000)
+    (omega (arith, sub t (pos 86400000000000))) (omega arith) (omega arith)
+tails-below t _ _ second a b = from-below (t -ℤ pos 1000000000) (up t) (dn t + 1000000000)
+    (omega (arith, sub t (pos 1000000000))) (omega arith) (omega arith)
 
 -- ---- whether a sum of two numbers on one side of 0 fits
 module _ (n r : ℤ) where
   pub room-above : Above n → SFits w64 (pos 9223372036854775807 -ℤ n)
-  room-above a = fits (pos 9223372036854775807 -ℤ n) 9223372036854775807 (up n) (omega (arith, sub (pos 9223372036854775807) n, a .none)) (omega arith) (omega (arith, a .most))
+  room-above a = fits (pos 9223372036854775807 -ℤ n) 9223372036854775807 (up n)
+      (omega (arith, sub (pos 9223372036854775807) n, a .none)) (omega arith) (omega (arith, a .most))
 
   pub over : ltZ (pos 9223372036854775807 -ℤ n) r ≡ true → 9223372036854775807 + dn (n +ℤ r) < up (n +ℤ r)
   over e = omega (arith, lt-true (pos 9223372036854775807 -ℤ n) r e, sub (pos 9223372036854775807) n, add n r)
 
   pub sum-above : Above n → Above r → ltZ (pos 9223372036854775807 -ℤ n) r ≡ false → SFits w64 (n +ℤ r)
-  sum-above a b e = fits (n +ℤ r) (up n + up r) 0 (omega (arith, add n r, a .none, b .none)) (omega (arith, lt-false (pos 9223372036854775807 -ℤ n) r e, sub (pos 9223372036854775807) n, a .none, b .none)) (omega arith)
+  sum-above a b e = fits (n +ℤ r) (up n + up r) 0 (omega (arith, add n r, a .none, b .none))
+      (omega (arith, lt-false (pos 9223372036854775807 -ℤ n) r e, sub (pos 9223372036854775807) n, a .none, b .none))
+      (omega arith)
 
   pub room-below : Below n → SFits w64 (negsuc 9223372036854775807 -ℤ n)
-  room-below a = fits (negsuc 9223372036854775807 -ℤ n) (dn n) 9223372036854775808 (omega (arith, sub (negsuc 9223372036854775807) n, a .none)) (omega (arith, a .most)) (omega arith)
+  room-below a = fits (negsuc 9223372036854775807 -ℤ n) (dn n) 9223372036854775808
+      (omega (arith, sub (negsuc 9223372036854775807) n, a .none)) (omega (arith, a .most)) (omega arith)
 
   pub under : ltZ r (negsuc 9223372036854775807 -ℤ n) ≡ true → 9223372036854775808 + up (n +ℤ r) < dn (n +ℤ r)
   under e = omega (arith, lt-true r (negsuc 9223372036854775807 -ℤ n) e, sub (negsuc 9223372036854775807) n, add n r)
 
   pub sum-below : Below n → Below r → ltZ r (negsuc 9223372036854775807 -ℤ n) ≡ false → SFits w64 (n +ℤ r)
-  sum-below a b e = fits (n +ℤ r) 0 (dn n + dn r) (omega (arith, add n r, a .none, b .none)) (omega arith) (omega (arith, lt-false r (negsuc 9223372036854775807 -ℤ n) e, sub (negsuc 9223372036854775807) n, a .none, b .none))
+  sum-below a b e = fits (n +ℤ r) 0 (dn n + dn r) (omega (arith, add n r, a .none, b .none)) (omega arith)
+      (omega (arith, lt-false r (negsuc 9223372036854775807 -ℤ n) e, sub (negsuc 9223372036854775807) n, a .none, b .none))
 
 -- ---- whole heads, cut toward zero
 -- a quotient toward zero, of a number that is not below 0 or not above 0
 cut-up : (x r : ℤ) (k : ℕ) → dn x ≤ up x → (dn x ≡ 0 → up x / k + dn r ≡ up r) → quotZ x (pos k) ≡ r
-cut-up x r k h e = let z = not-below x h in same (quotZ x (pos k)) r (omega (arith, e z, quot-up x k, quot-dn x k, ap (λ (n : ℕ). n / k) z, zero-div k))
+cut-up x r k h e = let z = not-below x h in
+    same (quotZ x (pos k)) r (omega (arith, e z, quot-up x k, quot-dn x k, ap (λ (n : ℕ). n / k) z, zero-div k))
 
 cut-dn : (x r : ℤ) (k : ℕ) → up x ≤ dn x → (up x ≡ 0 → dn x / k + up r ≡ dn r) → quotZ x (pos k) ≡ r
-cut-dn x r k h e = let z = not-above x h in same (quotZ x (pos k)) r (omega (arith, e z, quot-up x k, quot-dn x k, ap (λ (n : ℕ). n / k) z, zero-div k))
+cut-dn x r k h e = let z = not-above x h in
+    same (quotZ x (pos k)) r (omega (arith, e z, quot-up x k, quot-dn x k, ap (λ (n : ℕ). n / k) z, zero-div k))
 
 -- the tails go the other way: one head less
-pub cut-above : (h t u q : ℤ) → Unit u q → dn t < up u → ltZ (pos 0) h && ltZ t (pos 0) ≡ true → quotZ (h *ℤ u +ℤ t) u ≡ h -ℤ pos 1
-cut-above h t u q k l e = let (a, b) = both-true (ltZ (pos 0) h) (ltZ t (pos 0)) e in go u q k l (omega (arith, lt-true (pos 0) h a)) (omega (arith, lt-true t (pos 0) b))
+pub cut-above : (h t u q : ℤ) → Unit u q → dn t < up u → ltZ (pos 0) h && ltZ t (pos 0) ≡ true → quotZ (h *ℤ u +ℤ t) u
+    ≡ h -ℤ pos 1
+cut-above h t u q k l e = let (a, b) = both-true (ltZ (pos 0) h) (ltZ t (pos 0)) e in
+    go u q k l (omega (arith, lt-true (pos 0) h a)) (omega (arith, lt-true t (pos 0) b))
   where
     go : (u q : ℤ) → Unit u q → dn t < up u → dn h < up h → up t < dn t → quotZ (h *ℤ u +ℤ t) u ≡ h -ℤ pos 1
-    go _ _ day l a b = let j = joint h t 86400000000000 in cut-up (h *ℤ pos 86400000000000 +ℤ t) (h -ℤ pos 1) 86400000000000 (omega arith) (λ z. omega (arith, sub h (pos 1)))
-    go _ _ second l a b = let j = joint h t 1000000000 in cut-up (h *ℤ pos 1000000000 +ℤ t) (h -ℤ pos 1) 1000000000 (omega arith) (λ z. omega (arith, sub h (pos 1)))
+    go _ _ day l a b = let j = joint h t 86400000000000 in
+        cut-up (h *ℤ pos 86400000000000 +ℤ t) (h -ℤ pos 1) 86400000000000 (omega arith) (λ z. omega (arith, sub h (pos 1)))
+    go _ _ second l a b = let j = joint h t 1000000000 in
+        cut-up (h *ℤ pos 1000000000 +ℤ t) (h -ℤ pos 1) 1000000000 (omega arith) (λ z. omega (arith, sub h (pos 1)))
 
-pub cut-below : (h t u q : ℤ) → Unit u q → up t < up u → ltZ h (pos 0) && ltZ (pos 0) t ≡ true → quotZ (h *ℤ u +ℤ t) u ≡ h +ℤ pos 1
-cut-below h t u q k l e = let (a, b) = both-true (ltZ h (pos 0)) (ltZ (pos 0) t) e in go u q k l (omega (arith, lt-true h (pos 0) a)) (omega (arith, lt-true (pos 0) t b))
+pub cut-below : (h t u q : ℤ) → Unit u q → up t < up u → ltZ h (pos 0) && ltZ (pos 0) t ≡ true → quotZ (h *ℤ u +ℤ t) u
+    ≡ h +ℤ pos 1
+cut-below h t u q k l e = let (a, b) = both-true (ltZ h (pos 0)) (ltZ (pos 0) t) e in
+    go u q k l (omega (arith, lt-true h (pos 0) a)) (omega (arith, lt-true (pos 0) t b))
   where
     go : (u q : ℤ) → Unit u q → up t < up u → up h < dn h → dn t < up t → quotZ (h *ℤ u +ℤ t) u ≡ h +ℤ pos 1
-    go _ _ day l a b = let j = joint h t 86400000000000 in cut-dn (h *ℤ pos 86400000000000 +ℤ t) (h +ℤ pos 1) 86400000000000 (omega arith) (λ z. omega (arith, add h (pos 1)))
-    go _ _ second l a b = let j = joint h t 1000000000 in cut-dn (h *ℤ pos 1000000000 +ℤ t) (h +ℤ pos 1) 1000000000 (omega arith) (λ z. omega (arith, add h (pos 1)))
+    go _ _ day l a b = let j = joint h t 86400000000000 in
+        cut-dn (h *ℤ pos 86400000000000 +ℤ t) (h +ℤ pos 1) 86400000000000 (omega arith) (λ z. omega (arith, add h (pos 1)))
+    go _ _ second l a b = let j = joint h t 1000000000 in
+        cut-dn (h *ℤ pos 1000000000 +ℤ t) (h +ℤ pos 1) 1000000000 (omega arith) (λ z. omega (arith, add h (pos 1)))
 
 -- they go the same way, or there is no head
 up-same : (h t u q : ℤ) → Unit u q → up t < up u → dn h ≤ up h → dn t ≤ up t → quotZ (h *ℤ u +ℤ t) u ≡ h
-up-same h t _ _ day l a b = let j = joint h t 86400000000000 in cut-up (h *ℤ pos 86400000000000 +ℤ t) h 86400000000000 (omega arith) (λ z. omega arith)
-up-same h t _ _ second l a b = let j = joint h t 1000000000 in cut-up (h *ℤ pos 1000000000 +ℤ t) h 1000000000 (omega arith) (λ z. omega arith)
+up-same h t _ _ day l a b = let j = joint h t 86400000000000 in
+    cut-up (h *ℤ pos 86400000000000 +ℤ t) h 86400000000000 (omega arith) (λ z. omega arith)
+up-same h t _ _ second l a b = let j = joint h t 1000000000 in
+    cut-up (h *ℤ pos 1000000000 +ℤ t) h 1000000000 (omega arith) (λ z. omega arith)
 
 dn-same : (h t u q : ℤ) → Unit u q → dn t < up u → up h ≤ dn h → up t ≤ dn t → quotZ (h *ℤ u +ℤ t) u ≡ h
-dn-same h t _ _ day l a b = let j = joint h t 86400000000000 in cut-dn (h *ℤ pos 86400000000000 +ℤ t) h 86400000000000 (omega arith) (λ z. omega arith)
-dn-same h t _ _ second l a b = let j = joint h t 1000000000 in cut-dn (h *ℤ pos 1000000000 +ℤ t) h 1000000000 (omega arith) (λ z. omega arith)
+dn-same h t _ _ day l a b = let j = joint h t 86400000000000 in
+    cut-dn (h *ℤ pos 86400000000000 +ℤ t) h 86400000000000 (omega arith) (λ z. omega arith)
+dn-same h t _ _ second l a b = let j = joint h t 1000000000 in
+    cut-dn (h *ℤ pos 1000000000 +ℤ t) h 1000000000 (omega arith) (λ z. omega arith)
 
-pub cut-same : (h t u q : ℤ) → Unit u q → up t < up u → dn t < up u → ltZ (pos 0) h && ltZ t (pos 0) ≡ false → ltZ h (pos 0) && ltZ (pos 0) t ≡ false → quotZ (h *ℤ u +ℤ t) u ≡ h
+pub cut-same : (h t u q : ℤ) → Unit u q → up t < up u → dn t < up u → ltZ (pos 0) h && ltZ t (pos 0) ≡ false →
+    ltZ h (pos 0) && ltZ (pos 0) t ≡ false → quotZ (h *ℤ u +ℤ t) u ≡ h
 cut-same h t u q k l m = go (ltZ (pos 0) h) (ltZ t (pos 0)) (ltZ h (pos 0)) (ltZ (pos 0) t) refl refl refl refl
   where
-    go : (a b c d : Bool) → ltZ (pos 0) h ≡ a → ltZ t (pos 0) ≡ b → ltZ h (pos 0) ≡ c → ltZ (pos 0) t ≡ d → a && b ≡ false → c && d ≡ false → quotZ (h *ℤ u +ℤ t) u ≡ h
+    go : (a b c d : Bool) → ltZ (pos 0) h ≡ a → ltZ t (pos 0) ≡ b → ltZ h (pos 0) ≡ c → ltZ (pos 0) t ≡ d → a && b ≡ false →
+        c && d ≡ false → quotZ (h *ℤ u +ℤ t) u ≡ h
     go true true c d x y z w e f = absurd (true≢false e)
     go true false c d x y z w e f = up-same h t u q k l (omega (arith, lt-true (pos 0) h x)) (omega (arith, lt-false t (pos 0) y))
     go false b true true x y z w e f = absurd (true≢false f)
-    go false b true false x y z w e f = dn-same h t u q k m (omega (arith, lt-true h (pos 0) z)) (omega (arith, lt-false (pos 0) t w))
-    go false true false d x y z w e f = dn-same h t u q k m (omega (arith, lt-false (pos 0) h x)) (omega (arith, lt-true t (pos 0) y))
-    go false false false d x y z w e f = up-same h t u q k l (omega (arith, lt-false h (pos 0) z)) (omega (arith, lt-false t (pos 0) y))
+    go false b true false x y z w e f = dn-same h t u q k m (omega (arith, lt-true h (pos 0) z))
+        (omega (arith, lt-false (pos 0) t w))
+    go false true false d x y z w e f = dn-same h t u q k m (omega (arith, lt-false (pos 0) h x))
+        (omega (arith, lt-true t (pos 0) y))
+    go false false false d x y z w e f = up-same h t u q k l (omega (arith, lt-false h (pos 0) z))
+        (omega (arith, lt-false t (pos 0) y))
 
 -- ---- the sign of the sum: that of the heads, or, where they are 0, of the tails
 abbrev pub Ahead : ℤ → ℤ → ℕ → Type 0

@@ -18,15 +18,37 @@ use Rattle.values.proofs.Numbers.{is-le, is-gt, within-true, not-below,
 module _ (kind : ℤ) (v : Value) where
   pub of-dates : leZ kind (pos 3) ≡ true → isValue kind v ≡ leZ (pos 1) kind && aDate v
   unfolding isValue
-  of-dates e = simp (e, is-gt (pos 4) kind (omega (arith, le-true kind (pos 3) e)), is-gt (pos 7) kind (omega (arith, le-true kind (pos 3) e)), and-true, or-false)
+  of-dates e = simp (
+    e,
+    is-gt (pos 4) kind (omega (arith, le-true kind (pos 3) e)),
+    is-gt (pos 7) kind
+        (omega (arith, le-true kind (pos 3) e)),
+    and-true,
+    or-false,
+  )
 
   pub of-date-times : leZ kind (pos 3) ≡ false → leZ kind (pos 6) ≡ true → isValue kind v ≡ aDateTime v
   unfolding isValue
-  of-date-times e f = simp (e, f, is-le (pos 4) kind (omega (arith, le-false kind (pos 3) e)), is-gt (pos 7) kind (omega (arith, le-true kind (pos 6) f)), is-le (pos 1) kind (omega (arith, le-false kind (pos 3) e)), or-false)
+  of-date-times e f = simp (
+    e,
+    f,
+    is-le (pos 4) kind (omega (arith, le-false kind (pos 3) e)),
+    is-gt (pos 7) kind
+        (omega (arith, le-true kind (pos 6) f)),
+    is-le (pos 1) kind (omega (arith, le-false kind (pos 3) e)),
+    or-false,
+  )
 
   pub of-durations : leZ kind (pos 3) ≡ false → leZ kind (pos 6) ≡ false → isValue kind v ≡ leZ kind (pos 7) && aDuration v
   unfolding isValue
-  of-durations e f = simp (e, f, is-le (pos 1) kind (omega (arith, le-false kind (pos 3) e)), is-le (pos 4) kind (omega (arith, le-false kind (pos 3) e)), is-le (pos 7) kind (omega (arith, le-false kind (pos 6) f)))
+  of-durations e f = simp (
+    e,
+    f,
+    is-le (pos 1) kind (omega (arith, le-false kind (pos 3) e)),
+    is-le (pos 4) kind
+        (omega (arith, le-false kind (pos 3) e)),
+    is-le (pos 7) kind (omega (arith, le-false kind (pos 6) f)),
+  )
 
 -- ---- its ranges
 -- those of the machine's numbers
@@ -66,7 +88,8 @@ module _ (kind : ℤ) (v : Value) (value : isValue kind v ≡ true) where
   -- kinds 1 to 3
   pub date-value : leZ kind (pos 3) ≡ true → DateValue v
   date-value e =
-      let (x, y) = both-true (isDay (v .head)) (within (pos 0) (v .tail) (pos 0)) (both-true (leZ (pos 1) kind) (aDate v) (sym (of-dates kind v e) ∙ value) .1) in
+      let (x, y) = both-true (isDay (v .head)) (within (pos 0) (v .tail) (pos 0))
+      (both-true (leZ (pos 1) kind) (aDate v) (sym (of-dates kind v e) ∙ value) .1) in
       let h = within-true (pos 1) (v .head) (pos 3652059) x in
       let t = within-true (pos 0) (v .tail) (pos 0) y in
       let zh : dn (v .head) ≡ 0 = not-below (v .head) (omega arith) in
@@ -90,7 +113,9 @@ module _ (kind : ℤ) (v : Value) (value : isValue kind v ≡ true) where
       let (k, l) = within-true (pos 7) kind (pos 7) n in
       let e : leZ kind (pos 3) ≡ false = is-gt kind (pos 3) (omega arith) in
       let f : leZ kind (pos 6) ≡ false = is-gt kind (pos 6) (omega arith) in
-      let (x, y) = both-true (within (negsuc 315575999999) (v .head) (pos 315576000000)) (within (pos 0) (v .tail) (pos 999999999)) (both-true (leZ kind (pos 7)) (aDuration v) (sym (of-durations kind v e f) ∙ value) .1) in
+      let (x, y) = both-true (within (negsuc 315575999999) (v .head) (pos 315576000000))
+      (within (pos 0) (v .tail) (pos 999999999)) (both-true (leZ kind (pos 7)) (aDuration v)
+      (sym (of-durations kind v e f) ∙ value) .1) in
       let h = within-true (negsuc 315575999999) (v .head) (pos 315576000000) x in
       let t = within-true (pos 0) (v .tail) (pos 999999999) y in
       let b = bounded (v .head) 315576000000 315576000000 (omega arith) (omega arith) in

@@ -7,9 +7,6 @@ use Rattle.axis.specs.Questions.{plainQuestions, nearOrLong}
 use Rattle.axis.proofs.axis_refusal.Statement.{statement}
 use Rattle.axis.proofs.axis_refusal.Tie as tie
 
-plain-refusal-requires : tie.Need-plain-refusal-requires
-plain-refusal-requires c κs = search needs
-
 returns : tie.Need-returns
 returns c =
     let x = c .before .before .args in
@@ -22,13 +19,10 @@ near-or-long-requires c κs =
     let none : firstNo (plainQuestions (x .has) (x .a)) ≡ 0 = sym (c .before .plain-refusal .ensures) ∙ c .if1 .left in
     (told 3 (plainQuestions (x .has) (x .a)) tt none, told 4 (plainQuestions (x .has) (x .a)) tt none)
 
-ask-requires : tie.Need-ask-requires
-ask-requires c κs = search needs
-
 returns-2 : tie.Need-returns-2
 returns-2 c = rw (c .ask .ensures, c .before .near-or-long .ensures, c .before .before .before .plain-refusal .ensures)
 
 pub axis-refusal-spec : {M : Type 1} → statement M
 axis-refusal-spec =
     tie.close
-    (tie.spec plain-refusal-requires returns near-or-long-requires ask-requires returns-2)
+    (tie.spec (λ c κs. search needs) returns near-or-long-requires (λ c κs. search needs) returns-2)

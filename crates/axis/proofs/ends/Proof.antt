@@ -10,23 +10,20 @@ use Rattle.axis.proofs.ends.Tie as tie
 kind-fits : (c : tie.Start) → SFits w64 (c .args .a .kind)
 kind-fits c = search needs
 
-start-requires : tie.Need-start-requires
-start-requires c κs = search needs
-
-is-value-requires : tie.Need-is-value-requires
-is-value-requires c κs = search needs
-
-end-requires : tie.Need-end-requires
-end-requires c κs = search needs
-
-is-value-requires-2 : tie.Need-is-value-requires-2
-is-value-requires-2 c κs = search needs
-
 returns : tie.Need-returns
 unfolding ends
 returns c =
     let s = c .before .before .before .before .before .before in
-    rw (c .before .before .before .is-value .ensures, c .is-value2 .ensures, c .before .before .before .before .before .start .ensures, c .before .before .end .ensures, toZ-ofZ (kind-fits s))
+    rw (
+      c .before .before .before .is-value .ensures,
+      c .is-value2 .ensures,
+      c .before .before .before .before .before .start .ensures,
+      c .before .before .end .ensures,
+      toZ-ofZ (kind-fits s),
+    )
 
 pub ends-spec : {M : Type 1} → statement M
-ends-spec = tie.close (tie.spec start-requires is-value-requires end-requires is-value-requires-2 returns)
+ends-spec =
+    tie.close
+    (tie.spec (λ c κs. search needs) (λ c κs. search needs) (λ c κs. search needs) (λ c κs. search needs)
+    returns)

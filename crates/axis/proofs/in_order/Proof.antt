@@ -4,18 +4,11 @@ use Rattle.axis.specs.Questions.{inOrder}
 use Rattle.axis.proofs.in_order.Statement.{statement}
 use Rattle.axis.proofs.in_order.Tie as tie
 
-start-requires : tie.Need-start-requires
-start-requires c κs = search needs
-
-end-requires : tie.Need-end-requires
-end-requires c κs = search needs
-
-earlier-requires : tie.Need-earlier-requires
-earlier-requires c κs = search needs
-
 returns : tie.Need-returns
 unfolding inOrder
 returns c = rw (c .earlier .ensures, c .before .end .ensures, c .before .before .start .ensures)
 
 pub in-order-spec : {M : Type 1} → statement M
-in-order-spec = tie.close (tie.spec start-requires end-requires earlier-requires returns)
+in-order-spec =
+    tie.close
+    (tie.spec (λ c κs. search needs) (λ c κs. search needs) (λ c κs. search needs) returns)

@@ -4,18 +4,11 @@ use Rattle.axis.specs.Questions.{mappable}
 use Rattle.axis.proofs.mappable.Statement.{statement}
 use Rattle.axis.proofs.mappable.Tie as tie
 
-start-requires : tie.Need-start-requires
-start-requires c κs = search needs
-
-end-requires : tie.Need-end-requires
-end-requires c κs = search needs
-
-earlier-requires : tie.Need-earlier-requires
-earlier-requires c κs = search needs
-
 returns : tie.Need-returns
 unfolding mappable
 returns c = rw (c .before .before .before .before .before .before .before .before .before .before .before .before .before .before .before .before .earlier .ensures, c .before .before .before .before .before .before .before .before .before .before .before .before .before .before .before .before .before .before .start .ensures, c .before .before .before .before .before .before .before .before .before .before .before .before .before .before .before .before .before .end .ensures) (search needs)
 
 pub mappable-spec : {M : Type 1} → statement M
-mappable-spec = tie.close (tie.spec start-requires end-requires earlier-requires returns)
+mappable-spec =
+    tie.close
+    (tie.spec (λ c κs. search needs) (λ c κs. search needs) (λ c κs. search needs) returns)

@@ -10,7 +10,8 @@ in-range : (c : tie.Start) → InRange (c .args .v)
 in-range c = search needs
 
 returns : tie.Need-returns
-returns c = let s = c .before .before .before .before .before .before .before .before in rw (toZ-ofZ (in-range s .head), toZ-ofZ (in-range s .tail)) (near-by-seconds (s .args .v) (s .pre))
+returns c = let s = c .before .before .before .before .before .before .before .before in
+    rw (toZ-ofZ (in-range s .head), toZ-ofZ (in-range s .tail)) (near-by-seconds (s .args .v) (s .pre))
 
 pub near-zero-spec : {M : Type 1} → statement M
 near-zero-spec = tie.close (tie.spec returns)

@@ -12,9 +12,6 @@ use Rattle.axis.proofs.offset.Tie as tie
 kind-fits : (c : tie.Start) → SFits w64 (c .args .a .kind)
 kind-fits c = search needs
 
-start-requires : tie.Need-start-requires
-start-requires c κs = search needs
-
 nanoseconds-between-requires : tie.Need-nanoseconds-between-requires
 nanoseconds-between-requires c κs =
     let s = c .before .before in
@@ -22,7 +19,8 @@ nanoseconds-between-requires c κs =
 
 returns : tie.Need-returns
 unfolding offsetOf
-returns c = let s = c .before .before .before in c .nanoseconds-between .ensures ∙ rw (toZ-ofZ (kind-fits s), c .before .before .start .ensures)
+returns c = let s = c .before .before .before in
+    c .nanoseconds-between .ensures ∙ rw (toZ-ofZ (kind-fits s), c .before .before .start .ensures)
 
 pub offset-spec : {M : Type 1} → statement M
-offset-spec = tie.close (tie.spec start-requires nanoseconds-between-requires returns)
+offset-spec = tie.close (tie.spec (λ c κs. search needs) nanoseconds-between-requires returns)

@@ -12,9 +12,6 @@ use Rattle.axis.proofs.offset_days.Tie as tie
 kind-fits : (c : tie.Start) → SFits w64 (c .args .a .kind)
 kind-fits c = search needs
 
-start-requires : tie.Need-start-requires
-start-requires c κs = search needs
-
 whole-days-between-requires : tie.Need-whole-days-between-requires
 whole-days-between-requires c κs =
     let s = c .before .before in
@@ -24,7 +21,8 @@ returns : tie.Need-returns
 unfolding offsetOf
 returns c =
     let s = c .before .before .before in
-    toZ-ofZ {w = w64} {z = c .whole-days-between .result} (search needs) ∙ (c .whole-days-between .ensures ∙ rw (toZ-ofZ (kind-fits s), c .before .before .start .ensures))
+    toZ-ofZ {w = w64} {z = c .whole-days-between .result} (search needs)
+    ∙ (c .whole-days-between .ensures ∙ rw (toZ-ofZ (kind-fits s), c .before .before .start .ensures))
 
 pub offset-days-spec : {M : Type 1} → statement M
-offset-days-spec = tie.close (tie.spec start-requires whole-days-between-requires returns)
+offset-days-spec = tie.close (tie.spec (λ c κs. search needs) whole-days-between-requires returns)

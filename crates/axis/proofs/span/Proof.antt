@@ -12,12 +12,6 @@ use Rattle.axis.proofs.span.Tie as tie
 kind-fits : (c : tie.Start) → SFits w64 (c .args .a .kind)
 kind-fits c = search needs
 
-start-requires : tie.Need-start-requires
-start-requires c κs = search needs
-
-end-requires : tie.Need-end-requires
-end-requires c κs = search needs
-
 nanoseconds-between-requires : tie.Need-nanoseconds-between-requires
 nanoseconds-between-requires c κs =
     let s = c .before .before .before in
@@ -25,7 +19,14 @@ nanoseconds-between-requires c κs =
 
 returns : tie.Need-returns
 unfolding spanOf
-returns c = let s = c .before .before .before .before in c .nanoseconds-between .ensures ∙ rw (toZ-ofZ (kind-fits s), c .before .before .before .start .ensures, c .before .before .end .ensures)
+returns c = let s = c .before .before .before .before in
+    c .nanoseconds-between .ensures ∙ rw (
+      toZ-ofZ (kind-fits s),
+      c .before .before .before .start .ensures,
+      c .before .before .end .ensures,
+    )
 
 pub span-spec : {M : Type 1} → statement M
-span-spec = tie.close (tie.spec start-requires end-requires nanoseconds-between-requires returns)
+span-spec =
+    tie.close
+    (tie.spec (λ c κs. search needs) (λ c κs. search needs) nanoseconds-between-requires returns)

@@ -12,12 +12,6 @@ use Rattle.axis.proofs.span_days.Tie as tie
 kind-fits : (c : tie.Start) → SFits w64 (c .args .a .kind)
 kind-fits c = search needs
 
-start-requires : tie.Need-start-requires
-start-requires c κs = search needs
-
-end-requires : tie.Need-end-requires
-end-requires c κs = search needs
-
 whole-days-between-requires : tie.Need-whole-days-between-requires
 whole-days-between-requires c κs =
     let s = c .before .before .before in
@@ -27,7 +21,14 @@ returns : tie.Need-returns
 unfolding spanOf
 returns c =
     let s = c .before .before .before .before in
-    toZ-ofZ {w = w64} {z = c .whole-days-between .result} (search needs) ∙ (c .whole-days-between .ensures ∙ rw (toZ-ofZ (kind-fits s), c .before .before .before .start .ensures, c .before .before .end .ensures))
+    toZ-ofZ {w = w64} {z = c .whole-days-between .result} (search needs)
+    ∙ (c .whole-days-between .ensures ∙ rw (
+      toZ-ofZ (kind-fits s),
+      c .before .before .before .start .ensures,
+      c .before .before .end .ensures,
+    ))
 
 pub span-days-spec : {M : Type 1} → statement M
-span-days-spec = tie.close (tie.spec start-requires end-requires whole-days-between-requires returns)
+span-days-spec =
+    tie.close
+    (tie.spec (λ c κs. search needs) (λ c κs. search needs) whole-days-between-requires returns)

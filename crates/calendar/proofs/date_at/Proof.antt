@@ -11,9 +11,6 @@ use Rattle.calendar.proofs.Questions.{day-count, day-range}
 use Rattle.calendar.proofs.date_at.Statement.{statement}
 use Rattle.calendar.proofs.date_at.Tie as tie
 
-is-day-requires : tie.Need-is-day-requires
-is-day-requires c κs = search needs
-
 asked : (c : tie.After-is-day) → c .is-day .result ≡ isDay (c .before .args .n)
 asked c = rw (toZ-ofZ (c .before .fits .n)) at (c .is-day .ensures)
 
@@ -41,6 +38,4 @@ unfolding dateAt
 returns-2 c = simp (fine (c .before .before), c .date-of .ensures, counted (c .before))
 
 pub date-at-spec : {M : Type 1} → statement M
-date-at-spec =
-    tie.close
-    (tie.spec is-day-requires returns count-requires date-of-requires returns-2)
+date-at-spec = tie.close (tie.spec (λ c κs. search needs) returns count-requires date-of-requires returns-2)

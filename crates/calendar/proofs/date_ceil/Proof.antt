@@ -10,9 +10,6 @@ use lib.Dec.{ltb}
 use Rattle.calendar.proofs.date_ceil.Statement.{statement}
 use Rattle.calendar.proofs.date_ceil.Tie as tie
 
-add-result : tie.Need-add-result
-add-result c = search needs
-
 returns : tie.Need-returns
 returns c =
     let seconds = c .before .before .before .args .t .nano / 1000000000 in
@@ -26,4 +23,4 @@ returns-2 c =
     simp (none, add-zero)
 
 pub date-ceil-spec : {M : Type 1} → statement M
-date-ceil-spec = tie.close (tie.spec add-result returns returns-2)
+date-ceil-spec = tie.close (tie.spec (λ c. search needs) returns returns-2)

@@ -6,23 +6,8 @@ use Rattle.calendar.proofs.Formulas.{flag-le, number-is, monthLength-le
 use Rattle.calendar.proofs.day_number.Statement.{statement}
 use Rattle.calendar.proofs.day_number.Tie as tie
 
-cast-j : tie.Need-cast-j
-cast-j c = search needs
-
 sub-p : tie.Need-sub-p
 sub-p c = omega (arith, flag-le (ltb (c .args .m) 3))
-
-mul-c : tie.Need-mul-c
-mul-c c = search needs
-
-mul-result : tie.Need-mul-result
-mul-result c = search needs
-
-sub-result : tie.Need-sub-result
-sub-result c = search needs
-
-add-result : tie.Need-add-result
-add-result c = search needs
 
 mul-result-2 : tie.Need-mul-result-2
 mul-result-2 c = omega (arith, flag-le (ltb (c .args .m) 3))
@@ -51,18 +36,6 @@ returns c = omega (arith, number-is (c .args .y) (c .args .m) (c .args .d) (c .p
 pub day-number-spec : {M : Type 1} → statement M
 day-number-spec =
     tie.close
-    (tie.spec
-    cast-j
-    sub-p
-    mul-c
-    mul-result
-    sub-result
-    add-result
-    mul-result-2
-    add-result-2
-    mul-result-3
-    add-result-3
-    add-result-4
-    add-result-5
-    sub-result-2
-    returns)
+    (tie.spec (λ c. search needs) sub-p (λ c. search needs) (λ c. search needs) (λ c. search needs)
+    (λ c. search needs) mul-result-2 add-result-2 mul-result-3 add-result-3 add-result-4 add-result-5
+    sub-result-2 returns)

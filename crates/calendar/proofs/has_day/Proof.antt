@@ -10,11 +10,8 @@ use Rattle.calendar.proofs.has_day.Tie as tie
 returns : tie.Need-returns
 returns c = let x = c .before .args in early-day (x .y) (x .m) (x .d) (c .before .pre .1) (c .if1 .taken)
 
-month-length-requires : tie.Need-month-length-requires
-month-length-requires c κs = search needs
-
 returns-2 : tie.Need-returns-2
 returns-2 c = ap (λ (n : ℕ). leb (c .before .before .args .d) n) (c .month-length .ensures)
 
 pub has-day-spec : {M : Type 1} → statement M
-has-day-spec = tie.close (tie.spec returns month-length-requires returns-2)
+has-day-spec = tie.close (tie.spec returns (λ c κs. search needs) returns-2)

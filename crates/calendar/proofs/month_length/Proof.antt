@@ -12,21 +12,12 @@ use Rattle.calendar.proofs.month_length.Reads as reads
 use Rattle.calendar.proofs.month_length.Lts as lts
 use Rattle.calendar.proofs.leap_day.Reads as leap-day-reads
 
-leap-day-requires : tie.Need-leap-day-requires
-leap-day-requires c κs = search needs
-
 add-result : tie.Need-add-result
 add-result c = omega (arith, leapDay-le (c .before .before .args .y))
 
 returns : tie.Need-returns
 unfolding monthLength
 returns c = rw (c .before .if1 .taken, c .leap-day .ensures)
-
-sub-i : tie.Need-sub-i
-sub-i c = search needs
-
-array-read-result : tie.Need-array-read-result
-array-read-result c = search needs
 
 cast-result : tie.Need-cast-result
 cast-result c = omega (arith, lengths-le (c .before .args .m - 1) (omega arith))
@@ -38,4 +29,5 @@ returns-2 c = simp (ne-eqb _ _ (c .if1 .left), add-zero)
 pub month-length-spec : {M : Type 1} → statement M
 month-length-spec =
     tie.close
-    (tie.spec leap-day-requires add-result returns sub-i array-read-result cast-result returns-2)
+    (tie.spec (λ c κs. search needs) add-result returns (λ c. search needs) (λ c. search needs) cast-result
+    returns-2)

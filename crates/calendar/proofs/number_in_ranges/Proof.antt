@@ -15,7 +15,8 @@ given c = record { year = pos (c .args .y); month = pos (c .args .m); day = pos 
 has-day-requires : tie.Need-has-day-requires
 has-day-requires c κs = let k = ranges (given c) (c .pre) in (k .month-first, k .month-last)
 
-asked : (c : tie.After-has-day) → isDate (pos (c .before .args .y)) (pos (c .before .args .m)) (pos (c .before .args .d)) ≡ c .has-day .result
+asked : (c : tie.After-has-day) → isDate (pos (c .before .args .y)) (pos (c .before .args .m)) (pos (c .before .args .d))
+    ≡ c .has-day .result
 asked c = in-month (given (c .before)) (c .before .pre) ∙ sym (c .has-day .ensures)
 
 returns : tie.Need-returns

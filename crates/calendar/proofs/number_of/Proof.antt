@@ -15,9 +15,6 @@ use Rattle.calendar.proofs.Questions.{out-of-ranges, Ranges, ranges}
 use Rattle.calendar.proofs.number_of.Statement.{statement}
 use Rattle.calendar.proofs.number_of.Tie as tie
 
-in-ranges-requires : tie.Need-in-ranges-requires
-in-ranges-requires c κs = search needs
-
 returns : tie.Need-returns
 unfolding numberOf
 returns c = simp (out-of-ranges (c .before .before .args .t) (sym (c .before .in-ranges .ensures) ∙ not-true _ (c .if1 .taken)))
@@ -35,16 +32,24 @@ count-requires : tie.Need-count-requires
 count-requires c κs = back (c .before .before .before .args .t .year) (search needs) (fine (c .before) .year-count)
 
 count-requires-2 : tie.Need-count-requires-2
-count-requires-2 c κs = let e = c .before .before .before in back (e .before .before .args .t .month) (search needs) (fine e .month-count)
+count-requires-2 c κs = let e = c .before .before .before in
+    back (e .before .before .args .t .month) (search needs) (fine e .month-count)
 
 count-requires-3 : tie.Need-count-requires-3
-count-requires-3 c κs = let e = c .before .before .before .before .before in back (e .before .before .args .t .day) (search needs) (fine e .day-count)
+count-requires-3 c κs = let e = c .before .before .before .before .before in
+    back (e .before .before .args .t .day) (search needs) (fine e .day-count)
 
 -- a count is the number that it was made of
 same : (z : ℤ) (n : ℕ) → SFits w64 z → pos (up z) ≡ z → n ≡ up (toZ w64 (ofZ w64 z)) → pos n ≡ z
 same z n f e p = ap pos (p ∙ ap up (toZ-ofZ f)) ∙ e
 
-counted : (c : tie.After-count3) → record { year = pos (c .before .before .before .before .count .result); month = pos (c .before .before .count2 .result); day = pos (c .count3 .result) } ≡ c .before .before .before .before .before .before .before .before .args .t
+counted : (c : tie.After-count3) → record {
+  year = pos (c .before .before .before .before .count .result);
+  month =
+      pos (c .before .before .count2 .result);
+  day = pos (c .count3 .result);
+} ≡ c .before .before .before .before .before
+    .before .before .before .args .t
 counted c =
     let m = c .before .before in
     let y = m .before .before in
@@ -64,11 +69,5 @@ returns-2 c = c .number-in-ranges .ensures ∙ ap numberOf (counted (c .before))
 pub number-of-spec : {M : Type 1} → statement M
 number-of-spec =
     tie.close
-    (tie.spec
-    in-ranges-requires
-    returns
-    count-requires
-    count-requires-2
-    count-requires-3
-    number-in-ranges-requires
-    returns-2)
+    (tie.spec (λ c κs. search needs) returns count-requires count-requires-2 count-requires-3
+    number-in-ranges-requires returns-2)

@@ -10,9 +10,6 @@ use Rattle.discrete.proofs.Answers.{in-range, out-of-range, day-in, day
 use Rattle.discrete.proofs.at_midnight.Statement.{statement}
 use Rattle.discrete.proofs.at_midnight.Tie as tie
 
-cast-t3 : tie.Need-cast-t3
-cast-t3 c = search needs
-
 returns : tie.Need-returns
 returns c =
     let s = c .before in
@@ -23,4 +20,4 @@ returns-2 : tie.Need-returns-2
 returns-2 c = out-of-range (midnight (c .before .args .day)) (day-beyond (c .before .args .day) (omega arith))
 
 pub at-midnight-spec : {M : Type 1} → statement M
-at-midnight-spec = tie.close (tie.spec cast-t3 returns returns-2)
+at-midnight-spec = tie.close (tie.spec (λ c. search needs) returns returns-2)

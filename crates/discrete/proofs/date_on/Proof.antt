@@ -10,9 +10,6 @@ use Rattle.discrete.specs.Counting.{dateOn}
 use Rattle.discrete.proofs.date_on.Statement.{statement}
 use Rattle.discrete.proofs.date_on.Tie as tie
 
-day-of-requires : tie.Need-day-of-requires
-day-of-requires c κs = search needs
-
 date-of-requires : tie.Need-date-of-requires
 date-of-requires c κs =
     let v = c .before .args .v in
@@ -25,4 +22,4 @@ unfolding dateOn
 returns c = c .date-of .ensures ∙ ap dateOf (c .before .day-of .ensures)
 
 pub date-on-spec : {M : Type 1} → statement M
-date-on-spec = tie.close (tie.spec day-of-requires date-of-requires returns)
+date-on-spec = tie.close (tie.spec (λ c κs. search needs) date-of-requires returns)

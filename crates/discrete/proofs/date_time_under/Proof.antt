@@ -5,12 +5,6 @@ use Rattle.discrete.specs.Answers.{dateTimeUnder}
 use Rattle.discrete.proofs.date_time_under.Statement.{statement}
 use Rattle.discrete.proofs.date_time_under.Tie as tie
 
-enum-known-u : tie.Need-enum-known-u
-enum-known-u c = search needs
-
-enum-known-u-2 : tie.Need-enum-known-u-2
-enum-known-u-2 c = search needs
-
 returns : tie.Need-returns
 returns c = ap dateTimeUnder (sym (c .before .u .given .1))
 
@@ -18,4 +12,4 @@ returns-2 : tie.Need-returns-2
 returns-2 c = ap dateTimeUnder (sym (c .before .u2 .given .1))
 
 pub date-time-under-spec : {M : Type 1} → statement M
-date-time-under-spec = tie.close (tie.spec enum-known-u enum-known-u-2 returns returns-2)
+date-time-under-spec = tie.close (tie.spec (λ c. search needs) (λ c. search needs) returns returns-2)

@@ -15,9 +15,6 @@ use Rattle.discrete.proofs.Counting.{starts, is-day, no-less}
 use Rattle.discrete.proofs.first_day.Statement.{statement}
 use Rattle.discrete.proofs.first_day.Tie as tie
 
-start-requires : tie.Need-start-requires
-start-requires c κs = search needs
-
 tail-fits : (c : tie.After-start) → SFits w64 (c .start .result .tail)
 tail-fits c = search needs
 
@@ -53,4 +50,5 @@ returns c =
 
 pub first-day-spec : {M : Type 1} → statement M
 first-day-spec =
-    tie.close (tie.spec start-requires day-of-requires count-requires date-ceil-requires returns)
+    tie.close
+    (tie.spec (λ c κs. search needs) day-of-requires count-requires date-ceil-requires returns)

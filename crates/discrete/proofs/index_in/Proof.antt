@@ -10,9 +10,6 @@ use Rattle.discrete.proofs.Answers.{index-none, index-is}
 use Rattle.discrete.proofs.index_in.Statement.{statement}
 use Rattle.discrete.proofs.index_in.Tie as tie
 
-place-of-requires : tie.Need-place-of-requires
-place-of-requires c κs = search needs
-
 from-is : (c : tie.After-place-of) → c .place-of .result .from ≡ origin (c .before .args .a)
 from-is c = ap (λ (x : Place). x .from) (c .place-of .ensures)
 
@@ -23,10 +20,12 @@ returns : tie.Need-returns
 returns c =
     let p = c .before .before .before in
     let s = p .before in
-    ap (λ (x : Place). number.Is (x .at - x .from)) (p .place-of .ensures) ∙ index-is (s .args .a) (s .args .v) (omega (arith, from-is p, at-is p))
+    ap (λ (x : Place). number.Is (x .at - x .from)) (p .place-of .ensures) ∙ index-is (s .args .a) (s .args .v)
+    (omega (arith, from-is p, at-is p))
 
 returns-2 : tie.Need-returns-2
-returns-2 c = let p = c .before .before in index-none (p .before .args .a) (p .before .args .v) (omega (arith, from-is p, at-is p))
+returns-2 c = let p = c .before .before in
+    index-none (p .before .args .a) (p .before .args .v) (omega (arith, from-is p, at-is p))
 
 pub index-in-spec : {M : Type 1} → statement M
-index-in-spec = tie.close (tie.spec place-of-requires returns returns-2)
+index-in-spec = tie.close (tie.spec (λ c κs. search needs) returns returns-2)

@@ -9,15 +9,13 @@ use Rattle.discrete.proofs.Answers.{number-refused}
 use Rattle.discrete.proofs.index_of.Statement.{statement}
 use Rattle.discrete.proofs.index_of.Tie as tie
 
-value-refusal-requires : tie.Need-value-refusal-requires
-value-refusal-requires c κs = search needs
-
 returns : tie.Need-returns
 unfolding indexAnswer
 returns c =
     let r = c .before in
     let x = r .before .args in
-    number-refused (firstNo (valueQuestions (x .a) (x .v))) (r .value-refusal .result) (indexIn (x .a) (x .v)) (r .value-refusal .ensures) (c .if1 .taken)
+    number-refused (firstNo (valueQuestions (x .a) (x .v))) (r .value-refusal .result) (indexIn (x .a) (x .v))
+    (r .value-refusal .ensures) (c .if1 .taken)
 
 none : (c : tie.Else1) → firstNo (valueQuestions (c .before .before .args .a) (c .before .before .args .v)) ≡ 0
 none c = sym (c .before .value-refusal .ensures) ∙ c .if1 .left
@@ -36,4 +34,4 @@ returns-2 c =
     c .index-in .ensures ∙ sym (ap (λ (k : ℕ). numberAnswer k (indexIn (x .a) (x .v))) (none e))
 
 pub index-of-spec : {M : Type 1} → statement M
-index-of-spec = tie.close (tie.spec value-refusal-requires returns index-in-requires returns-2)
+index-of-spec = tie.close (tie.spec (λ c κs. search needs) returns index-in-requires returns-2)

@@ -28,14 +28,9 @@ returns c =
 day-number-requires : tie.Need-day-number-requires
 day-number-requires c κs = let s = c .before in (a-first (s .args .year) 1 (s .pre .1) (omega arith) (omega arith), omega arith)
 
-start-requires : tie.Need-start-requires
-start-requires c κs = search needs
-
 day-of-requires : tie.Need-day-of-requires
-day-of-requires c κs = let s = c .before .before .before in rw (c .start .ensures) (is-day (start (s .args .a)) (starts (s .args .a) (s .pre .0)))
-
-start-requires-2 : tie.Need-start-requires-2
-start-requires-2 c κs = search needs
+day-of-requires c κs = let s = c .before .before .before in
+    rw (c .start .ensures) (is-day (start (s .args .a)) (starts (s .args .a) (s .pre .0)))
 
 start-day : (c : tie.After-day-of) → c .day-of .result ≡ up (c .before .before .before .before .args .a .«start_head»)
 start-day c = c .day-of .ensures ∙ ap (λ (v : Value). up (v .head)) (c .before .start .ensures)
@@ -48,10 +43,8 @@ returns-2 c =
     let a = s .args .a in
     ap value.At (c .start2 .ensures)
     ∙ in-range (start a) (is-day (start a) (starts a (s .pre .0)))
-    ∙ ap (λ (v : Value). checked (value.At v)) (sym (january-start a (s .args .year) (omega (arith, start-day d, n .day-number .ensures))))
-
-at-midnight-requires : tie.Need-at-midnight-requires
-at-midnight-requires c κs = search needs
+    ∙ ap (λ (v : Value). checked (value.At v))
+    (sym (january-start a (s .args .year) (omega (arith, start-day d, n .day-number .ensures))))
 
 returns-3 : tie.Need-returns-3
 returns-3 c =
@@ -61,17 +54,11 @@ returns-3 c =
     let a = s .args .a in
     c .at-midnight .ensures
     ∙ ap (λ (k : ℕ). checked (value.At (midnight k))) (n .day-number .ensures)
-    ∙ ap (λ (v : Value). checked (value.At v)) (sym (january-later a (s .args .year) (omega (arith, start-day d, n .day-number .ensures))))
+    ∙ ap (λ (v : Value). checked (value.At v))
+    (sym (january-later a (s .args .year) (omega (arith, start-day d, n .day-number .ensures))))
 
 pub january-spec : {M : Type 1} → statement M
 january-spec =
     tie.close
-    (tie.spec
-    returns
-    day-number-requires
-    start-requires
-    day-of-requires
-    start-requires-2
-    returns-2
-    at-midnight-requires
-    returns-3)
+    (tie.spec returns day-number-requires (λ c κs. search needs) day-of-requires (λ c κs. search needs)
+    returns-2 (λ c κs. search needs) returns-3)

@@ -13,11 +13,9 @@ use Rattle.discrete.proofs.Counting.{Near, first, first-near, month-fir
 use Rattle.discrete.proofs.month_at.Statement.{statement}
 use Rattle.discrete.proofs.month_at.Tie as tie
 
-first-day-requires : tie.Need-first-day-requires
-first-day-requires c κs = search needs
-
 at-midnight-requires : tie.Need-at-midnight-requires
-at-midnight-requires c κs = let s = c .before .before in omega (arith, c .first-day .ensures, first (s .args .a) (s .pre .0) .least)
+at-midnight-requires c κs = let s = c .before .before in
+    omega (arith, c .first-day .ensures, first (s .args .a) (s .pre .0) .least)
 
 returns : tie.Need-returns
 returns c =
@@ -26,9 +24,6 @@ returns c =
     c .at-midnight .ensures
     ∙ ap (λ (d : ℕ). checked (value.At (midnight d))) (f .first-day .ensures)
     ∙ ap (λ (v : Value). checked (value.At v)) (sym (month-first (s .args .a) (s .args .i) (f .before .if1 .taken)))
-
-first-date-requires : tie.Need-first-date-requires
-first-date-requires c κs = search needs
 
 near : (c : tie.After-first-date) → Near (c .first-date .result) 10000
 near c = let s = c .before .before in rw (c .first-date .ensures) (first-near (s .args .a) (s .pre .0))
@@ -42,9 +37,6 @@ add-k c = let s = c .before .before .before in omega (arith, near (c .before), s
 add-month-start : tie.Need-add-month-start
 add-month-start c = let s = c .before .before .before .before in omega (arith, near (c .before .before), s .pre .1)
 
-add-month-start-2 : tie.Need-add-month-start-2
-add-month-start-2 c = search needs
-
 month-start-requires : tie.Need-month-start-requires
 month-start-requires c κs = (omega (arith, near (c .before .before) .year-least), omega arith, omega arith)
 
@@ -54,20 +46,13 @@ returns-2 c =
     let s = f .before .before in
     let i = s .args .i in
     c .month-start .ensures
-    ∙ ap (λ (t : Date). checked (value.At (midnight (dayNumber (t .year + (i + (t .month - 1)) / 12) ((i + (t .month - 1)) % 12 + 1) 1)))) (f .first-date .ensures)
+    ∙ ap (λ (t : Date). checked
+    (value.At (midnight (dayNumber (t .year + (i + (t .month - 1)) / 12) ((i + (t .month - 1)) % 12 + 1) 1))))
+    (f .first-date .ensures)
     ∙ ap (λ (v : Value). checked (value.At v)) (sym (month-later (s .args .a) i (f .before .if1 .left)))
 
 pub month-at-spec : {M : Type 1} → statement M
 month-at-spec =
     tie.close
-    (tie.spec
-    first-day-requires
-    at-midnight-requires
-    returns
-    first-date-requires
-    sub-k
-    add-k
-    add-month-start
-    add-month-start-2
-    month-start-requires
-    returns-2)
+    (tie.spec (λ c κs. search needs) at-midnight-requires returns (λ c κs. search needs) sub-k add-k
+    add-month-start (λ c. search needs) month-start-requires returns-2)

@@ -16,10 +16,12 @@ returns c =
     let s = c .before in
     let y = s .args .year in
     let m = s .args .month in
-    out-of-range (midnight (dayNumber y m 1)) (day-beyond (dayNumber y m 1) (first-beyond y m (s .pre .0) (s .pre .1) (s .pre .2) (omega arith)))
+    out-of-range (midnight (dayNumber y m 1))
+    (day-beyond (dayNumber y m 1) (first-beyond y m (s .pre .0) (s .pre .1) (s .pre .2) (omega arith)))
 
 day-number-requires : tie.Need-day-number-requires
-day-number-requires c κs = let s = c .before in (a-first (s .args .year) (s .args .month) (s .pre .0) (s .pre .1) (s .pre .2), omega arith)
+day-number-requires c κs = let s = c .before in
+    (a-first (s .args .year) (s .args .month) (s .pre .0) (s .pre .1) (s .pre .2), omega arith)
 
 at-midnight-requires : tie.Need-at-midnight-requires
 at-midnight-requires c κs =

@@ -18,11 +18,9 @@ use Rattle.discrete.proofs.next_day.Tie as tie
 day-of-requires : tie.Need-day-of-requires
 day-of-requires c κs = is-day (c .args .v) (on-day (c .args .a) (c .pre .0) (c .args .v) (c .pre .1))
 
-start-requires : tie.Need-start-requires
-start-requires c κs = search needs
-
 day-of-requires-2 : tie.Need-day-of-requires-2
-day-of-requires-2 c κs = let s = c .before .before in rw (c .start .ensures) (is-day (start (s .args .a)) (starts (s .args .a) (s .pre .0)))
+day-of-requires-2 c κs = let s = c .before .before in
+    rw (c .start .ensures) (is-day (start (s .args .a)) (starts (s .args .a) (s .pre .0)))
 
 at-is : (c : tie.After-day-of) → c .day-of .result ≡ position (c .before .args .a) (c .before .args .v)
 at-is c = let s = c .before in c .day-of .ensures ∙ sym (position-days (s .args .a) (s .args .v) (s .pre .2) (s .pre .3))
@@ -30,7 +28,8 @@ at-is c = let s = c .before in c .day-of .ensures ∙ sym (position-days (s .arg
 from-is : (c : tie.After-day-of2) → c .day-of2 .result ≡ origin (c .before .before .before .args .a)
 from-is c =
     let s = c .before .before .before in
-    c .day-of2 .ensures ∙ ap (λ (v : Value). up (v .head)) (c .before .start .ensures) ∙ sym (origin-days (s .args .a) (s .pre .2) (s .pre .3))
+    c .day-of2 .ensures ∙ ap (λ (v : Value). up (v .head)) (c .before .start .ensures)
+    ∙ sym (origin-days (s .args .a) (s .pre .2) (s .pre .3))
 
 returns : tie.Need-returns
 returns c =
@@ -39,18 +38,18 @@ returns c =
     let x = t .before .args in
     no-value ∙ ap checked (sym (next-before (x .a) (x .v) (omega (arith, c .if1 .taken, from-is d, at-is t))))
 
-end-requires : tie.Need-end-requires
-end-requires c κs = search needs
-
 day-of-requires-3 : tie.Need-day-of-requires-3
 day-of-requires-3 c κs =
     let s = c .before .before .before .before .before in
-    rw (c .end .ensures) (is-day (end (s .args .a)) (on-day (s .args .a) (s .pre .0) (end (s .args .a)) (end-on (s .args .a) (s .pre .0))))
+    rw (c .end .ensures) (is-day (end (s .args .a)) (on-day (s .args .a) (s .pre .0) (end (s .args .a))
+    (end-on (s .args .a) (s .pre .0))))
 
-to-is : (c : tie.After-day-of3) → c .day-of3 .result ≡ position (c .before .before .before .before .before .before .args .a) (end (c .before .before .before .before .before .before .args .a))
+to-is : (c : tie.After-day-of3) → c .day-of3 .result ≡ position (c .before .before .before .before .before .before .args .a)
+    (end (c .before .before .before .before .before .before .args .a))
 to-is c =
     let s = c .before .before .before .before .before .before in
-    c .day-of3 .ensures ∙ ap (λ (v : Value). up (v .head)) (c .before .end .ensures) ∙ sym (position-days (s .args .a) (end (s .args .a)) (s .pre .2) (s .pre .3))
+    c .day-of3 .ensures ∙ ap (λ (v : Value). up (v .head)) (c .before .end .ensures)
+    ∙ sym (position-days (s .args .a) (end (s .args .a)) (s .pre .2) (s .pre .3))
 
 from-to : (c : tie.Else1) → let s = c .before .before .before .before in origin (s .args .a) ≤ position (s .args .a) (s .args .v)
 from-to c = let d = c .before in omega (arith, c .if1 .left, from-is d, at-is (d .before .before))
@@ -62,12 +61,6 @@ returns-2 c =
     let t = e .before .before .before in
     let x = t .before .args in
     no-value ∙ ap checked (sym (next-end (x .a) (x .v) (from-to e) (omega (arith, c .if2 .taken, to-is d, at-is t))))
-
-add-at-midnight : tie.Need-add-at-midnight
-add-at-midnight c = search needs
-
-at-midnight-requires : tie.Need-at-midnight-requires
-at-midnight-requires c κs = search needs
 
 returns-3 : tie.Need-returns-3
 returns-3 c =
@@ -81,20 +74,12 @@ returns-3 c =
     omega (arith, at-is t, from-to e, origin-days (x .a) (s .pre .2) (s .pre .3)) in
     c .at-midnight .ensures
     ∙ ap (λ (k : ℕ). checked (value.At (midnight k))) place
-    ∙ ap (λ (v : Value). checked (value.At v)) (sym (value-days (x .a) (position (x .a) (x .v) - origin (x .a) + 1) (s .pre .2) (s .pre .3)))
+    ∙ ap (λ (v : Value). checked (value.At v))
+    (sym (value-days (x .a) (position (x .a) (x .v) - origin (x .a) + 1) (s .pre .2) (s .pre .3)))
     ∙ ap checked (sym (next-inside (x .a) (x .v) (from-to e) (omega (arith, n .if2 .left, to-is d, at-is t))))
 
 pub next-day-spec : {M : Type 1} → statement M
 next-day-spec =
     tie.close
-    (tie.spec
-    day-of-requires
-    start-requires
-    day-of-requires-2
-    returns
-    end-requires
-    day-of-requires-3
-    returns-2
-    add-at-midnight
-    at-midnight-requires
-    returns-3)
+    (tie.spec day-of-requires (λ c κs. search needs) day-of-requires-2 returns (λ c κs. search needs)
+    day-of-requires-3 returns-2 (λ c. search needs) (λ c κs. search needs) returns-3)

@@ -4,17 +4,8 @@ use mathlib.Core.Path.{sym, _∙_}
 use Rattle.discrete.proofs.next_in.Statement.{statement}
 use Rattle.discrete.proofs.next_in.Tie as tie
 
-monthly-requires : tie.Need-monthly-requires
-monthly-requires c κs = search needs
-
 next-month-requires : tie.Need-next-month-requires
 next-month-requires c κs = let s = c .before .before in (s .pre .0, s .pre .1, sym (c .before .monthly .ensures) ∙ c .if1 .taken)
-
-returns : tie.Need-returns
-returns c = search needs
-
-yearly-requires : tie.Need-yearly-requires
-yearly-requires c κs = search needs
 
 next-year-requires : tie.Need-next-year-requires
 next-year-requires c κs =
@@ -22,27 +13,14 @@ next-year-requires c κs =
     let s = e .before .before in
     (s .pre .0, s .pre .1, sym (e .before .monthly .ensures) ∙ e .if1 .left, sym (c .before .yearly .ensures) ∙ c .if2 .taken)
 
-returns-2 : tie.Need-returns-2
-returns-2 c = search needs
-
 next-day-requires : tie.Need-next-day-requires
 next-day-requires c κs =
     let e = c .before .before in
     let s = e .before .before in
     (s .pre .0, s .pre .1, sym (e .before .monthly .ensures) ∙ e .if1 .left, sym (c .before .yearly .ensures) ∙ c .if2 .left)
 
-returns-3 : tie.Need-returns-3
-returns-3 c = search needs
-
 pub next-in-spec : {M : Type 1} → statement M
 next-in-spec =
     tie.close
-    (tie.spec
-    monthly-requires
-    next-month-requires
-    returns
-    yearly-requires
-    next-year-requires
-    returns-2
-    next-day-requires
-    returns-3)
+    (tie.spec (λ c κs. search needs) next-month-requires (λ c. search needs) (λ c κs. search needs)
+    next-year-requires (λ c. search needs) next-day-requires (λ c. search needs))

@@ -9,24 +9,18 @@ use Rattle.calendar.specs.declared.Date.{Date}
 use Rattle.values.specs.declared.Value.{Value}
 use Rattle.axis.specs.Axes.{start}
 use Rattle.discrete.specs.Counting.{monthly, yearly, firstDate, dateOn}
-use Rattle.discrete.proofs.Counting.{Near, over, on-day, starts, is-day, on-near, origin-months, origin-years, origin-days, position-months, position-years, position-days}
+use Rattle.discrete.proofs.Counting.{Near, over, on-day, starts, is-day, on-near, origin-months, origin-years}
+use Rattle.discrete.proofs.Counting.{origin-days, position-months, position-years, position-days}
 use Rattle.discrete.proofs.place_of.Statement.{statement}
 use Rattle.discrete.proofs.place_of.Tie as tie
 
-monthly-requires : tie.Need-monthly-requires
-monthly-requires c κs = search needs
-
-first-date-requires : tie.Need-first-date-requires
-first-date-requires c κs = search needs
-
 date-on-requires : tie.Need-date-on-requires
-date-on-requires c κs = let s = c .before .before .before in is-day (s .args .v) (on-day (s .args .a) (s .pre .0) (s .args .v) (s .pre .1))
-
-larger-requires : tie.Need-larger-requires
-larger-requires c κs = search needs
+date-on-requires c κs = let s = c .before .before .before in
+    is-day (s .args .v) (on-day (s .args .a) (s .pre .0) (s .args .v) (s .pre .1))
 
 near : (c : tie.After-date-on) → Near (c .date-on .result) 9999
-near c = let s = c .before .before .before .before in rw (c .date-on .ensures) (on-near (s .args .a) (s .pre .0) (s .args .v) (s .pre .1))
+near c = let s = c .before .before .before .before in
+    rw (c .date-on .ensures) (on-near (s .args .a) (s .pre .0) (s .args .v) (s .pre .1))
 
 sub-t9 : tie.Need-sub-t9
 sub-t9 c = omega (arith, c .before .larger .ensures)
@@ -52,7 +46,8 @@ returns c =
     let s = f .before .before .before .args in
     let n = firstDate (s .a) .year in
     let month = d .date-on .result .month in
-    let months : 12 * (x .larger .result - f .first-date .result .year) + month ≡ 12 * (dateOn (s .v) .year - n) + dateOn (s .v) .month =
+    let months : 12 * (x .larger .result - f .first-date .result .year) + month ≡ 12 * (dateOn (s .v) .year - n)
+    + dateOn (s .v) .month =
     ap (λ (k : ℕ). 12 * (k - f .first-date .result .year) + month) (x .larger .ensures)
     ∙ ap (λ (k : ℕ). 12 * k + month) (over (d .date-on .result .year) (f .first-date .result .year))
     ∙ ap (λ (t : Date). 12 * (d .date-on .result .year - t .year) + month) (f .first-date .ensures)
@@ -61,14 +56,9 @@ returns c =
     let q = months ∙ sym (position-months (s .a) (s .v) m) in
     λ i. record { from = p i; at = q i }
 
-yearly-requires : tie.Need-yearly-requires
-yearly-requires c κs = search needs
-
-first-date-requires-2 : tie.Need-first-date-requires-2
-first-date-requires-2 c κs = search needs
-
 date-on-requires-2 : tie.Need-date-on-requires-2
-date-on-requires-2 c κs = let s = c .before .before .before .before .before in is-day (s .args .v) (on-day (s .args .a) (s .pre .0) (s .args .v) (s .pre .1))
+date-on-requires-2 c κs = let s = c .before .before .before .before .before in
+    is-day (s .args .v) (on-day (s .args .a) (s .pre .0) (s .args .v) (s .pre .1))
 
 returns-2 : tie.Need-returns-2
 returns-2 c =
@@ -81,14 +71,13 @@ returns-2 c =
     let q = ap (λ (d : Date). d .year) (c .date-on2 .ensures) ∙ sym (position-years (s .a) (s .v) (not-months e) y) in
     λ i. record { from = p i; at = q i }
 
-start-requires : tie.Need-start-requires
-start-requires c κs = search needs
-
 day-of-requires : tie.Need-day-of-requires
-day-of-requires c κs = let s = c .before .before .before .before .before in rw (c .start .ensures) (is-day (start (s .args .a)) (starts (s .args .a) (s .pre .0)))
+day-of-requires c κs = let s = c .before .before .before .before .before in
+    rw (c .start .ensures) (is-day (start (s .args .a)) (starts (s .args .a) (s .pre .0)))
 
 day-of-requires-2 : tie.Need-day-of-requires-2
-day-of-requires-2 c κs = let s = c .before .before .before .before .before .before in is-day (s .args .v) (on-day (s .args .a) (s .pre .0) (s .args .v) (s .pre .1))
+day-of-requires-2 c κs = let s = c .before .before .before .before .before .before in
+    is-day (s .args .v) (on-day (s .args .a) (s .pre .0) (s .args .v) (s .pre .1))
 
 returns-3 : tie.Need-returns-3
 returns-3 c =
@@ -98,27 +87,14 @@ returns-3 c =
     let e = n .before .before in
     let s = e .before .before .args in
     let y : yearly (s .a) ≡ false = sym (n .before .yearly .ensures) ∙ n .if2 .left in
-    let p = d .day-of .ensures ∙ ap (λ (v : Value). up (v .head)) (b .start .ensures) ∙ sym (origin-days (s .a) (not-months e) y) in
+    let p = d .day-of .ensures ∙ ap (λ (v : Value). up (v .head)) (b .start .ensures)
+    ∙ sym (origin-days (s .a) (not-months e) y) in
     let q = c .day-of2 .ensures ∙ sym (position-days (s .a) (s .v) (not-months e) y) in
     λ i. record { from = p i; at = q i }
 
 pub place-of-spec : {M : Type 1} → statement M
 place-of-spec =
     tie.close
-    (tie.spec
-    monthly-requires
-    first-date-requires
-    date-on-requires
-    larger-requires
-    sub-t9
-    mul-t10
-    add-t11
-    returns
-    yearly-requires
-    first-date-requires-2
-    date-on-requires-2
-    returns-2
-    start-requires
-    day-of-requires
-    day-of-requires-2
-    returns-3)
+    (tie.spec (λ c κs. search needs) (λ c κs. search needs) date-on-requires (λ c κs. search needs) sub-t9
+    mul-t10 add-t11 returns (λ c κs. search needs) (λ c κs. search needs) date-on-requires-2 returns-2
+    (λ c κs. search needs) day-of-requires day-of-requires-2 returns-3)

@@ -27,20 +27,20 @@ inner : (x y : ℤ) → SFits w64 x → SFits w64 y → SFits w64 (x -ℤ y) →
 inner x y f g h = rw (toZ-ofZ f, toZ-ofZ g) h
 
 sub-index-at : tie.Need-sub-index-at
-sub-index-at c = let s = c .before .before in inner (s .args .p) (s .args .l .low) (s .fits .p) (low-fits s) (apart s .offset-fits)
-
-size-of-requires : tie.Need-size-of-requires
-size-of-requires c κs = search needs
+sub-index-at c = let s = c .before .before in
+    inner (s .args .p) (s .args .l .low) (s .fits .p) (low-fits s) (apart s .offset-fits)
 
 sub-index-at-2 : tie.Need-sub-index-at-2
 sub-index-at-2 c =
     let s = c .before .before .before .before .before in
     inner (s .args .l .high) (s .args .l .low) (high-fits s) (low-fits s) (apart s .width-fits)
 
-offset-is : (s : tie.Start) → toZ w64 (ofZ w64 (toZ w64 (ofZ w64 (s .args .p)) -ℤ toZ w64 (ofZ w64 (s .args .l .low)))) ≡ s .args .p -ℤ s .args .l .low
+offset-is : (s : tie.Start) → toZ w64 (ofZ w64 (toZ w64 (ofZ w64 (s .args .p)) -ℤ toZ w64 (ofZ w64 (s .args .l .low))))
+    ≡ s .args .p -ℤ s .args .l .low
 offset-is s = read-sub (s .args .p) (s .args .l .low) (s .fits .p) (low-fits s) (apart s .offset-fits)
 
-width-is : (s : tie.Start) → toZ w64 (ofZ w64 (toZ w64 (ofZ w64 (s .args .l .high)) -ℤ toZ w64 (ofZ w64 (s .args .l .low)))) ≡ s .args .l .high -ℤ s .args .l .low
+width-is : (s : tie.Start) → toZ w64 (ofZ w64 (toZ w64 (ofZ w64 (s .args .l .high)) -ℤ toZ w64 (ofZ w64 (s .args .l .low))))
+    ≡ s .args .l .high -ℤ s .args .l .low
 width-is s = read-sub (s .args .l .high) (s .args .l .low) (high-fits s) (low-fits s) (apart s .width-fits)
 
 index-at-requires : tie.Need-index-at-requires
@@ -56,10 +56,12 @@ returns c =
     let n = c .before .before .before in
     let s = n .before .before .before in
     c .index-at .ensures
-    ∙ ap (λ (z : ℤ). indexAt z (n .size-of .result) (toZ w64 (ofZ w64 (toZ w64 (ofZ w64 (s .args .l .high)) -ℤ toZ w64 (ofZ w64 (s .args .l .low)))))) (offset-is s)
+    ∙ ap (λ (z : ℤ). indexAt z (n .size-of .result)
+    (toZ w64 (ofZ w64 (toZ w64 (ofZ w64 (s .args .l .high)) -ℤ toZ w64 (ofZ w64 (s .args .l .low)))))) (offset-is s)
     ∙ ap (λ (z : ℤ). indexAt (s .args .p -ℤ s .args .l .low) (n .size-of .result) z) (width-is s)
     ∙ ap (λ (k : ℕ). indexAt (s .args .p -ℤ s .args .l .low) k (s .args .l .high -ℤ s .args .l .low)) (n .size-of .ensures)
 
 pub place-under-spec : {M : Type 1} → statement M
 place-under-spec =
-    tie.close (tie.spec sub-index-at size-of-requires sub-index-at-2 index-at-requires returns)
+    tie.close
+    (tie.spec sub-index-at (λ c κs. search needs) sub-index-at-2 index-at-requires returns)

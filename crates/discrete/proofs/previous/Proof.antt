@@ -8,15 +8,13 @@ use Rattle.discrete.proofs.Answers.{value-refused, passed}
 use Rattle.discrete.proofs.previous.Statement.{statement}
 use Rattle.discrete.proofs.previous.Tie as tie
 
-value-refusal-requires : tie.Need-value-refusal-requires
-value-refusal-requires c κs = search needs
-
 returns : tie.Need-returns
 unfolding previousAnswer
 returns c =
     let r = c .before in
     let x = r .before .args in
-    value-refused (valueQuestions (x .a) (x .v)) (r .value-refusal .result) (previousIn (x .a) (x .v)) (r .value-refusal .ensures) (c .if1 .taken)
+    value-refused (valueQuestions (x .a) (x .v)) (r .value-refusal .result) (previousIn (x .a) (x .v))
+    (r .value-refusal .ensures) (c .if1 .taken)
 
 none : (c : tie.Else1) → firstNo (valueQuestions (c .before .before .args .a) (c .before .before .args .v)) ≡ 0
 none c = sym (c .before .value-refusal .ensures) ∙ c .if1 .left
@@ -35,4 +33,4 @@ returns-2 c =
     c .previous-in .ensures ∙ sym (passed (valueQuestions (x .a) (x .v)) (previousIn (x .a) (x .v)) (none e))
 
 pub previous-spec : {M : Type 1} → statement M
-previous-spec = tie.close (tie.spec value-refusal-requires returns previous-in-requires returns-2)
+previous-spec = tie.close (tie.spec (λ c κs. search needs) returns previous-in-requires returns-2)

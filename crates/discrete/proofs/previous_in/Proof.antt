@@ -12,9 +12,6 @@ use Rattle.discrete.proofs.Answers.{no-value, previous-none, previous-i
 use Rattle.discrete.proofs.previous_in.Statement.{statement}
 use Rattle.discrete.proofs.previous_in.Tie as tie
 
-place-of-requires : tie.Need-place-of-requires
-place-of-requires c κs = search needs
-
 from-is : (c : tie.After-place-of) → c .place-of .result .from ≡ origin (c .before .args .a)
 from-is c = ap (λ (x : Place). x .from) (c .place-of .ensures)
 
@@ -26,12 +23,6 @@ returns c =
     let p = c .before .before in
     let x = p .before .args in
     no-value ∙ ap checked (sym (previous-none (x .a) (x .v) (omega (arith, from-is p, at-is p))))
-
-sub-value-at : tie.Need-sub-value-at
-sub-value-at c = search needs
-
-sub-value-at-2 : tie.Need-sub-value-at-2
-sub-value-at-2 c = search needs
 
 value-at-requires : tie.Need-value-at-requires
 value-at-requires c κs =
@@ -50,4 +41,5 @@ returns-2 c =
 pub previous-in-spec : {M : Type 1} → statement M
 previous-in-spec =
     tie.close
-    (tie.spec place-of-requires returns sub-value-at sub-value-at-2 value-at-requires returns-2)
+    (tie.spec (λ c κs. search needs) returns (λ c. search needs) (λ c. search needs) value-at-requires
+    returns-2)

@@ -10,14 +10,12 @@ use Rattle.discrete.proofs.Answers.{number-refused, counted}
 use Rattle.discrete.proofs.size.Statement.{statement}
 use Rattle.discrete.proofs.size.Tie as tie
 
-size-refusal-requires : tie.Need-size-refusal-requires
-size-refusal-requires c κs = search needs
-
 returns : tie.Need-returns
 unfolding sizeAnswer
 returns c =
     let r = c .before in
-    number-refused (firstNo (sizeQuestions (r .before .args .a))) (r .size-refusal .result) (number.Is (sizeOf (r .before .args .a))) (r .size-refusal .ensures) (c .if1 .taken)
+    number-refused (firstNo (sizeQuestions (r .before .args .a))) (r .size-refusal .result)
+    (number.Is (sizeOf (r .before .args .a))) (r .size-refusal .ensures) (c .if1 .taken)
 
 none : (c : tie.Else1) → firstNo (sizeQuestions (c .before .before .args .a)) ≡ 0
 none c = sym (c .before .size-refusal .ensures) ∙ c .if1 .left
@@ -29,7 +27,8 @@ returns-2 : tie.Need-returns-2
 unfolding sizeAnswer
 returns-2 c =
     let e = c .before in
-    ap number.Is (c .size-of .ensures) ∙ sym (ap (λ (k : ℕ). numberAnswer k (number.Is (sizeOf (e .before .before .args .a)))) (none e))
+    ap number.Is (c .size-of .ensures) ∙ sym (ap (λ (k : ℕ). numberAnswer k (number.Is (sizeOf (e .before .before .args .a))))
+    (none e))
 
 pub size-spec : {M : Type 1} → statement M
-size-spec = tie.close (tie.spec size-refusal-requires returns size-of-requires returns-2)
+size-spec = tie.close (tie.spec (λ c κs. search needs) returns size-of-requires returns-2)

@@ -11,14 +11,16 @@ use Rattle.discrete.proofs.Counting.{end-on, position-most}
 use Rattle.discrete.proofs.size_of.Statement.{statement}
 use Rattle.discrete.proofs.size_of.Tie as tie
 
-end-requires : tie.Need-end-requires
-end-requires c κs = search needs
-
 place-of-requires : tie.Need-place-of-requires
 place-of-requires c κs = let s = c .before in (s .pre, rw (c .end .ensures) (end-on (s .args .a) (s .pre)))
 
-placed : (c : tie.After-place-of) → c .place-of .result ≡ record { from = origin (c .before .before .args .a); at = position (c .before .before .args .a) (end (c .before .before .args .a)) }
-placed c = let a = c .before .before .args .a in c .place-of .ensures ∙ ap (λ (v : Value). record { from = origin a; at = position a v }) (c .before .end .ensures)
+placed : (c : tie.After-place-of) → c .place-of .result ≡ record {
+  from = origin (c .before .before .args .a);
+  at =
+      position (c .before .before .args .a) (end (c .before .before .args .a));
+}
+placed c = let a = c .before .before .args .a in
+    c .place-of .ensures ∙ ap (λ (v : Value). record { from = origin a; at = position a v }) (c .before .end .ensures)
 
 add-excess : tie.Need-add-excess
 add-excess c =
@@ -27,13 +29,11 @@ add-excess c =
     let e = ap (λ (x : Place). x .at) (placed p) in
     omega (arith, e, position-most (s .args .a) (s .pre) (end (s .args .a)) (end-on (s .args .a) (s .pre)))
 
-excess-requires : tie.Need-excess-requires
-excess-requires c κs = search needs
-
 returns : tie.Need-returns
 unfolding sizeOf
 returns c = c .excess .ensures ∙ ap (λ (x : Place). x .at + 1 - x .from) (placed (c .before .before))
 
 pub size-of-spec : {M : Type 1} → statement M
 size-of-spec =
-    tie.close (tie.spec end-requires place-of-requires add-excess excess-requires returns)
+    tie.close
+    (tie.spec (λ c κs. search needs) place-of-requires add-excess (λ c κs. search needs) returns)

@@ -24,15 +24,6 @@ next-fits c =
     let r = index-range i (c .pre) in
     fits (i +ℤ pos 1) (up i + 1) 0 (omega (arith, add i (pos 1))) (omega arith) (omega arith)
 
-enum-known-v : tie.Need-enum-known-v
-enum-known-v c = search needs
-
-enum-told : tie.Need-enum-told
-enum-told c = search needs
-
-enum-known-v-2 : tie.Need-enum-known-v-2
-enum-known-v-2 c = search needs
-
 add-t6 : tie.Need-add-t6
 add-t6 c = let s = c .before .before .before .before .before in rw (toZ-ofZ (place-fits s)) (next-fits s)
 
@@ -49,8 +40,10 @@ returns-3 : tie.Need-returns-3
 returns-3 c =
     let k = c .before .before .before in
     let s = k .before .before in
-    ap (λ (z : ℤ). step.At (k .v2 .given .0 .0) (record { place = z })) (next-is s) ∙ ap (stepped (s .args .c)) (sym (k .v2 .given .1))
+    ap (λ (z : ℤ). step.At (k .v2 .given .0 .0) (record { place = z })) (next-is s) ∙ ap (stepped (s .args .c))
+    (sym (k .v2 .given .1))
 
 pub stepped-spec : {M : Type 1} → statement M
 stepped-spec =
-    tie.close (tie.spec enum-known-v enum-told enum-known-v-2 add-t6 returns returns-2 returns-3)
+    tie.close
+    (tie.spec (λ c. search needs) (λ c. search needs) (λ c. search needs) add-t6 returns returns-2 returns-3)

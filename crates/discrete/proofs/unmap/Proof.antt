@@ -21,9 +21,6 @@ use Rattle.discrete.proofs.DateTimes.{no-duration, has-index, value-no,
 use Rattle.discrete.proofs.unmap.Statement.{statement}
 use Rattle.discrete.proofs.unmap.Tie as tie
 
-unmap-refusal-requires : tie.Need-unmap-refusal-requires
-unmap-refusal-requires c κs = search needs
-
 abbrev row : tie.Start → List Question
 row s = unmapQuestions (s .args .a) (s .args .l) (s .args .p)
 
@@ -66,10 +63,13 @@ unmap-coord-requires c κs =
     let e = c .before .before .before .before .before in
     let s = e .before .before in
     let four : within (pos 4) (s .args .a .kind) (pos 4) ≡ true = rw (toZ-ofZ (kind-fits s)) at (c .if2 .taken) in
-    rw (toZ-ofZ (s .fits .p)) (record { dated = no-duration (s .args .a .kind) four; real = told 3 (row s) tt (none e); order = told 4 (row s) tt (none e); page = told 7 (row s) tt (none e) })
-
-date-time-under-requires : tie.Need-date-time-under-requires
-date-time-under-requires c κs = search needs
+    rw (toZ-ofZ (s .fits .p)) (record {
+      dated = no-duration (s .args .a .kind) four;
+      real =
+          told 3 (row s) tt (none e);
+      order = told 4 (row s) tt (none e);
+      page = told 7 (row s) tt (none e);
+    })
 
 returns-2 : tie.Need-returns-2
 unfolding unmapAnswer
@@ -79,7 +79,8 @@ returns-2 c =
     let e = t .before .before .before .before .before in
     let s = e .before .before in
     let four : within (pos 4) (s .args .a .kind) (pos 4) ≡ true = rw (toZ-ofZ (kind-fits s)) at (t .if2 .taken) in
-    (c .date-time-under .ensures ∙ ap dateTimeUnder (u .unmap-coord .ensures ∙ ap (λ (z : ℤ). unmapCoord (s .args .a) (s .args .l) z) (toZ-ofZ (s .fits .p))))
+    (c .date-time-under .ensures ∙ ap dateTimeUnder (u .unmap-coord .ensures
+    ∙ ap (λ (z : ℤ). unmapCoord (s .args .a) (s .args .l) z) (toZ-ofZ (s .fits .p))))
     ∙ sym (ap (branch s) four ∙ ap (λ (k : ℕ). valueAnswer k (timed s)) (none e))
 
 unmap-in-requires : tie.Need-unmap-in-requires
@@ -87,7 +88,14 @@ unmap-in-requires c κs =
     let e = c .before .before .before .before .before in
     let s = e .before .before in
     let other : within (pos 4) (s .args .a .kind) (pos 4) ≡ false = rw (toZ-ofZ (kind-fits s)) at (c .if2 .left) in
-    rw (toZ-ofZ (s .fits .p)) (record { has = has-index (s .args .a) (told 2 (row s) tt (none e)) other; real = told 3 (row s) tt (none e) }, told 7 (row s) tt (none e))
+    rw (toZ-ofZ (s .fits .p)) (
+      record {
+        has = has-index (s .args .a) (told 2 (row s) tt (none e)) other;
+        real =
+            told 3 (row s) tt (none e);
+      },
+      told 7 (row s) tt (none e),
+    )
 
 returns-3 : tie.Need-returns-3
 unfolding unmapAnswer
@@ -104,11 +112,5 @@ returns-3 c =
 pub unmap-spec : {M : Type 1} → statement M
 unmap-spec =
     tie.close
-    (tie.spec
-    unmap-refusal-requires
-    returns
-    unmap-coord-requires
-    date-time-under-requires
-    returns-2
-    unmap-in-requires
-    returns-3)
+    (tie.spec (λ c κs. search needs) returns unmap-coord-requires (λ c κs. search needs) returns-2
+    unmap-in-requires returns-3)

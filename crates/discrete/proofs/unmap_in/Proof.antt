@@ -20,8 +20,10 @@ use Rattle.discrete.proofs.unmap_in.Tie as tie
 place-under-requires : tie.Need-place-under-requires
 place-under-requires c κs = rw (toZ-ofZ (c .fits .p)) (c .pre)
 
-under : (c : tie.After-place-under) → c .place-under .result ≡ placeUnder (c .before .args .a) (c .before .args .l) (c .before .args .p)
-under c = let s = c .before in c .place-under .ensures ∙ ap (λ (z : ℤ). placeUnder (s .args .a) (s .args .l) z) (toZ-ofZ (s .fits .p))
+under : (c : tie.After-place-under) → c .place-under .result ≡ placeUnder (c .before .args .a) (c .before .args .l)
+    (c .before .args .p)
+under c = let s = c .before in c .place-under .ensures ∙ ap (λ (z : ℤ). placeUnder (s .args .a) (s .args .l) z)
+    (toZ-ofZ (s .fits .p))
 
 no : (b : Bool) → b ≡ false → 10 ≡ firstNo (ask 10 b ∷ [])
 no b e = rw e
@@ -35,10 +37,8 @@ returns c =
     let n = c .before in
     let x = n .before .args in
     let i = placeUnder (x .a) (x .l) (x .p) in
-    value-refused (underQuestions (x .a) (x .l) (x .p)) 10 (value.At (valueAt (x .a) i)) (no (leb i 3652059) (lt-leb i 3652059 (omega (arith, under n)))) (λ e. omega arith)
-
-value-at-requires : tie.Need-value-at-requires
-value-at-requires c κs = search needs
+    value-refused (underQuestions (x .a) (x .l) (x .p)) 10 (value.At (valueAt (x .a) i))
+    (no (leb i 3652059) (lt-leb i 3652059 (omega (arith, under n)))) (λ e. omega arith)
 
 returns-2 : tie.Need-returns-2
 unfolding unmapIn
@@ -48,7 +48,8 @@ returns-2 c =
     let i = placeUnder (x .a) (x .l) (x .p) in
     c .value-at .ensures
     ∙ ap (λ (k : ℕ). checked (value.At (valueAt (x .a) k))) (under n)
-    ∙ sym (passed (underQuestions (x .a) (x .l) (x .p)) (value.At (valueAt (x .a) i)) (yes (leb i 3652059) (le-leb i 3652059 (omega (arith, under n)))))
+    ∙ sym (passed (underQuestions (x .a) (x .l) (x .p)) (value.At (valueAt (x .a) i))
+    (yes (leb i 3652059) (le-leb i 3652059 (omega (arith, under n)))))
 
 pub unmap-in-spec : {M : Type 1} → statement M
-unmap-in-spec = tie.close (tie.spec place-under-requires returns value-at-requires returns-2)
+unmap-in-spec = tie.close (tie.spec place-under-requires returns (λ c κs. search needs) returns-2)

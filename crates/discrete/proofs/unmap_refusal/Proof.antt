@@ -4,22 +4,17 @@ use mir.Facts.{toZ-ofZ}
 use Rattle.discrete.proofs.unmap_refusal.Statement.{statement}
 use Rattle.discrete.proofs.unmap_refusal.Tie as tie
 
-has-unmap-requires : tie.Need-has-unmap-requires
-has-unmap-requires c κs = search needs
-
-plain-refusal-requires : tie.Need-plain-refusal-requires
-plain-refusal-requires c κs = search needs
-
-unmap-pixels-requires : tie.Need-unmap-pixels-requires
-unmap-pixels-requires c κs = search needs
-
-ask-requires : tie.Need-ask-requires
-ask-requires c κs = search needs
-
 returns : tie.Need-returns
-returns c = rw (c .ask .ensures, c .before .unmap-pixels .ensures, toZ-ofZ (c .before .before .before .before .fits .p), c .before .before .plain-refusal .ensures, c .before .before .before .has-unmap .ensures)
+returns c = rw (
+  c .ask .ensures,
+  c .before .unmap-pixels .ensures,
+  toZ-ofZ (c .before .before .before .before .fits .p),
+  c .before .before .plain-refusal .ensures,
+  c .before .before .before .has-unmap .ensures,
+)
 
 pub unmap-refusal-spec : {M : Type 1} → statement M
 unmap-refusal-spec =
     tie.close
-    (tie.spec has-unmap-requires plain-refusal-requires unmap-pixels-requires ask-requires returns)
+    (tie.spec (λ c κs. search needs) (λ c κs. search needs) (λ c κs. search needs) (λ c κs. search needs)
+    returns)

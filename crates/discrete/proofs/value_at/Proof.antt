@@ -14,12 +14,6 @@ use Rattle.discrete.proofs.Counting.{starts, is-day, value-months, valu
 use Rattle.discrete.proofs.value_at.Statement.{statement}
 use Rattle.discrete.proofs.value_at.Tie as tie
 
-monthly-requires : tie.Need-monthly-requires
-monthly-requires c κs = search needs
-
-month-at-requires : tie.Need-month-at-requires
-month-at-requires c κs = search needs
-
 not-months : (c : tie.Else1) → monthly (c .before .before .args .a) ≡ false
 not-months c = sym (c .before .monthly .ensures) ∙ c .if1 .left
 
@@ -30,12 +24,6 @@ returns c =
     let m : monthly (s .a) ≡ true = sym (t .before .monthly .ensures) ∙ t .if1 .taken in
     c .month-at .ensures ∙ ap (λ (v : Value). checked (value.At v)) (sym (value-months (s .a) (s .i) m))
 
-yearly-requires : tie.Need-yearly-requires
-yearly-requires c κs = search needs
-
-year-at-requires : tie.Need-year-at-requires
-year-at-requires c κs = search needs
-
 returns-2 : tie.Need-returns-2
 returns-2 c =
     let t = c .before in
@@ -44,20 +32,21 @@ returns-2 c =
     let y : yearly (s .a) ≡ true = sym (t .before .yearly .ensures) ∙ t .if2 .taken in
     c .year-at .ensures ∙ ap (λ (v : Value). checked (value.At v)) (sym (value-years (s .a) (s .i) (not-months e) y))
 
-start-requires : tie.Need-start-requires
-start-requires c κs = search needs
-
 day-of-requires : tie.Need-day-of-requires
-day-of-requires c κs = let s = c .before .before .before .before .before in rw (c .start .ensures) (is-day (start (s .args .a)) (starts (s .args .a) (s .pre .0)))
+day-of-requires c κs = let s = c .before .before .before .before .before in
+    rw (c .start .ensures) (is-day (start (s .args .a)) (starts (s .args .a) (s .pre .0)))
 
-start-day : (c : tie.After-day-of) → c .day-of .result ≡ up (c .before .before .before .before .before .before .args .a .«start_head»)
+start-day : (c : tie.After-day-of) →
+    c .day-of .result ≡ up (c .before .before .before .before .before .before .args .a .«start_head»)
 start-day c = c .day-of .ensures ∙ ap (λ (v : Value). up (v .head)) (c .before .start .ensures)
 
 add-at-midnight : tie.Need-add-at-midnight
-add-at-midnight c = let s = c .before .before .before .before .before .before in omega (arith, start-day c, starts (s .args .a) (s .pre .0) .head-most, s .pre .1)
+add-at-midnight c = let s = c .before .before .before .before .before .before in
+    omega (arith, start-day c, starts (s .args .a) (s .pre .0) .head-most, s .pre .1)
 
 at-midnight-requires : tie.Need-at-midnight-requires
-at-midnight-requires c κs = let s = c .before .before .before .before .before .before in omega (arith, start-day c, starts (s .args .a) (s .pre .0) .head-least)
+at-midnight-requires c κs = let s = c .before .before .before .before .before .before in
+    omega (arith, start-day c, starts (s .args .a) (s .pre .0) .head-least)
 
 returns-3 : tie.Need-returns-3
 returns-3 c =
@@ -73,15 +62,6 @@ returns-3 c =
 pub value-at-spec : {M : Type 1} → statement M
 value-at-spec =
     tie.close
-    (tie.spec
-    monthly-requires
-    month-at-requires
-    returns
-    yearly-requires
-    year-at-requires
-    returns-2
-    start-requires
-    day-of-requires
-    add-at-midnight
-    at-midnight-requires
-    returns-3)
+    (tie.spec (λ c κs. search needs) (λ c κs. search needs) returns (λ c κs. search needs)
+    (λ c κs. search needs) returns-2 (λ c κs. search needs) day-of-requires add-at-midnight
+    at-midnight-requires returns-3)

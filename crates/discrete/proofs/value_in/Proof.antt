@@ -7,12 +7,6 @@ use Rattle.discrete.proofs.Answers.{no-value, value-none, value-is}
 use Rattle.discrete.proofs.value_in.Statement.{statement}
 use Rattle.discrete.proofs.value_in.Tie as tie
 
-size-of-requires : tie.Need-size-of-requires
-size-of-requires c κs = search needs
-
-value-at-requires : tie.Need-value-at-requires
-value-at-requires c κs = search needs
-
 returns : tie.Need-returns
 returns c =
     let n = c .before .before in
@@ -26,4 +20,4 @@ returns-2 c =
     no-value ∙ ap checked (sym (value-none (s .args .a) (s .args .i) (omega (arith, n .size-of .ensures))))
 
 pub value-in-spec : {M : Type 1} → statement M
-value-in-spec = tie.close (tie.spec size-of-requires value-at-requires returns returns-2)
+value-in-spec = tie.close (tie.spec (λ c κs. search needs) (λ c κs. search needs) returns returns-2)

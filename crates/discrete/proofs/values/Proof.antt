@@ -19,10 +19,8 @@ use Rattle.discrete.proofs.values.Tie as tie
 place-fits : (c : tie.Start) → SFits w64 (c .args .c .place)
 place-fits c = search needs
 
-place-refusal-requires : tie.Need-place-refusal-requires
-place-refusal-requires c κs = search needs
-
-asked-of : (c : tie.After-place-refusal) → c .place-refusal .result ≡ firstNo (placeQuestions (c .before .before .args .a) (c .before .before .args .c .place))
+asked-of : (c : tie.After-place-refusal) → c .place-refusal .result
+    ≡ firstNo (placeQuestions (c .before .before .args .a) (c .before .before .args .c .place))
 asked-of c = rw (toZ-ofZ (place-fits (c .before .before))) at (c .place-refusal .ensures)
 
 returns : tie.Need-returns
@@ -30,9 +28,11 @@ unfolding valuesAnswer
 returns c =
     let r = c .before in
     let x = r .before .before .args in
-    ap (stepped (x .c)) (value-refused (placeQuestions (x .a) (x .c .place)) (r .place-refusal .result) (valueIn (x .a) (up (x .c .place))) (asked-of r) (c .if1 .taken))
+    ap (stepped (x .c)) (value-refused (placeQuestions (x .a) (x .c .place)) (r .place-refusal .result)
+    (valueIn (x .a) (up (x .c .place))) (asked-of r) (c .if1 .taken))
 
-none : (c : tie.Else1) → firstNo (placeQuestions (c .before .before .before .args .a) (c .before .before .before .args .c .place)) ≡ 0
+none : (c : tie.Else1) →
+    firstNo (placeQuestions (c .before .before .before .args .a) (c .before .before .before .args .c .place)) ≡ 0
 none c = sym (asked-of (c .before)) ∙ c .if1 .left
 
 count-requires : tie.Need-count-requires
@@ -49,8 +49,10 @@ value-in-requires : tie.Need-value-in-requires
 value-in-requires c κs =
     let e = c .before .before in
     let x = e .before .before .before .args in
-    let row = placeQuestions (x .a) (x .c .place) in
-    (record { has = told 2 row tt (none e); real = told 3 row tt (none e) }, omega (arith, counted c, index-range (x .c .place) (told 8 row tt (none e)) .1))
+    let row = placeQuestions (x .a) (x .c .place) in (
+      record { has = told 2 row tt (none e); real = told 3 row tt (none e) },
+      omega (arith, counted c, index-range (x .c .place) (told 8 row tt (none e)) .1),
+    )
 
 stepped-requires : tie.Need-stepped-requires
 stepped-requires c κs =
@@ -73,10 +75,4 @@ returns-2 c =
 pub values-spec : {M : Type 1} → statement M
 values-spec =
     tie.close
-    (tie.spec
-    place-refusal-requires
-    returns
-    count-requires
-    value-in-requires
-    stepped-requires
-    returns-2)
+    (tie.spec (λ c κs. search needs) returns count-requires value-in-requires stepped-requires returns-2)

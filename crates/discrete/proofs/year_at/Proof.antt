@@ -11,17 +11,16 @@ use Rattle.discrete.proofs.Counting.{first-near}
 use Rattle.discrete.proofs.year_at.Statement.{statement}
 use Rattle.discrete.proofs.year_at.Tie as tie
 
-first-date-requires : tie.Need-first-date-requires
-first-date-requires c κs = search needs
-
 year-is : (c : tie.After-first-date) → c .first-date .result .year ≡ firstDate (c .before .args .a) .year
 year-is c = ap (λ (t : Date). t .year) (c .first-date .ensures)
 
 add-january : tie.Need-add-january
-add-january c = let s = c .before .before in omega (arith, year-is (c .before), first-near (s .args .a) (s .pre .0) .year-most, s .pre .1)
+add-january c = let s = c .before .before in
+    omega (arith, year-is (c .before), first-near (s .args .a) (s .pre .0) .year-most, s .pre .1)
 
 january-requires : tie.Need-january-requires
-january-requires c κs = let s = c .before .before in (s .pre .0, omega (arith, year-is (c .before), first-near (s .args .a) (s .pre .0) .year-least))
+january-requires c κs = let s = c .before .before in
+    (s .pre .0, omega (arith, year-is (c .before), first-near (s .args .a) (s .pre .0) .year-least))
 
 returns : tie.Need-returns
 returns c =
@@ -30,4 +29,4 @@ returns c =
     c .january .ensures ∙ ap (λ (t : Date). checked (value.At (january (x .a) (t .year + x .i)))) (f .first-date .ensures)
 
 pub year-at-spec : {M : Type 1} → statement M
-year-at-spec = tie.close (tie.spec first-date-requires add-january january-requires returns)
+year-at-spec = tie.close (tie.spec (λ c κs. search needs) add-january january-requires returns)

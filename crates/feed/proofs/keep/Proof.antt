@@ -11,73 +11,59 @@ use Rattle.feed.proofs.keep.Statement.{statement}
 use Rattle.feed.proofs.keep.Tie as tie
 
 abbrev Inv-loop : tie.InvT-loop
-Inv-loop kept₀ n part i₀ kept i = (i ≤ length part) × ((n + i ≤ 121) × ((length kept ≡ 121) × (take (n + i) kept ≡ take n kept₀ ++ take i part)))
+Inv-loop kept₀ n part i₀ kept i =
+    (i ≤ length part) × ((n + i ≤ 121) × ((length kept ≡ 121) × (take (n + i) kept ≡ take n kept₀ ++ take i part)))
 
 abbrev μ-loop : tie.MeasureT-loop
 μ-loop kept₀ n part i₀ kept i = length part - i
 
 loop-holds : tie.Need-loop-holds Inv-loop μ-loop
-loop-holds c = let e : c .args .n + 0 ≡ c .args .n = omega arith in (omega arith, (omega arith, (c .pre .1, rw e (sym (append-nil _)))))
-
-add-m : tie.Need-add-m Inv-loop μ-loop
-add-m c = search needs
-
-same-length : tie.Need-same-length Inv-loop μ-loop
-same-length c = search needs
+loop-holds c = let e : c .args .n + 0 ≡ c .args .n = omega arith in
+    (omega arith, (omega arith, (c .pre .1, rw e (sym (append-nil _)))))
 
 returns : tie.Need-returns Inv-loop μ-loop
 returns c =
     let l = c .before .before .loop in
     let x = c .before .before .before .args in
     let size : length (take (x .n) (x .kept .now)) ≡ x .n = length-take-le (x .n) (x .kept .now) (omega arith) in
-    record { most = omega arith; same-size = l .inv .1 .1 .0; line = full (take (x .n) (x .kept .now)) (x .part .now) (l .kept) (x .n) (l .i) (l .inv .1 .1 .1) size (c .if1 .taken) }
-
-shared-slice-read-kept : tie.Need-shared-slice-read-kept Inv-loop μ-loop
-shared-slice-read-kept c = search needs
-
-slice-write-kept : tie.Need-slice-write-kept Inv-loop μ-loop
-slice-write-kept c = search needs
-
-add-i : tie.Need-add-i Inv-loop μ-loop
-add-i c = search needs
-
-loop-less : tie.Need-loop-less Inv-loop μ-loop
-loop-less c = search needs
+    record {
+      most = omega arith;
+      same-size = l .inv .1 .1 .0;
+      line =
+          full (take (x .n) (x .kept .now)) (x .part .now) (l .kept) (x .n) (l .i) (l .inv .1 .1 .1) size (c .if1 .taken);
+    }
 
 loop-again : tie.Need-loop-again Inv-loop μ-loop
 loop-again c =
     let l = c .before .before .before .loop in
-    let x = c .before .before .before .before .args in
-    (omega arith, (omega arith, (simp length-set (l .inv .1 .1 .0), more (take (x .n) (x .kept .now)) (x .part .now) (l .kept) (x .n) (l .i) (l .inv .1 .1 .1) (omega arith) (omega arith))))
-
-add-result : tie.Need-add-result Inv-loop μ-loop
-add-result c = search needs
-
-same-length-2 : tie.Need-same-length-2 Inv-loop μ-loop
-same-length-2 c = search needs
+    let x = c .before .before .before .before .args in (
+      omega arith,
+      (
+        omega arith,
+        (
+          simp length-set (l .inv .1 .1 .0),
+          more (take (x .n) (x .kept .now)) (x .part .now) (l .kept)
+              (x .n) (l .i) (l .inv .1 .1 .1) (omega arith) (omega arith),
+        ),
+      ),
+    )
 
 returns-2 : tie.Need-returns-2 Inv-loop μ-loop
 returns-2 c =
     let l = c .before .loop in
     let x = c .before .before .args in
     let size : length (take (x .n) (x .kept .now)) ≡ x .n = length-take-le (x .n) (x .kept .now) (omega arith) in
-    record { most = omega arith; same-size = l .inv .1 .1 .0; line = whole (take (x .n) (x .kept .now)) (x .part .now) (l .kept) (x .n) (l .i) (l .inv .1 .1 .1) size (omega arith) (omega arith) (omega arith) }
+    record {
+      most = omega arith;
+      same-size = l .inv .1 .1 .0;
+      line =
+          whole (take (x .n) (x .kept .now)) (x .part .now) (l .kept) (x .n) (l .i) (l .inv .1 .1 .1) size (omega arith)
+          (omega arith) (omega arith);
+    }
 
 pub keep-spec : {M : Type 1} → statement M
 keep-spec =
     tie.close
-    (tie.spec
-    Inv-loop
-    μ-loop
-    loop-holds
-    add-m
-    same-length
-    returns
-    shared-slice-read-kept
-    slice-write-kept
-    add-i
-    loop-less
-    loop-again
-    add-result
-    same-length-2
-    returns-2)
+    (tie.spec Inv-loop μ-loop loop-holds (λ c. search needs) (λ c. search needs) returns (λ c. search needs)
+    (λ c. search needs) (λ c. search needs) (λ c. search needs) loop-again (λ c. search needs)
+    (λ c. search needs) returns-2)

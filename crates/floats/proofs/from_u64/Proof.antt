@@ -15,9 +15,6 @@ int-to-float-result : tie.Need-int-to-float-result
 unfolding inFloat
 int-to-float-result c = le→leb (c .before .before .args .n) (2 ^ 53) (omega arith)
 
-returns : tie.Need-returns
-returns c = search needs
-
 -- n has j + 1 digits, and leading_zeros counts the others
 abbrev Digits : ℕ → Type 0
 Digits n = (j : ℕ) × (leadingZeros 64 n + suc j ≡ 64) × (2 ^ j ≤ n) × (n < 2 ^ suc j)
@@ -25,7 +22,8 @@ Digits n = (j : ℕ) × (leadingZeros 64 n + suc j ≡ 64) × (2 ^ j ≤ n) × (
 digits : (c : tie.Else1) → Digits (c .before .args .n)
 digits c = leading-top 64 (c .before .args .n) (omega arith) (c .before .fits .n .fits)
 
-quotient : (c : tie.After-nearest-quotient) → c .nearest-quotient .result ≡ closest (c .before .before .args .n * 2 ^ leadingZeros 64 (c .before .before .args .n)) 2048
+quotient : (c : tie.After-nearest-quotient) → c .nearest-quotient .result
+    ≡ closest (c .before .before .args .n * 2 ^ leadingZeros 64 (c .before .before .args .n)) 2048
 quotient c =
     let n = c .before .before .args .n in
     let d = digits (c .before) in
@@ -37,14 +35,8 @@ cast-z c = omega (arith, digits c .1)
 sub-result : tie.Need-sub-result
 sub-result c = omega (arith, digits c .1)
 
-mul-result : tie.Need-mul-result
-mul-result c = search needs
-
 shl-nearest-quotient : tie.Need-shl-nearest-quotient
 shl-nearest-quotient c = omega (arith, digits c .1)
-
-nearest-quotient-requires : tie.Need-nearest-quotient-requires
-nearest-quotient-requires c κs = search needs
 
 add-result : tie.Need-add-result
 add-result c =
@@ -67,14 +59,5 @@ returns-2 c =
 pub from-u64-spec : {M : Type 1} → statement M
 from-u64-spec =
     tie.close
-    (tie.spec
-    int-to-float-result
-    returns
-    cast-z
-    sub-result
-    mul-result
-    shl-nearest-quotient
-    nearest-quotient-requires
-    add-result
-    float-from-bits-result
-    returns-2)
+    (tie.spec int-to-float-result (λ c. search needs) cast-z sub-result (λ c. search needs)
+    shl-nearest-quotient (λ c κs. search needs) add-result float-from-bits-result returns-2)

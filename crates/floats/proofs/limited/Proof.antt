@@ -25,28 +25,26 @@ most n m h = omega arith
 least : (n m : ℕ) → m < n → suc m ≡ min n (suc m)
 least n m h = omega arith
 
-signed-requires : tie.Need-signed-requires
-signed-requires c κs = search needs
-
 returns : tie.Need-returns
 returns c =
     let a = c .before .before in
-    toZ-ofZ w64 (c .signed .result) (record { sfits = c .signed .ok }) ∙ c .signed .ensures ∙ within (a .args .below) (a .args .n) (a .args .most) (c .before .if1 .taken)
-
-cast-result : tie.Need-cast-result
-cast-result c = search needs
+    toZ-ofZ w64 (c .signed .result) (record { sfits = c .signed .ok }) ∙ c .signed .ensures ∙ within (a .args .below)
+    (a .args .n) (a .args .most) (c .before .if1 .taken)
 
 sub-result : tie.Need-sub-result
-sub-result c = let a = c .before .before in rw (one-more (a .args .most) (a .pre)) (minus-fits (suc (a .args .most)) (omega arith))
+sub-result c = let a = c .before .before in
+    rw (one-more (a .args .most) (a .pre)) (minus-fits (suc (a .args .most)) (omega arith))
 
 returns-2 : tie.Need-returns-2
 returns-2 c =
     let a = c .before .before in
-    rw (one-more (a .args .most) (a .pre), toZ-ofZ w64 (negℤ (pos (suc (a .args .most)))) (minus-fits (suc (a .args .most)) (omega arith)), c .if2 .taken)
+    rw (
+      one-more (a .args .most) (a .pre),
+      toZ-ofZ w64 (negℤ (pos (suc (a .args .most))))
+          (minus-fits (suc (a .args .most)) (omega arith)),
+      c .if2 .taken,
+    )
     (ap (λ (k : ℕ). negℤ (pos k)) (least (a .args .n) (a .args .most) (c .before .if1 .left)))
-
-cast-result-2 : tie.Need-cast-result-2
-cast-result-2 c = search needs
 
 returns-3 : tie.Need-returns-3
 returns-3 c =
@@ -56,4 +54,5 @@ returns-3 c =
 pub limited-spec : {M : Type 1} → statement M
 limited-spec =
     tie.close
-    (tie.spec signed-requires returns cast-result sub-result returns-2 cast-result-2 returns-3)
+    (tie.spec (λ c κs. search needs) returns (λ c. search needs) sub-result returns-2 (λ c. search needs)
+    returns-3)

@@ -20,7 +20,8 @@ float-to-bits-whole-of c = no-nan (c .before .args .x) (c .if1 .left)
 whole-of-requires : tie.Need-whole-of-requires
 whole-of-requires c κs =
     let x = c .before .args .x in
-    subst (λ (b : Bool). T (not b)) (sym (nanBits-is binary64 (toBits binary64 x) ∙ ap isNan (same (c .before)))) (no-nan x (c .if1 .left))
+    subst (λ (b : Bool). T (not b)) (sym (nanBits-is binary64 (toBits binary64 x) ∙ ap isNan (same (c .before))))
+    (no-nan x (c .if1 .left))
 
 returns : tie.Need-returns
 returns c = sym (at-nan (c .before .args .x) (c .if1 .taken))

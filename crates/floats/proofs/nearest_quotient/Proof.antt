@@ -6,15 +6,6 @@ use Rattle.floats.proofs.Bits.{stays, goes-up}
 use Rattle.floats.proofs.nearest_quotient.Statement.{statement}
 use Rattle.floats.proofs.nearest_quotient.Tie as tie
 
-mul-twice : tie.Need-mul-twice
-mul-twice c = search needs
-
-add-if1 : tie.Need-add-if1
-add-if1 c = search needs
-
-add-result : tie.Need-add-result
-add-result c = search needs
-
 returns : tie.Need-returns
 returns c = let n = c .before .args .n in sym (goes-up (n / 2048) (n % 2048 * 2) 2048 (c .if1 .taken))
 
@@ -22,4 +13,6 @@ returns-2 : tie.Need-returns-2
 returns-2 c = let n = c .before .args .n in sym (stays (n / 2048) (n % 2048 * 2) 2048 (c .if1 .left))
 
 pub nearest-quotient-spec : {M : Type 1} → statement M
-nearest-quotient-spec = tie.close (tie.spec mul-twice add-if1 add-result returns returns-2)
+nearest-quotient-spec =
+    tie.close
+    (tie.spec (λ c. search needs) (λ c. search needs) (λ c. search needs) returns returns-2)

@@ -8,17 +8,18 @@ use Rattle.floats.proofs.Signs.{minus, minus-fits}
 use Rattle.floats.proofs.signed.Statement.{statement}
 use Rattle.floats.proofs.signed.Tie as tie
 
-cast-z : tie.Need-cast-z
-cast-z c = search needs
-
 sub-result : tie.Need-sub-result
 sub-result c = rw (minus (c .before .args .n) (c .before .pre)) (minus-fits (c .before .args .n) (omega arith))
 
 returns : tie.Need-returns
-returns c = rw (minus (c .before .args .n) (c .before .pre), toZ-ofZ (minus-fits (c .before .args .n) (omega arith)), c .if1 .taken) refl
+returns c = rw (
+  minus (c .before .args .n) (c .before .pre),
+  toZ-ofZ (minus-fits (c .before .args .n) (omega arith)),
+  c .if1 .taken,
+) refl
 
 returns-2 : tie.Need-returns-2
 returns-2 c = rw (read-count (c .before .args .n) (c .before .pre), c .if1 .left) refl
 
 pub signed-spec : {M : Type 1} → statement M
-signed-spec = tie.close (tie.spec cast-z sub-result returns returns-2)
+signed-spec = tie.close (tie.spec (λ c. search needs) sub-result returns returns-2)

@@ -18,10 +18,15 @@ less-one : (c : tie.Then1) → natAbs (c .before .args .x) - 1 < 2 ^ 63
 less-one c = omega (arith, size-fits (c .before .args .x) (c .before .fits .x))
 
 -- what is left of -x without 1, as the machine reads it back
-less-one-is : (c : tie.Then1) → toZ w64 (ofZ w64 (negsuc 0 -ℤ toZ w64 (ofZ w64 (c .before .args .x)))) ≡ pos (natAbs (c .before .args .x) - 1)
+less-one-is : (c : tie.Then1) → toZ w64 (ofZ w64 (negsuc 0 -ℤ toZ w64 (ofZ w64 (c .before .args .x))))
+    ≡ pos (natAbs (c .before .args .x) - 1)
 less-one-is c =
     let x≡ = toZ-ofZ (c .before .fits .x) in
-    rw (x≡, turned (c .before .args .x) (rw x≡ at (c .if1 .taken)) .0, toZ-ofZ (count-fits (natAbs (c .before .args .x) - 1) (less-one c))) refl
+    rw (
+      x≡,
+      turned (c .before .args .x) (rw x≡ at (c .if1 .taken)) .0,
+      toZ-ofZ (count-fits (natAbs (c .before .args .x) - 1) (less-one c)),
+    ) refl
 
 sub-result : tie.Need-sub-result
 sub-result c =
@@ -45,9 +50,7 @@ cast-result-2 c =
     let p : c .before .args .x ≡ pos (natAbs (c .before .args .x)) = unturned (c .before .args .x) (rw x≡ at (c .if1 .left)) in
     rw x≡ (subst (λ (z : ℤ). T (nonNeg z)) (sym p) tt, omega (arith, size-fits (c .before .args .x) (c .before .fits .x)))
 
-returns-2 : tie.Need-returns-2
-returns-2 c = search needs
-
 pub size-of-spec : {M : Type 1} → statement M
 size-of-spec =
-    tie.close (tie.spec sub-result cast-result add-result returns cast-result-2 returns-2)
+    tie.close
+    (tie.spec sub-result cast-result add-result returns cast-result-2 (λ c. search needs))

@@ -12,16 +12,11 @@ use Rattle.floats.proofs.Casts.{signed-cast}
 use Rattle.floats.proofs.to_i32.Statement.{statement}
 use Rattle.floats.proofs.to_i32.Tie as tie
 
-magnitude-requires : tie.Need-magnitude-requires
-magnitude-requires c κs = search needs
-
-limited-requires : tie.Need-limited-requires
-limited-requires c κs = search needs
-
 -- what the machine reads back is the cut
 cut : (c : tie.After-limited) → toZ w64 (ofZ w64 (c .limited .result)) ≡ toSigned 31 (c .before .before .args .x)
 cut c =
-    toZ-ofZ w64 (c .limited .result) (record { sfits = c .limited .ok }) ∙ c .limited .ensures ∙ rw (c .before .magnitude .ensures) (sym (signed-cast 31 (lit≤ tt) (c .before .before .args .x)))
+    toZ-ofZ w64 (c .limited .result) (record { sfits = c .limited .ok }) ∙ c .limited .ensures
+    ∙ rw (c .before .magnitude .ensures) (sym (signed-cast 31 (lit≤ tt) (c .before .before .args .x)))
 
 in-range : (c : tie.After-limited) → SFits w32 (toSigned 31 (c .before .before .args .x))
 in-range c = record { sfits = toSigned-in 31 (c .before .before .args .x) }
@@ -33,4 +28,4 @@ returns : tie.Need-returns
 returns c = ap (λ (z : ℤ). toZ w32 (ofZ w32 z)) (cut c) ∙ toZ-ofZ w32 (toSigned 31 (c .before .before .args .x)) (in-range c)
 
 pub to-i32-spec : {M : Type 1} → statement M
-to-i32-spec = tie.close (tie.spec magnitude-requires limited-requires cast-result returns)
+to-i32-spec = tie.close (tie.spec (λ c κs. search needs) (λ c κs. search needs) cast-result returns)

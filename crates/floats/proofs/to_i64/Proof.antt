@@ -8,16 +8,11 @@ use Rattle.floats.proofs.Casts.{signed-cast}
 use Rattle.floats.proofs.to_i64.Statement.{statement}
 use Rattle.floats.proofs.to_i64.Tie as tie
 
-magnitude-requires : tie.Need-magnitude-requires
-magnitude-requires c κs = search needs
-
-limited-requires : tie.Need-limited-requires
-limited-requires c κs = search needs
-
 returns : tie.Need-returns
 returns c =
     let x = c .before .before .args .x in
-    toZ-ofZ w64 (c .limited .result) (record { sfits = c .limited .ok }) ∙ c .limited .ensures ∙ rw (c .before .magnitude .ensures) (sym (signed-cast 63 (lit≤ tt) x))
+    toZ-ofZ w64 (c .limited .result) (record { sfits = c .limited .ok }) ∙ c .limited .ensures
+    ∙ rw (c .before .magnitude .ensures) (sym (signed-cast 63 (lit≤ tt) x))
 
 pub to-i64-spec : {M : Type 1} → statement M
-to-i64-spec = tie.close (tie.spec magnitude-requires limited-requires returns)
+to-i64-spec = tie.close (tie.spec (λ c κs. search needs) (λ c κs. search needs) returns)

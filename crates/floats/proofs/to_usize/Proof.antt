@@ -9,10 +9,8 @@ use Rattle.floats.proofs.to_usize.Statement.{statement}
 use Rattle.floats.proofs.to_usize.Tie as tie
 
 returns : tie.Need-returns
-returns c = let x = c .before .args .x in sym (unsigned-cast x ∙ ap (λ (b : Bool). cond b 0 (toUnsigned 64 (absF x))) (c .if1 .taken))
-
-magnitude-requires : tie.Need-magnitude-requires
-magnitude-requires c κs = search needs
+returns c = let x = c .before .args .x in
+    sym (unsigned-cast x ∙ ap (λ (b : Bool). cond b 0 (toUnsigned 64 (absF x))) (c .if1 .taken))
 
 returns-2 : tie.Need-returns-2
 returns-2 c =
@@ -20,4 +18,4 @@ returns-2 c =
     c .magnitude .ensures ∙ sym (unsigned-cast x ∙ ap (λ (b : Bool). cond b 0 (toUnsigned 64 (absF x))) (c .before .if1 .left))
 
 pub to-usize-spec : {M : Type 1} → statement M
-to-usize-spec = tie.close (tie.spec returns magnitude-requires returns-2)
+to-usize-spec = tie.close (tie.spec returns (λ c κs. search needs) returns-2)

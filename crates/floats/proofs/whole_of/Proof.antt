@@ -24,38 +24,30 @@ digits b = b % 2 ^ 52
 few : (b : ℕ) → digits b < 2 ^ 52
 few b = omega arith
 
-add-d : tie.Need-add-d
-add-d c = search needs
-
 returns : tie.Need-returns
 unfolding ofBits
 returns c = let b = c .before .args .bits in sym (small (sign b) (exponent b) (digits b) (few b) (c .if1 .taken))
 
-shr-result : tie.Need-shr-result
-shr-result c = search needs
-
 returns-2 : tie.Need-returns-2
 unfolding ofBits
-returns-2 c = let b = c .before .before .args .bits in sym (middle (sign b) (exponent b) (digits b) (few b) (c .before .if1 .left) (c .if2 .taken))
-
-sub-result : tie.Need-sub-result
-sub-result c = search needs
-
-shl-result : tie.Need-shl-result
-shl-result c = search needs
+returns-2 c = let b = c .before .before .args .bits in
+    sym (middle (sign b) (exponent b) (digits b) (few b) (c .before .if1 .left) (c .if2 .taken))
 
 returns-3 : tie.Need-returns-3
 unfolding ofBits
-returns-3 c = let b = c .before .before .before .args .bits in sym (large (sign b) (exponent b) (digits b) (few b) (c .before .if2 .left) (c .if3 .taken))
+returns-3 c = let b = c .before .before .before .args .bits in
+    sym (large (sign b) (exponent b) (digits b) (few b) (c .before .if2 .left) (c .if3 .taken))
 
 returns-4 : tie.Need-returns-4
 unfolding ofBits
 returns-4 c =
     let a = c .before .before .before in
     let b = a .args .bits in
-    sym (beyond (sign b) (exponent b) (digits b) (few b) (c .if3 .left) (omega arith) (subst (λ (t : Bool). T (not t)) (nanBits-is binary64 b) (a .pre)))
+    sym (beyond (sign b) (exponent b) (digits b) (few b) (c .if3 .left) (omega arith)
+    (subst (λ (t : Bool). T (not t)) (nanBits-is binary64 b) (a .pre)))
 
 pub whole-of-spec : {M : Type 1} → statement M
 whole-of-spec =
     tie.close
-    (tie.spec add-d returns shr-result returns-2 sub-result shl-result returns-3 returns-4)
+    (tie.spec (λ c. search needs) returns (λ c. search needs) returns-2 (λ c. search needs)
+    (λ c. search needs) returns-3 returns-4)

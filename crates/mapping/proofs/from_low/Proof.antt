@@ -10,15 +10,13 @@ use Rattle.mapping.proofs.Ranges.{wider, cut-fits, sum-fits}
 use Rattle.mapping.proofs.from_low.Statement.{statement}
 use Rattle.mapping.proofs.from_low.Tie as tie
 
-to-i32-requires : tie.Need-to-i32-requires
-to-i32-requires c κs = search needs
-
 -- the cut, as the code reads it back
 back-32 : (c : tie.After-to-i32) → toZ w32 (ofZ w32 (c .to-i32 .result)) ≡ cut (c .before .args .x)
 back-32 c = ap (λ (z : ℤ). toZ w32 (ofZ w32 z)) (c .to-i32 .ensures) ∙ toZ-ofZ (cut-fits (c .before .args .x))
 
 back : (c : tie.After-to-i32) → toZ w64 (ofZ w64 (toZ w32 (ofZ w32 (c .to-i32 .result)))) ≡ cut (c .before .args .x)
-back c = ap (λ (z : ℤ). toZ w64 (ofZ w64 z)) (back-32 c) ∙ toZ-ofZ (wider (cut (c .before .args .x)) (cut-fits (c .before .args .x)))
+back c = ap (λ (z : ℤ). toZ w64 (ofZ w64 z)) (back-32 c)
+    ∙ toZ-ofZ (wider (cut (c .before .args .x)) (cut-fits (c .before .args .x)))
 
 cast-result : tie.Need-cast-result
 cast-result c = subst (SFits w64) (sym (back-32 c)) (wider (cut (c .before .args .x)) (cut-fits (c .before .args .x)))
@@ -36,4 +34,4 @@ returns : tie.Need-returns
 returns c = let s = c .before .before .before in rw (toZ-ofZ (low-fits s), back (c .before .before)) (toZ-ofZ (fits s))
 
 pub from-low-spec : {M : Type 1} → statement M
-from-low-spec = tie.close (tie.spec to-i32-requires cast-result add-result returns)
+from-low-spec = tie.close (tie.spec (λ c κs. search needs) cast-result add-result returns)

@@ -14,13 +14,12 @@ use Rattle.mapping.proofs.Answers.{refused, asked}
 use Rattle.mapping.proofs.map.Statement.{statement}
 use Rattle.mapping.proofs.map.Tie as tie
 
-refusal-requires : tie.Need-refusal-requires
-refusal-requires c κs = search needs
-
 returns : tie.Need-returns
-returns c = let x = c .before .before .args in refused (x .a) (x .l) (x .v) (c .before .refusal .result) (c .before .refusal .ensures) (c .if1 .taken)
+returns c = let x = c .before .before .args in
+    refused (x .a) (x .l) (x .v) (c .before .refusal .result) (c .before .refusal .ensures) (c .if1 .taken)
 
-none : (c : tie.Else1) → firstNo (valueQuestions (c .before .before .args .a) (c .before .before .args .l) (c .before .before .args .v)) ≡ 0
+none : (c : tie.Else1) → firstNo (valueQuestions (c .before .before .args .a) (c .before .before .args .l)
+    (c .before .before .args .v)) ≡ 0
 none c = sym (c .before .refusal .ensures) ∙ c .if1 .left
 
 pixel-of-requires : tie.Need-pixel-of-requires
@@ -29,14 +28,13 @@ pixel-of-requires c κs =
     let row = valueQuestions (x .a) (x .l) (x .v) in
     (told 3 row tt (none c), told 7 row tt (none c), told 8 row tt (none c))
 
-fits-i32-requires : tie.Need-fits-i32-requires
-fits-i32-requires c κs = search needs
-
 -- the pixel that was worked out
-worked : (c : tie.After-pixel-of) → toZ w64 (ofZ w64 (c .pixel-of .result)) ≡ placed (c .before .before .before .args .a) (c .before .before .before .args .l) (c .before .before .before .args .v)
+worked : (c : tie.After-pixel-of) → toZ w64 (ofZ w64 (c .pixel-of .result)) ≡ placed (c .before .before .before .args .a)
+    (c .before .before .before .args .l) (c .before .before .before .args .v)
 worked c = toZ-ofZ {w = w64} {z = c .pixel-of .result} (search needs) ∙ c .pixel-of .ensures
 
-fits : (c : tie.After-fits-i32) → c .fits-i32 .result ≡ fitsI32 (placed (c .before .before .before .before .args .a) (c .before .before .before .before .args .l) (c .before .before .before .before .args .v))
+fits : (c : tie.After-fits-i32) → c .fits-i32 .result ≡ fitsI32 (placed (c .before .before .before .before .args .a)
+    (c .before .before .before .before .args .l) (c .before .before .before .before .args .v))
 fits c = rw (worked (c .before)) at (c .fits-i32 .ensures)
 
 returns-2 : tie.Need-returns-2
@@ -45,7 +43,8 @@ returns-2 c =
     let e = t .before .before in
     let x = e .before .before .args in
     let p = placed (x .a) (x .l) (x .v) in
-    rw (worked (t .before)) (sym (asked (x .a) (x .l) (x .v) (none e) ∙ ap (λ (b : Bool). pixelAnswer (cond b 0 10) p) (sym (fits t) ∙ c .if2 .taken)))
+    rw (worked (t .before)) (sym (asked (x .a) (x .l) (x .v) (none e) ∙ ap (λ (b : Bool). pixelAnswer (cond b 0 10) p)
+    (sym (fits t) ∙ c .if2 .taken)))
 
 returns-3 : tie.Need-returns-3
 returns-3 c =
@@ -58,4 +57,4 @@ returns-3 c =
 pub map-spec : {M : Type 1} → statement M
 map-spec =
     tie.close
-    (tie.spec refusal-requires returns pixel-of-requires fits-i32-requires returns-2 returns-3)
+    (tie.spec (λ c κs. search needs) returns pixel-of-requires (λ c κs. search needs) returns-2 returns-3)

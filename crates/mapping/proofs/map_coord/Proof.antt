@@ -12,24 +12,6 @@ use Rattle.mapping.proofs.Placing.{coord-near, coord-far}
 use Rattle.mapping.proofs.map_coord.Statement.{statement}
 use Rattle.mapping.proofs.map_coord.Tie as tie
 
-offset-requires : tie.Need-offset-requires
-offset-requires c κs = search needs
-
-position-requires : tie.Need-position-requires
-position-requires c κs = search needs
-
-from-low-requires : tie.Need-from-low-requires
-from-low-requires c κs = search needs
-
-offset-days-requires : tie.Need-offset-days-requires
-offset-days-requires c κs = search needs
-
-position-requires-2 : tie.Need-position-requires-2
-position-requires-2 c κs = search needs
-
-from-low-requires-2 : tie.Need-from-low-requires-2
-from-low-requires-2 c κs = search needs
-
 returns : tie.Need-returns
 returns c =
     let p = c .before in
@@ -58,12 +40,5 @@ returns-2 c =
 pub map-coord-spec : {M : Type 1} → statement M
 map-coord-spec =
     tie.close
-    (tie.spec
-    offset-requires
-    position-requires
-    from-low-requires
-    returns
-    offset-days-requires
-    position-requires-2
-    from-low-requires-2
-    returns-2)
+    (tie.spec (λ c κs. search needs) (λ c κs. search needs) (λ c κs. search needs) returns
+    (λ c κs. search needs) (λ c κs. search needs) (λ c κs. search needs) returns-2)

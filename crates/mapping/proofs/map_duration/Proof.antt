@@ -13,15 +13,6 @@ use Rattle.mapping.proofs.Placing.{duration-near, duration-high, durati
 use Rattle.mapping.proofs.map_duration.Statement.{statement}
 use Rattle.mapping.proofs.map_duration.Tie as tie
 
-offset-days-requires : tie.Need-offset-days-requires
-offset-days-requires c κs = search needs
-
-position-requires : tie.Need-position-requires
-position-requires c κs = search needs
-
-from-low-requires : tie.Need-from-low-requires
-from-low-requires c κs = search needs
-
 returns : tie.Need-returns
 returns c =
     let p = c .before in
@@ -35,22 +26,14 @@ returns c =
     ∙ (ap (λ (f : Float). x .s .low +ℤ cut (add binary64 f nudge)) at
     ∙ duration-far (x .s) (offsetOf (x .a) (x .v)) (not-true _ (t .if1 .taken))))
 
-offset-requires : tie.Need-offset-requires
-offset-requires c κs = search needs
-
 returns-2 : tie.Need-returns-2
 returns-2 c =
     let t = c .before in
     let o = t .before .before in
     let x = o .before .before .before .args in
     let high-fits : SFits w64 (x .s .high) = search needs in
-    toZ-ofZ high-fits ∙ duration-high (offsetOf (x .a) (x .v)) (o .offset .result) (o .offset .ensures) (x .s) (not-false _ (o .before .if1 .left)) (not-true _ (t .if2 .taken))
-
-position-requires-2 : tie.Need-position-requires-2
-position-requires-2 c κs = search needs
-
-from-low-requires-2 : tie.Need-from-low-requires-2
-from-low-requires-2 c κs = search needs
+    toZ-ofZ high-fits ∙ duration-high (offsetOf (x .a) (x .v)) (o .offset .result) (o .offset .ensures) (x .s)
+    (not-false _ (o .before .if1 .left)) (not-true _ (t .if2 .taken))
 
 returns-3 : tie.Need-returns-3
 returns-3 c =
@@ -63,18 +46,11 @@ returns-3 c =
     toZ-ofZ {w = w64} {z = c .from-low2 .result} (search needs)
     ∙ (c .from-low2 .ensures
     ∙ (ap (λ (f : Float). x .s .low +ℤ cut (add binary64 f nudge)) at
-    ∙ duration-near (offsetOf (x .a) (x .v)) (o .offset .result) (o .offset .ensures) (x .s) (not-false _ (o .before .if1 .left)) (not-false _ (t .if2 .left))))
+    ∙ duration-near (offsetOf (x .a) (x .v)) (o .offset .result) (o .offset .ensures) (x .s)
+    (not-false _ (o .before .if1 .left)) (not-false _ (t .if2 .left))))
 
 pub map-duration-spec : {M : Type 1} → statement M
 map-duration-spec =
     tie.close
-    (tie.spec
-    offset-days-requires
-    position-requires
-    from-low-requires
-    returns
-    offset-requires
-    returns-2
-    position-requires-2
-    from-low-requires-2
-    returns-3)
+    (tie.spec (λ c κs. search needs) (λ c κs. search needs) (λ c κs. search needs) returns
+    (λ c κs. search needs) returns-2 (λ c κs. search needs) (λ c κs. search needs) returns-3)

@@ -13,11 +13,9 @@ use Rattle.mapping.proofs.Ranges.{low-on-page}
 use Rattle.mapping.proofs.pixel_of.Statement.{statement}
 use Rattle.mapping.proofs.pixel_of.Tie as tie
 
-scale-of-requires : tie.Need-scale-of-requires
-scale-of-requires c κs = search needs
-
 on-page : (c : tie.After-scale-of) → LowOnPage (c .scale-of .result)
-on-page c = let x = c .before .args in subst (λ (s : Scale). LowOnPage s) (sym (c .scale-of .ensures)) (low-on-page (x .a) (x .l) (c .before .pre .1))
+on-page c = let x = c .before .args in
+    subst (λ (s : Scale). LowOnPage s) (sym (c .scale-of .ensures)) (low-on-page (x .a) (x .l) (c .before .pre .1))
 
 kind-fits : (c : tie.Start) → SFits w64 (c .args .a .kind)
 kind-fits c = search needs
@@ -40,7 +38,8 @@ returns c =
     toZ-ofZ {w = w64} {z = c .map-duration .result} (search needs)
     ∙ (c .map-duration .ensures
     ∙ (ap (λ (y : Scale). mapDuration y (offsetOf (x .a) (x .v))) (s .scale-of .ensures)
-    ∙ sym (ap (λ (b : Bool). cond b (mapDuration (scaleOf (x .a) (x .l)) (offsetOf (x .a) (x .v))) (mapCoord (scaleOf (x .a) (x .l)) (offsetOf (x .a) (x .v)))) k)))
+    ∙ sym (ap (λ (b : Bool). cond b (mapDuration (scaleOf (x .a) (x .l)) (offsetOf (x .a) (x .v)))
+    (mapCoord (scaleOf (x .a) (x .l)) (offsetOf (x .a) (x .v)))) k)))
 
 returns-2 : tie.Need-returns-2
 unfolding placed
@@ -52,9 +51,10 @@ returns-2 c =
     toZ-ofZ {w = w64} {z = c .map-coord .result} (search needs)
     ∙ (c .map-coord .ensures
     ∙ (ap (λ (y : Scale). mapCoord y (offsetOf (x .a) (x .v))) (s .scale-of .ensures)
-    ∙ sym (ap (λ (b : Bool). cond b (mapDuration (scaleOf (x .a) (x .l)) (offsetOf (x .a) (x .v))) (mapCoord (scaleOf (x .a) (x .l)) (offsetOf (x .a) (x .v)))) k)))
+    ∙ sym (ap (λ (b : Bool). cond b (mapDuration (scaleOf (x .a) (x .l)) (offsetOf (x .a) (x .v)))
+    (mapCoord (scaleOf (x .a) (x .l)) (offsetOf (x .a) (x .v)))) k)))
 
 pub pixel-of-spec : {M : Type 1} → statement M
 pixel-of-spec =
     tie.close
-    (tie.spec scale-of-requires map-duration-requires returns map-coord-requires returns-2)
+    (tie.spec (λ c κs. search needs) map-duration-requires returns map-coord-requires returns-2)

@@ -7,9 +7,6 @@ use Rattle.mapping.specs.Mapping.{positionOf}
 use Rattle.mapping.proofs.position.Statement.{statement}
 use Rattle.mapping.proofs.position.Tie as tie
 
-from-i64-requires : tie.Need-from-i64-requires
-from-i64-requires c κs = search needs
-
 returns : tie.Need-returns
 unfolding positionOf
 returns c =
@@ -18,4 +15,4 @@ returns c =
     (c .from-i64 .ensures ∙ ap (ofInt binary64) (toZ-ofZ (s .fits .offset)))
 
 pub position-spec : {M : Type 1} → statement M
-position-spec = tie.close (tie.spec from-i64-requires returns)
+position-spec = tie.close (tie.spec (λ c κs. search needs) returns)

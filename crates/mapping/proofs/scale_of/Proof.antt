@@ -24,23 +24,8 @@ value-fits c = search needs
 width-fits : (c : tie.Start) → SFits w64 (c .args .l .high -ℤ c .args .l .low)
 width-fits c = let (p, q) = limits-are (c .args .l) (c .pre .1) in between-fits (c .args .l .high) (c .args .l .low) q p
 
-span-requires : tie.Need-span-requires
-span-requires c κs = search needs
-
 sub-from-i64 : tie.Need-sub-from-i64
 sub-from-i64 c = let s = c .before .before .before in rw (toZ-ofZ (high-fits s), toZ-ofZ (low-fits s)) (width-fits s)
-
-from-i64-requires : tie.Need-from-i64-requires
-from-i64-requires c κs = search needs
-
-from-i64-requires-2 : tie.Need-from-i64-requires-2
-from-i64-requires-2 c κs = search needs
-
-span-days-requires : tie.Need-span-days-requires
-span-days-requires c κs = search needs
-
-from-i64-requires-3 : tie.Need-from-i64-requires-3
-from-i64-requires-3 c κs = search needs
 
 returns : tie.Need-returns
 unfolding scaleOf
@@ -54,10 +39,12 @@ returns c =
     let e = n .span .ensures in
     let h = toZ-ofZ (high-fits s) in
     let l = toZ-ofZ (low-fits s) in
-    let W : toZ w64 (ofZ w64 (toZ w64 (ofZ w64 (s .args .l .high)) -ℤ toZ w64 (ofZ w64 (s .args .l .low)))) ≡ s .args .l .high -ℤ s .args .l .low = rw (h, l) (toZ-ofZ (width-fits s)) in
+    let W : toZ w64 (ofZ w64 (toZ w64 (ofZ w64 (s .args .l .high)) -ℤ toZ w64 (ofZ w64 (s .args .l .low))))
+    ≡ s .args .l .high -ℤ s .args .l .low = rw (h, l) (toZ-ofZ (width-fits s)) in
     let width = w .from-i64 .ensures ∙ ap (ofInt binary64) W in
     let total = t .from-i642 .ensures ∙ ap (ofInt binary64) (toZ-ofZ (value-fits n) ∙ ap (λ (x : Nanoseconds). x .value) e) in
-    let days = y .from-i643 .ensures ∙ ap (ofInt binary64) (toZ-ofZ {w = w64} {z = d .span-days .result} (search needs) ∙ d .span-days .ensures) in
+    let days = y .from-i643 .ensures ∙ ap (ofInt binary64) (toZ-ofZ {w = w64} {z = d .span-days .result} (search needs)
+    ∙ d .span-days .ensures) in
     λ i. record {
       low = l i;
       high = h i;
@@ -70,11 +57,5 @@ returns c =
 pub scale-of-spec : {M : Type 1} → statement M
 scale-of-spec =
     tie.close
-    (tie.spec
-    span-requires
-    sub-from-i64
-    from-i64-requires
-    from-i64-requires-2
-    span-days-requires
-    from-i64-requires-3
-    returns)
+    (tie.spec (λ c κs. search needs) sub-from-i64 (λ c κs. search needs) (λ c κs. search needs)
+    (λ c κs. search needs) (λ c κs. search needs) returns)

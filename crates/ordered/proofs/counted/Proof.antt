@@ -11,20 +11,11 @@ use Rattle.ordered.specs.Replies.{countReply}
 use Rattle.ordered.proofs.counted.Statement.{statement}
 use Rattle.ordered.proofs.counted.Tie as tie
 
-enum-known-a : tie.Need-enum-known-a
-enum-known-a c = search needs
-
 fits : (c : tie.After-known-told) → c .before .a .given .0 .0 < 2 ^ 63
 fits c = let g = c .before .a .given in subst (λ (l : Listed). countOf l < 2 ^ 63) (g .1) (c .before .before .before .pre)
 
 cast-t5 : tie.Need-cast-t5
 cast-t5 c = count-fits _ (fits c)
-
-enum-known-a-2 : tie.Need-enum-known-a-2
-enum-known-a-2 c = search needs
-
-cast-t6 : tie.Need-cast-t6
-cast-t6 c = search needs
 
 returns : tie.Need-returns
 returns c =
@@ -37,4 +28,6 @@ returns-2 c =
     ap (λ (z : ℤ). record { status = z; value = pos 0 }) (read-count (g .0 .0) (omega arith)) ∙ ap countReply (sym (g .1))
 
 pub counted-spec : {M : Type 1} → statement M
-counted-spec = tie.close (tie.spec enum-known-a cast-t5 enum-known-a-2 cast-t6 returns returns-2)
+counted-spec =
+    tie.close
+    (tie.spec (λ c. search needs) cast-t5 (λ c. search needs) (λ c. search needs) returns returns-2)

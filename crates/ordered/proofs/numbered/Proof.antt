@@ -10,23 +10,11 @@ use Rattle.ordered.specs.Replies.{numberIn, numberReply}
 use Rattle.ordered.proofs.numbered.Statement.{statement}
 use Rattle.ordered.proofs.numbered.Tie as tie
 
-enum-known-a : tie.Need-enum-known-a
-enum-known-a c = search needs
-
 fits : (c : tie.After-known-told) → c .before .a .given .0 .0 < 2 ^ 63
 fits c = let g = c .before .a .given in subst (λ (l : NumberAnswer). numberIn l < 2 ^ 63) (g .1) (c .before .before .before .pre)
 
 cast-t5 : tie.Need-cast-t5
 cast-t5 c = count-fits _ (fits c)
-
-enum-told : tie.Need-enum-told
-enum-told c = search needs
-
-enum-known-a-2 : tie.Need-enum-known-a-2
-enum-known-a-2 c = search needs
-
-cast-t6 : tie.Need-cast-t6
-cast-t6 c = search needs
 
 returns : tie.Need-returns
 returns c =
@@ -44,4 +32,5 @@ returns-3 c =
 pub numbered-spec : {M : Type 1} → statement M
 numbered-spec =
     tie.close
-    (tie.spec enum-known-a cast-t5 enum-told enum-known-a-2 cast-t6 returns returns-2 returns-3)
+    (tie.spec (λ c. search needs) cast-t5 (λ c. search needs) (λ c. search needs) (λ c. search needs) returns
+    returns-2 returns-3)

@@ -15,23 +15,37 @@ use Rattle.ordered.proofs.ordered_count_bold.Statement.{statement}
 use Rattle.ordered.proofs.ordered_count_bold.Tie as tie
 
 abbrev axis : tie.Start → Axis
-axis c = let x = c .args in record { kind = x .kind; «start_head» = x .start-head; «start_tail» = x .start-tail; «end_head» = x .end-head; «end_tail» = x .end-tail }
+axis c = let x = c .args in record {
+  kind = x .kind;
+  «start_head» = x .start-head;
+  «start_tail» = x .start-tail;
+  «end_head» =
+      x .end-head;
+  «end_tail» = x .end-tail;
+}
 
 abbrev hint : tie.Start → Hint
 hint c = let x = c .args in bold (record { n = x .n })
 
-said : (c : tie.After-count-bold) → c .count-bold .result ≡ ticksAnswer (axis (c .before)) (hint (c .before)) (c .before .args .lent-len)
-said c = let f = c .before .fits in rw (toZ-ofZ (f .kind), toZ-ofZ (f .start-head), toZ-ofZ (f .start-tail), toZ-ofZ (f .end-head), toZ-ofZ (f .end-tail), toZ-ofZ (f .n)) at (c .count-bold .ensures)
-
-count-bold-requires : tie.Need-count-bold-requires
-count-bold-requires c κs = search needs
+said : (c : tie.After-count-bold) → c .count-bold .result ≡ ticksAnswer (axis (c .before)) (hint (c .before))
+    (c .before .args .lent-len)
+said c = let f = c .before .fits in
+    rw (
+      toZ-ofZ (f .kind),
+      toZ-ofZ (f .start-head),
+      toZ-ofZ (f .start-tail),
+      toZ-ofZ (f .end-head),
+      toZ-ofZ (f .end-tail),
+      toZ-ofZ (f .n),
+    ) at (c .count-bold .ensures)
 
 counted-requires : tie.Need-counted-requires
 counted-requires c κs =
-    subst (λ (l : Listed). countOf l < 2 ^ 63) (sym (said c)) (answer-most (axis (c .before)) (hint (c .before)) (c .before .args .lent-len) (omega arith))
+    subst (λ (l : Listed). countOf l < 2 ^ 63) (sym (said c)) (answer-most (axis (c .before)) (hint (c .before))
+    (c .before .args .lent-len) (omega arith))
 
 returns : tie.Need-returns
 returns c = c .counted .ensures ∙ ap countReply (said (c .before))
 
 pub ordered-count-bold-spec : {M : Type 1} → statement M
-ordered-count-bold-spec = tie.close (tie.spec count-bold-requires counted-requires returns)
+ordered-count-bold-spec = tie.close (tie.spec (λ c κs. search needs) counted-requires returns)

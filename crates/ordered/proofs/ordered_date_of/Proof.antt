@@ -14,12 +14,6 @@ use Rattle.ordered.proofs.ordered_date_of.Tie as tie
 said : (c : tie.After-date-at) → c .date-at .result ≡ dateAt (c .before .args .day-number)
 said c = rw (toZ-ofZ (c .before .fits .day-number)) at (c .date-at .ensures)
 
-date-at-requires : tie.Need-date-at-requires
-date-at-requires c κs = search needs
-
-enum-known-t : tie.Need-enum-known-t
-enum-known-t c = search needs
-
 -- the answer's numbers are a date's
 ranges : (c : tie.After-struct-known) → InRange (c .before .before .t .given .0 .0)
 ranges c = let g = c .before .before .t .given in date-range _ (g .0 .0) (sym (said (c .before .before .before .before)) ∙ g .1)
@@ -33,12 +27,6 @@ cast-t7 c = count-fits _ (omega (arith, ranges (c .before) .month))
 cast-t8 : tie.Need-cast-t8
 cast-t8 c = count-fits _ (omega (arith, ranges (c .before .before) .day))
 
-enum-known-q : tie.Need-enum-known-q
-enum-known-q c = search needs
-
-cast-t9 : tie.Need-cast-t9
-cast-t9 c = search needs
-
 returns : tie.Need-returns
 returns c =
     let k = c .before .before in
@@ -47,7 +35,8 @@ returns c =
     let y = read-count (t .year) (omega (arith, ranges k .year)) in
     let m = read-count (t .month) (omega (arith, ranges k .month)) in
     let d = read-count (t .day) (omega (arith, ranges k .day)) in
-    (λ i. record { status = pos 0; year = y i; month = m i; day = d i }) ∙ ap dateReply (sym (g .1) ∙ said (k .before .before .before .before))
+    (λ i. record { status = pos 0; year = y i; month = m i; day = d i })
+    ∙ ap dateReply (sym (g .1) ∙ said (k .before .before .before .before))
 
 returns-2 : tie.Need-returns-2
 returns-2 c =
@@ -58,13 +47,5 @@ returns-2 c =
 pub ordered-date-of-spec : {M : Type 1} → statement M
 ordered-date-of-spec =
     tie.close
-    (tie.spec
-    date-at-requires
-    enum-known-t
-    cast-t6
-    cast-t7
-    cast-t8
-    enum-known-q
-    cast-t9
-    returns
-    returns-2)
+    (tie.spec (λ c κs. search needs) (λ c. search needs) cast-t6 cast-t7 cast-t8 (λ c. search needs)
+    (λ c. search needs) returns returns-2)

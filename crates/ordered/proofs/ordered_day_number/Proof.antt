@@ -19,24 +19,12 @@ answer c = numberOf (record { year = c .args .year; month = c .args .month; day 
 said : (c : tie.After-number-of) → c .number-of .result ≡ answer (c .before)
 said c = let f = c .before .fits in rw (toZ-ofZ (f .year), toZ-ofZ (f .month), toZ-ofZ (f .day)) at (c .number-of .ensures)
 
-number-of-requires : tie.Need-number-of-requires
-number-of-requires c κs = search needs
-
-enum-known-n : tie.Need-enum-known-n
-enum-known-n c = search needs
-
 -- the answer's number is a day's
 day-most : (c : tie.After-known-told) → c .before .n .given .0 .0 ≤ 3652059
 day-most c = let g = c .before .n .given in number-range _ (g .0 .0) (sym (said (c .before .before .before)) ∙ g .1)
 
 cast-t9 : tie.Need-cast-t9
 cast-t9 c = count-fits _ (omega (arith, day-most c))
-
-enum-known-q : tie.Need-enum-known-q
-enum-known-q c = search needs
-
-cast-t10 : tie.Need-cast-t10
-cast-t10 c = search needs
 
 returns : tie.Need-returns
 returns c =
@@ -53,4 +41,5 @@ returns-2 c =
 pub ordered-day-number-spec : {M : Type 1} → statement M
 ordered-day-number-spec =
     tie.close
-    (tie.spec number-of-requires enum-known-n cast-t9 enum-known-q cast-t10 returns returns-2)
+    (tie.spec (λ c κs. search needs) (λ c. search needs) cast-t9 (λ c. search needs) (λ c. search needs)
+    returns returns-2)

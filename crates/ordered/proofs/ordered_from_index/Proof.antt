@@ -9,19 +9,29 @@ use Rattle.ordered.proofs.ordered_from_index.Statement.{statement}
 use Rattle.ordered.proofs.ordered_from_index.Tie as tie
 
 abbrev answer : tie.Start → ValueAnswer
-answer c = let x = c .args in fromIndexAnswer (record { kind = x .kind; «start_head» = x .start-head; «start_tail» = x .start-tail; «end_head» = x .end-head; «end_tail» = x .end-tail }) (x .index)
+answer c = let x = c .args in
+    fromIndexAnswer (record {
+      kind = x .kind;
+      «start_head» = x .start-head;
+      «start_tail» = x .start-tail;
+      «end_head» =
+          x .end-head;
+      «end_tail» = x .end-tail;
+    }) (x .index)
 
 said : (c : tie.After-from-index) → c .from-index .result ≡ answer (c .before)
-said c = let f = c .before .fits in rw (toZ-ofZ (f .kind), toZ-ofZ (f .start-head), toZ-ofZ (f .start-tail), toZ-ofZ (f .end-head), toZ-ofZ (f .end-tail), toZ-ofZ (f .index)) at (c .from-index .ensures)
-
-from-index-requires : tie.Need-from-index-requires
-from-index-requires c κs = search needs
-
-valued-requires : tie.Need-valued-requires
-valued-requires c κs = search needs
+said c = let f = c .before .fits in
+    rw (
+      toZ-ofZ (f .kind),
+      toZ-ofZ (f .start-head),
+      toZ-ofZ (f .start-tail),
+      toZ-ofZ (f .end-head),
+      toZ-ofZ (f .end-tail),
+      toZ-ofZ (f .index),
+    ) at (c .from-index .ensures)
 
 returns : tie.Need-returns
 returns c = c .valued .ensures ∙ ap valueReply (said (c .before))
 
 pub ordered-from-index-spec : {M : Type 1} → statement M
-ordered-from-index-spec = tie.close (tie.spec from-index-requires valued-requires returns)
+ordered-from-index-spec = tie.close (tie.spec (λ c κs. search needs) (λ c κs. search needs) returns)

@@ -9,19 +9,32 @@ use Rattle.ordered.proofs.ordered_map.Statement.{statement}
 use Rattle.ordered.proofs.ordered_map.Tie as tie
 
 abbrev answer : tie.Start → Pixel
-answer c = let x = c .args in mapped (record { kind = x .kind; «start_head» = x .start-head; «start_tail» = x .start-tail; «end_head» = x .end-head; «end_tail» = x .end-tail }) (record { low = x .low; high = x .high }) (record { head = x .head; tail = x .tail })
+answer c = let x = c .args in
+    mapped (record {
+      kind = x .kind;
+      «start_head» = x .start-head;
+      «start_tail» = x .start-tail;
+      «end_head» =
+          x .end-head;
+      «end_tail» = x .end-tail;
+    }) (record { low = x .low; high = x .high }) (record { head = x .head; tail = x .tail })
 
 said : (c : tie.After-map) → c .map .result ≡ answer (c .before)
-said c = let f = c .before .fits in rw (toZ-ofZ (f .kind), toZ-ofZ (f .start-head), toZ-ofZ (f .start-tail), toZ-ofZ (f .end-head), toZ-ofZ (f .end-tail), toZ-ofZ (f .low), toZ-ofZ (f .high), toZ-ofZ (f .head), toZ-ofZ (f .tail)) at (c .map .ensures)
-
-map-requires : tie.Need-map-requires
-map-requires c κs = search needs
-
-placed-requires : tie.Need-placed-requires
-placed-requires c κs = search needs
+said c = let f = c .before .fits in
+    rw (
+      toZ-ofZ (f .kind),
+      toZ-ofZ (f .start-head),
+      toZ-ofZ (f .start-tail),
+      toZ-ofZ (f .end-head),
+      toZ-ofZ (f .end-tail),
+      toZ-ofZ (f .low),
+      toZ-ofZ (f .high),
+      toZ-ofZ (f .head),
+      toZ-ofZ (f .tail),
+    ) at (c .map .ensures)
 
 returns : tie.Need-returns
 returns c = c .placed .ensures ∙ ap pixelReply (said (c .before))
 
 pub ordered-map-spec : {M : Type 1} → statement M
-ordered-map-spec = tie.close (tie.spec map-requires placed-requires returns)
+ordered-map-spec = tie.close (tie.spec (λ c κs. search needs) (λ c κs. search needs) returns)

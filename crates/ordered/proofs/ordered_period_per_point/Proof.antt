@@ -15,19 +15,28 @@ use Rattle.ordered.proofs.ordered_period_per_point.Statement.{statement
 use Rattle.ordered.proofs.ordered_period_per_point.Tie as tie
 
 abbrev axis : tie.Start → Axis
-axis c = let x = c .args in record { kind = x .kind; «start_head» = x .start-head; «start_tail» = x .start-tail; «end_head» = x .end-head; «end_tail» = x .end-tail }
+axis c = let x = c .args in record {
+  kind = x .kind;
+  «start_head» = x .start-head;
+  «start_tail» = x .start-tail;
+  «end_head» =
+      x .end-head;
+  «end_tail» = x .end-tail;
+}
 
 abbrev hint : tie.Start → BoldPoints
 hint c = record { n = c .args .n }
 
 said : (c : tie.After-period-per-point) → c .period-per-point .result ≡ periodAnswer (axis (c .before)) (hint (c .before))
-said c = let f = c .before .fits in rw (toZ-ofZ (f .kind), toZ-ofZ (f .start-head), toZ-ofZ (f .start-tail), toZ-ofZ (f .end-head), toZ-ofZ (f .end-tail), toZ-ofZ (f .n)) at (c .period-per-point .ensures)
-
-period-per-point-requires : tie.Need-period-per-point-requires
-period-per-point-requires c κs = search needs
-
-enum-known-k : tie.Need-enum-known-k
-enum-known-k c = search needs
+said c = let f = c .before .fits in
+    rw (
+      toZ-ofZ (f .kind),
+      toZ-ofZ (f .start-head),
+      toZ-ofZ (f .start-tail),
+      toZ-ofZ (f .end-head),
+      toZ-ofZ (f .end-tail),
+      toZ-ofZ (f .n),
+    ) at (c .period-per-point .ensures)
 
 fits : (c : tie.After-known-told) → c .before .k .given .0 .0 < 2 ^ 63
 fits c =
@@ -37,15 +46,6 @@ fits c =
 
 cast-t13 : tie.Need-cast-t13
 cast-t13 c = count-fits _ (fits c)
-
-enum-told : tie.Need-enum-told
-enum-told c = search needs
-
-enum-known-q : tie.Need-enum-known-q
-enum-known-q c = search needs
-
-cast-t14 : tie.Need-cast-t14
-cast-t14 c = search needs
 
 returns : tie.Need-returns
 returns c =
@@ -65,13 +65,5 @@ returns-3 c =
 pub ordered-period-per-point-spec : {M : Type 1} → statement M
 ordered-period-per-point-spec =
     tie.close
-    (tie.spec
-    period-per-point-requires
-    enum-known-k
-    cast-t13
-    enum-told
-    enum-known-q
-    cast-t14
-    returns
-    returns-2
-    returns-3)
+    (tie.spec (λ c κs. search needs) (λ c. search needs) cast-t13 (λ c. search needs) (λ c. search needs)
+    (λ c. search needs) returns returns-2 returns-3)

@@ -11,19 +11,43 @@ use Rattle.ordered.proofs.ordered_segment_index_of.Statement.{statement
 use Rattle.ordered.proofs.ordered_segment_index_of.Tie as tie
 
 abbrev answer : tie.Start → NumberAnswer
-answer c = let x = c .args in segmentIndexAnswer (record { kind = x .kind; «start_head» = x .start-head; «start_tail» = x .start-tail; «end_head» = x .end-head; «end_tail» = x .end-tail }) (record { case = x .segment; head = x .head; tail = x .tail })
+answer c = let x = c .args in
+    segmentIndexAnswer (record {
+      kind = x .kind;
+      «start_head» = x .start-head;
+      «start_tail» = x .start-tail;
+      «end_head» =
+          x .end-head;
+      «end_tail» = x .end-tail;
+    }) (record { case = x .segment; head = x .head; tail = x .tail })
 
 said : (c : tie.After-index-of) → c .index-of .result ≡ answer (c .before)
-said c = let f = c .before .fits in rw (toZ-ofZ (f .kind), toZ-ofZ (f .start-head), toZ-ofZ (f .start-tail), toZ-ofZ (f .end-head), toZ-ofZ (f .end-tail), toZ-ofZ (f .segment), toZ-ofZ (f .head), toZ-ofZ (f .tail)) at (c .index-of .ensures)
-
-index-of-requires : tie.Need-index-of-requires
-index-of-requires c κs = search needs
+said c = let f = c .before .fits in
+    rw (
+      toZ-ofZ (f .kind),
+      toZ-ofZ (f .start-head),
+      toZ-ofZ (f .start-tail),
+      toZ-ofZ (f .end-head),
+      toZ-ofZ (f .end-tail),
+      toZ-ofZ (f .segment),
+      toZ-ofZ (f .head),
+      toZ-ofZ (f .tail),
+    ) at (c .index-of .ensures)
 
 numbered-requires : tie.Need-numbered-requires
-numbered-requires c κs = let x = c .before .args in subst (λ (l : NumberAnswer). numberIn l < 2 ^ 63) (sym (said c)) (segment-index-fits (record { kind = x .kind; «start_head» = x .start-head; «start_tail» = x .start-tail; «end_head» = x .end-head; «end_tail» = x .end-tail }) (record { case = x .segment; head = x .head; tail = x .tail }))
+numbered-requires c κs = let x = c .before .args in
+    subst (λ (l : NumberAnswer). numberIn l < 2 ^ 63) (sym (said c))
+    (segment-index-fits (record {
+      kind = x .kind;
+      «start_head» = x .start-head;
+      «start_tail» = x .start-tail;
+      «end_head» =
+          x .end-head;
+      «end_tail» = x .end-tail;
+    }) (record { case = x .segment; head = x .head; tail = x .tail }))
 
 returns : tie.Need-returns
 returns c = c .numbered .ensures ∙ ap numberReply (said (c .before))
 
 pub ordered-segment-index-of-spec : {M : Type 1} → statement M
-ordered-segment-index-of-spec = tie.close (tie.spec index-of-requires numbered-requires returns)
+ordered-segment-index-of-spec = tie.close (tie.spec (λ c κs. search needs) numbered-requires returns)

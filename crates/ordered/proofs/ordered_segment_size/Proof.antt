@@ -11,19 +11,40 @@ use Rattle.ordered.proofs.ordered_segment_size.Statement.{statement}
 use Rattle.ordered.proofs.ordered_segment_size.Tie as tie
 
 abbrev answer : tie.Start → NumberAnswer
-answer c = let x = c .args in segmentSizeAnswer (record { kind = x .kind; «start_head» = x .start-head; «start_tail» = x .start-tail; «end_head» = x .end-head; «end_tail» = x .end-tail })
+answer c = let x = c .args in
+    segmentSizeAnswer (record {
+      kind = x .kind;
+      «start_head» = x .start-head;
+      «start_tail» = x .start-tail;
+      «end_head» =
+          x .end-head;
+      «end_tail» = x .end-tail;
+    })
 
 said : (c : tie.After-size) → c .size .result ≡ answer (c .before)
-said c = let f = c .before .fits in rw (toZ-ofZ (f .kind), toZ-ofZ (f .start-head), toZ-ofZ (f .start-tail), toZ-ofZ (f .end-head), toZ-ofZ (f .end-tail)) at (c .size .ensures)
-
-size-requires : tie.Need-size-requires
-size-requires c κs = search needs
+said c = let f = c .before .fits in
+    rw (
+      toZ-ofZ (f .kind),
+      toZ-ofZ (f .start-head),
+      toZ-ofZ (f .start-tail),
+      toZ-ofZ (f .end-head),
+      toZ-ofZ (f .end-tail),
+    ) at (c .size .ensures)
 
 numbered-requires : tie.Need-numbered-requires
-numbered-requires c κs = let x = c .before .args in subst (λ (l : NumberAnswer). numberIn l < 2 ^ 63) (sym (said c)) (segment-size-fits (record { kind = x .kind; «start_head» = x .start-head; «start_tail» = x .start-tail; «end_head» = x .end-head; «end_tail» = x .end-tail }))
+numbered-requires c κs = let x = c .before .args in
+    subst (λ (l : NumberAnswer). numberIn l < 2 ^ 63) (sym (said c))
+    (segment-size-fits (record {
+      kind = x .kind;
+      «start_head» = x .start-head;
+      «start_tail» = x .start-tail;
+      «end_head» =
+          x .end-head;
+      «end_tail» = x .end-tail;
+    }))
 
 returns : tie.Need-returns
 returns c = c .numbered .ensures ∙ ap numberReply (said (c .before))
 
 pub ordered-segment-size-spec : {M : Type 1} → statement M
-ordered-segment-size-spec = tie.close (tie.spec size-requires numbered-requires returns)
+ordered-segment-size-spec = tie.close (tie.spec (λ c κs. search needs) numbered-requires returns)

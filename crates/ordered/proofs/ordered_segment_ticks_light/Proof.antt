@@ -16,32 +16,55 @@ use Rattle.ordered.proofs.ordered_segment_ticks_light.Statement.{statem
 use Rattle.ordered.proofs.ordered_segment_ticks_light.Tie as tie
 
 abbrev axis : tie.Start → Axis
-axis c = let x = c .args in record { kind = x .kind; «start_head» = x .start-head; «start_tail» = x .start-tail; «end_head» = x .end-head; «end_tail» = x .end-tail }
+axis c = let x = c .args in record {
+  kind = x .kind;
+  «start_head» = x .start-head;
+  «start_tail» = x .start-tail;
+  «end_head» =
+      x .end-head;
+  «end_tail» = x .end-tail;
+}
 
 abbrev hint : tie.Start → Hint
 hint c = let x = c .args in light (record { bold = x .bold; n = x .n })
 
-said : (c : tie.After-list-light) → let s = c .before .before in c .list-light .result ≡ segmentTicksAnswer (axis s) (hint s) (length (s .args .lent .now))
-said c = let f = c .before .before .fits in rw (toZ-ofZ (f .kind), toZ-ofZ (f .start-head), toZ-ofZ (f .start-tail), toZ-ofZ (f .end-head), toZ-ofZ (f .end-tail), toZ-ofZ (f .bold), toZ-ofZ (f .n)) at (c .list-light .ensures .0)
-
-list-light-requires : tie.Need-list-light-requires
-list-light-requires c κs = search needs
+said : (c : tie.After-list-light) → let s = c .before .before in
+    c .list-light .result ≡ segmentTicksAnswer (axis s) (hint s) (length (s .args .lent .now))
+said c = let f = c .before .before .fits in
+    rw (
+      toZ-ofZ (f .kind),
+      toZ-ofZ (f .start-head),
+      toZ-ofZ (f .start-tail),
+      toZ-ofZ (f .end-head),
+      toZ-ofZ (f .end-tail),
+      toZ-ofZ (f .bold),
+      toZ-ofZ (f .n),
+    ) at (c .list-light .ensures .0)
 
 counted-requires : tie.Need-counted-requires
 counted-requires c κs =
     let l = c .before in
     let s = l .before .before in
-    subst (λ (l : Listed). countOf l < 2 ^ 63) (sym (said l)) (segment-answer-most (axis s) (hint s) (length (s .args .lent .now)) (omega arith))
-
-same-length : tie.Need-same-length
-same-length c = search needs
+    subst (λ (l : Listed). countOf l < 2 ^ 63) (sym (said l))
+    (segment-answer-most (axis s) (hint s) (length (s .args .lent .now)) (omega arith))
 
 returns : tie.Need-returns
 returns c =
     let l = c .before .before in
-    let f = l .before .before .fits in
-    (c .counted .ensures ∙ ap countReply (said l), rw (toZ-ofZ (f .kind), toZ-ofZ (f .start-head), toZ-ofZ (f .start-tail), toZ-ofZ (f .end-head), toZ-ofZ (f .end-tail), toZ-ofZ (f .bold), toZ-ofZ (f .n)) at (l .list-light .ensures .1))
+    let f = l .before .before .fits in (
+      c .counted .ensures ∙ ap countReply (said l),
+      rw (
+        toZ-ofZ (f .kind),
+        toZ-ofZ (f .start-head),
+        toZ-ofZ (f .start-tail),
+        toZ-ofZ (f .end-head),
+        toZ-ofZ (f .end-tail),
+        toZ-ofZ (f .bold),
+        toZ-ofZ (f .n),
+      ) at (l .list-light .ensures .1),
+    )
 
 pub ordered-segment-ticks-light-spec : {M : Type 1} → statement M
 ordered-segment-ticks-light-spec =
-    tie.close (tie.spec list-light-requires counted-requires same-length returns)
+    tie.close
+    (tie.spec (λ c κs. search needs) counted-requires (λ c. search needs) returns)

@@ -9,19 +9,31 @@ use Rattle.ordered.proofs.ordered_unmap.Statement.{statement}
 use Rattle.ordered.proofs.ordered_unmap.Tie as tie
 
 abbrev answer : tie.Start → ValueAnswer
-answer c = let x = c .args in unmapAnswer (record { kind = x .kind; «start_head» = x .start-head; «start_tail» = x .start-tail; «end_head» = x .end-head; «end_tail» = x .end-tail }) (record { low = x .low; high = x .high }) (x .pixel)
+answer c = let x = c .args in
+    unmapAnswer (record {
+      kind = x .kind;
+      «start_head» = x .start-head;
+      «start_tail» = x .start-tail;
+      «end_head» =
+          x .end-head;
+      «end_tail» = x .end-tail;
+    }) (record { low = x .low; high = x .high }) (x .pixel)
 
 said : (c : tie.After-unmap) → c .unmap .result ≡ answer (c .before)
-said c = let f = c .before .fits in rw (toZ-ofZ (f .kind), toZ-ofZ (f .start-head), toZ-ofZ (f .start-tail), toZ-ofZ (f .end-head), toZ-ofZ (f .end-tail), toZ-ofZ (f .low), toZ-ofZ (f .high), toZ-ofZ (f .pixel)) at (c .unmap .ensures)
-
-unmap-requires : tie.Need-unmap-requires
-unmap-requires c κs = search needs
-
-valued-requires : tie.Need-valued-requires
-valued-requires c κs = search needs
+said c = let f = c .before .fits in
+    rw (
+      toZ-ofZ (f .kind),
+      toZ-ofZ (f .start-head),
+      toZ-ofZ (f .start-tail),
+      toZ-ofZ (f .end-head),
+      toZ-ofZ (f .end-tail),
+      toZ-ofZ (f .low),
+      toZ-ofZ (f .high),
+      toZ-ofZ (f .pixel),
+    ) at (c .unmap .ensures)
 
 returns : tie.Need-returns
 returns c = c .valued .ensures ∙ ap valueReply (said (c .before))
 
 pub ordered-unmap-spec : {M : Type 1} → statement M
-ordered-unmap-spec = tie.close (tie.spec unmap-requires valued-requires returns)
+ordered-unmap-spec = tie.close (tie.spec (λ c κs. search needs) (λ c κs. search needs) returns)

@@ -11,15 +11,6 @@ use Rattle.ordered.specs.Replies.{pixelReply}
 use Rattle.ordered.proofs.placed.Statement.{statement}
 use Rattle.ordered.proofs.placed.Tie as tie
 
-enum-known-a : tie.Need-enum-known-a
-enum-known-a c = search needs
-
-enum-known-a-2 : tie.Need-enum-known-a-2
-enum-known-a-2 c = search needs
-
-cast-t5 : tie.Need-cast-t5
-cast-t5 c = search needs
-
 returns : tie.Need-returns
 returns c =
     let g = c .before .a .given in
@@ -32,4 +23,6 @@ returns-2 c =
     ap (λ (z : ℤ). record { status = z; pixel = pos 0 }) (read-count (g .0 .0) (omega arith)) ∙ ap pixelReply (sym (g .1))
 
 pub placed-spec : {M : Type 1} → statement M
-placed-spec = tie.close (tie.spec enum-known-a enum-known-a-2 cast-t5 returns returns-2)
+placed-spec =
+    tie.close
+    (tie.spec (λ c. search needs) (λ c. search needs) (λ c. search needs) returns returns-2)

@@ -10,15 +10,6 @@ use Rattle.ordered.specs.Replies.{segmentReply}
 use Rattle.ordered.proofs.segment_at.Statement.{statement}
 use Rattle.ordered.proofs.segment_at.Tie as tie
 
-enum-known-v : tie.Need-enum-known-v
-enum-known-v c = search needs
-
-enum-known-v-2 : tie.Need-enum-known-v-2
-enum-known-v-2 c = search needs
-
-enum-told : tie.Need-enum-told
-enum-told c = search needs
-
 returns : tie.Need-returns
 returns c =
     let g = c .before .before .v .given in
@@ -38,4 +29,5 @@ returns-3 c = ap (λ (v : SegmentValue). segmentReply (segment.At v)) (sym (c .e
 
 pub segment-at-spec : {M : Type 1} → statement M
 segment-at-spec =
-    tie.close (tie.spec enum-known-v enum-known-v-2 enum-told returns returns-2 returns-3)
+    tie.close
+    (tie.spec (λ c. search needs) (λ c. search needs) (λ c. search needs) returns returns-2 returns-3)

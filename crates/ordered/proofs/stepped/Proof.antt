@@ -11,18 +11,6 @@ use Rattle.ordered.specs.Replies.{stepReply}
 use Rattle.ordered.proofs.stepped.Statement.{statement}
 use Rattle.ordered.proofs.stepped.Tie as tie
 
-enum-known-a : tie.Need-enum-known-a
-enum-known-a c = search needs
-
-enum-known-a-2 : tie.Need-enum-known-a-2
-enum-known-a-2 c = search needs
-
-enum-known-a-3 : tie.Need-enum-known-a-3
-enum-known-a-3 c = search needs
-
-cast-t7 : tie.Need-cast-t7
-cast-t7 c = search needs
-
 returns : tie.Need-returns
 returns c =
     let g = c .before .before .before .a .given in
@@ -40,9 +28,11 @@ returns-2 c =
 returns-3 : tie.Need-returns-3
 returns-3 c =
     let g = c .before .a3 .given in
-    ap (λ (z : ℤ). record { status = z; head = pos 0; tail = pos 0; next = pos 0 }) (read-count (g .0 .0) (omega arith)) ∙ ap stepReply (sym (g .1))
+    ap (λ (z : ℤ). record { status = z; head = pos 0; tail = pos 0; next = pos 0 }) (read-count (g .0 .0) (omega arith))
+    ∙ ap stepReply (sym (g .1))
 
 pub stepped-spec : {M : Type 1} → statement M
 stepped-spec =
     tie.close
-    (tie.spec enum-known-a enum-known-a-2 enum-known-a-3 cast-t7 returns returns-2 returns-3)
+    (tie.spec (λ c. search needs) (λ c. search needs) (λ c. search needs) (λ c. search needs) returns
+    returns-2 returns-3)

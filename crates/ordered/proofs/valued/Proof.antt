@@ -11,18 +11,6 @@ use Rattle.ordered.specs.Replies.{valueReply}
 use Rattle.ordered.proofs.valued.Statement.{statement}
 use Rattle.ordered.proofs.valued.Tie as tie
 
-enum-known-a : tie.Need-enum-known-a
-enum-known-a c = search needs
-
-enum-told : tie.Need-enum-told
-enum-told c = search needs
-
-enum-known-a-2 : tie.Need-enum-known-a-2
-enum-known-a-2 c = search needs
-
-cast-t5 : tie.Need-cast-t5
-cast-t5 c = search needs
-
 returns : tie.Need-returns
 returns c =
     let g = c .before .before .a .given in
@@ -36,8 +24,11 @@ returns-2 c = ap valueReply (sym (c .enum-told .given .1))
 returns-3 : tie.Need-returns-3
 returns-3 c =
     let g = c .before .a2 .given in
-    ap (λ (z : ℤ). record { status = z; head = pos 0; tail = pos 0 }) (read-count (g .0 .0) (omega arith)) ∙ ap valueReply (sym (g .1))
+    ap (λ (z : ℤ). record { status = z; head = pos 0; tail = pos 0 }) (read-count (g .0 .0) (omega arith))
+    ∙ ap valueReply (sym (g .1))
 
 pub valued-spec : {M : Type 1} → statement M
 valued-spec =
-    tie.close (tie.spec enum-known-a enum-told enum-known-a-2 cast-t5 returns returns-2 returns-3)
+    tie.close
+    (tie.spec (λ c. search needs) (λ c. search needs) (λ c. search needs) (λ c. search needs) returns
+    returns-2 returns-3)

@@ -6,12 +6,14 @@ use native.Mathlib.Nat.{mul-le-mul}
 use native.Mathlib.Numerals.{add-one}
 use native.Mathlib.Omega.{arith}
 use Rattle.period.specs.Ladders.{ladder}
-use Rattle.period.proofs.Climbing.{Climbed, climb-start, unit-fits, in-list, unit-above, climb-end, climb-step, not-last, climb-same, climb-next, next-fits}
+use Rattle.period.proofs.Climbing.{Climbed, climb-start, unit-fits, in-list, unit-above, climb-end}
+use Rattle.period.proofs.Climbing.{climb-step, not-last, climb-same, climb-next, next-fits}
 use Rattle.period.proofs.climb.Statement.{statement}
 use Rattle.period.proofs.climb.Tie as tie
 
 abbrev Inv-loop : tie.InvT-loop
-Inv-loop span n start base counts unit₀ whole₀ idx₀ place₀ unit whole idx place = Climbed span n (ladder start base counts) unit whole idx place
+Inv-loop span n start base counts unit₀ whole₀ idx₀ place₀ unit whole idx place =
+    Climbed span n (ladder start base counts) unit whole idx place
 
 abbrev μ-loop : tie.MeasureT-loop
 μ-loop span n start base counts unit₀ whole₀ idx₀ place₀ unit whole idx place = 16 - place
@@ -68,7 +70,8 @@ loop-less-2 c =
 loop-again-2 : tie.Need-loop-again-2 Inv-loop μ-loop
 loop-again-2 c =
     let l = c .before .before .before in
-    rw (add-one (l .loop .place), add-one (l .loop .idx)) (climb-same (l .before .pre) (l .loop .inv) (c .before .if1 .taken) (omega (arith, in-list (l .before .pre) (l .loop .inv))))
+    rw (add-one (l .loop .place), add-one (l .loop .idx)) (climb-same (l .before .pre) (l .loop .inv) (c .before .if1 .taken)
+    (omega (arith, in-list (l .before .pre) (l .loop .inv))))
 
 mul-t15 : tie.Need-mul-t15 Inv-loop μ-loop
 mul-t15 c = omega (arith, in-list (c .before .before .before .pre) (c .before .before .loop .inv))
@@ -86,8 +89,11 @@ add-t19 c = omega (arith, c .before .before .before .loop .inv .come .within)
 
 returns : tie.Need-returns Inv-loop μ-loop
 returns c =
-    let l = c .before .before .before in
-    (climb-step (l .before .pre) (l .loop .inv) (omega arith), ap (λ (x : ℕ). x + 1) (climb-end (l .before .pre) (l .loop .inv) (omega arith)))
+    let l = c .before .before .before in (
+      climb-step (l .before .pre) (l .loop .inv) (omega arith),
+      ap (λ (x : ℕ). x + 1)
+          (climb-end (l .before .pre) (l .loop .inv) (omega arith)),
+    )
 
 pub climb-spec : {M : Type 1} → statement M
 climb-spec =

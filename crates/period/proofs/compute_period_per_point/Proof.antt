@@ -18,22 +18,18 @@ module _ (q : tie.After-largest-power) {l : Ladder} (is : ladderOf (q .largest-p
   begins : Climbable (q .before .args .span) (q .before .args .n) l
   begins =
       let s = q .before in
-      let e = chosen-ends (s .args .span) (s .args .n) (s .pre .1) (s .pre .2) (q .largest-power .result) (q .largest-power .ensures) (s .pre .0) in
+      let e = chosen-ends (s .args .span) (s .args .n) (s .pre .1) (s .pre .2) (q .largest-power .result)
+      (q .largest-power .ensures) (s .pre .0) in
       rw is at (e .climbable)
 
   finds : noPeriod (q .largest-power .result) (q .before .args .sub-daily) ≡ false → {x y : ℕ}
-      → (x ≡ firstWide (q .before .args .span) (q .before .args .n) l) × (y ≡ placeOf (q .before .args .span) (q .before .args .n) l + 1)
+      → (x ≡ firstWide (q .before .args .span) (q .before .args .n) l)
+      × (y ≡ placeOf (q .before .args .span) (q .before .args .n) l + 1)
       → Answers (q .before .args .span) (q .before .args .n) (q .before .args .sub-daily) x y
   finds e f =
       let a = q .before .args in
       let g = answers (a .span) (a .n) (a .sub-daily) (q .largest-power .result) (q .largest-power .ensures) e l is in
       (f .0 ∙ g .0, f .1 ∙ g .1)
-
-largest-power-requires : tie.Need-largest-power-requires
-largest-power-requires c κs = search needs
-
-slice-aggregate-climb : tie.Need-slice-aggregate-climb
-slice-aggregate-climb c = search needs
 
 climb-requires : tie.Need-climb-requires
 climb-requires c κs =
@@ -46,9 +42,6 @@ returns c =
     finds q (is-decimal _ (c .before .before .if1 .taken))
     (below-day _ _ (lt-of-lt-of-le (c .before .before .if1 .taken) (lit≤ tt))) (c .climb .ensures)
 
-slice-aggregate-climb-2 : tie.Need-slice-aggregate-climb-2
-slice-aggregate-climb-2 c = search needs
-
 climb-requires-2 : tie.Need-climb-requires-2
 climb-requires-2 c κs =
     let q = c .before .before .before in
@@ -59,9 +52,6 @@ returns-2 c =
     let q = c .before .before .before .before in
     finds q (is-seconds _ (c .before .before .before .if1 .left) (c .before .before .if2 .taken))
     (below-day _ _ (lt-of-lt-of-le (c .before .before .if2 .taken) (lit≤ tt))) (c .climb2 .ensures)
-
-slice-aggregate-climb-3 : tie.Need-slice-aggregate-climb-3
-slice-aggregate-climb-3 c = search needs
 
 climb-requires-3 : tie.Need-climb-requires-3
 climb-requires-3 c κs =
@@ -81,9 +71,6 @@ returns-4 c =
     answers-none (a .span) (a .n) (a .sub-daily) (q .largest-power .result) (q .largest-power .ensures)
     (days-listed _ _ (c .before .if3 .left) (c .if4 .taken))
 
-slice-aggregate-climb-4 : tie.Need-slice-aggregate-climb-4
-slice-aggregate-climb-4 c = search needs
-
 climb-requires-4 : tie.Need-climb-requires-4
 climb-requires-4 c κs =
     let q = c .before .before .before .before .before .before in
@@ -94,9 +81,6 @@ returns-5 c =
     let q = c .before .before .before .before .before .before .before in
     finds q (is-days _ (c .before .before .before .before .if3 .left) (c .before .before .if5 .taken))
     (any-step (q .largest-power .result) (q .before .args .sub-daily) (c .before .before .before .if4 .left)) (c .climb4 .ensures)
-
-slice-aggregate-climb-5 : tie.Need-slice-aggregate-climb-5
-slice-aggregate-climb-5 c = search needs
 
 climb-requires-5 : tie.Need-climb-requires-5
 climb-requires-5 c κs =
@@ -112,21 +96,6 @@ returns-6 c =
 pub compute-period-per-point-spec : {M : Type 1} → statement M
 compute-period-per-point-spec =
     tie.close
-    (tie.spec
-    largest-power-requires
-    slice-aggregate-climb
-    climb-requires
-    returns
-    slice-aggregate-climb-2
-    climb-requires-2
-    returns-2
-    slice-aggregate-climb-3
-    climb-requires-3
-    returns-3
-    returns-4
-    slice-aggregate-climb-4
-    climb-requires-4
-    returns-5
-    slice-aggregate-climb-5
-    climb-requires-5
-    returns-6)
+    (tie.spec (λ c κs. search needs) (λ c. search needs) climb-requires returns (λ c. search needs)
+    climb-requires-2 returns-2 (λ c. search needs) climb-requires-3 returns-3 returns-4 (λ c. search needs)
+    climb-requires-4 returns-5 (λ c. search needs) climb-requires-5 returns-6)

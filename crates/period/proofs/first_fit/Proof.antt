@@ -15,7 +15,8 @@ use Rattle.period.proofs.first_fit.Tie as tie
 
 -- the table's rule, by one computed test
 abbrev table : List ℕ
-table = 1 ∷ 2 ∷ 5 ∷ 10 ∷ 20 ∷ 50 ∷ 100 ∷ 200 ∷ 500 ∷ 1000 ∷ 2000 ∷ 5000 ∷ 10000 ∷ 20000 ∷ 50000 ∷ 100000 ∷ 200000 ∷ 500000 ∷ 1000000 ∷ 2000000 ∷ 5000000 ∷ 10000000 ∷ []
+table = 1 ∷ 2 ∷ 5 ∷ 10 ∷ 20 ∷ 50 ∷ 100 ∷ 200 ∷ 500 ∷ 1000 ∷ 2000 ∷ 5000 ∷ 10000 ∷ 20000 ∷ 50000 ∷ 100000 ∷ 200000 ∷ 500000
+    ∷ 1000000 ∷ 2000000 ∷ 5000000 ∷ 10000000 ∷ []
 
 entry : (i : ℕ) → i < 22 → getD table i 0 ≡ stepAt (decimal 1) i
 unfolding all
@@ -30,20 +31,8 @@ abbrev μ-loop : tie.MeasureT-loop
 loop-holds : tie.Need-loop-holds Inv-loop μ-loop
 loop-holds c = (come-first, refl)
 
-mul-if1 : tie.Need-mul-if1 Inv-loop μ-loop
-mul-if1 c = omega arith
-
-array-read-if1 : tie.Need-array-read-if1 Inv-loop μ-loop
-array-read-if1 c = omega arith
-
 div-if1 : tie.Need-div-if1 Inv-loop μ-loop
 div-if1 c = let i = c .before .loop .i in rw (entry i (omega arith)) (step-above i (omega arith))
-
-mul-result : tie.Need-mul-result Inv-loop μ-loop
-mul-result c = omega arith
-
-array-read-result : tie.Need-array-read-result Inv-loop μ-loop
-array-read-result c = omega arith
 
 returns : tie.Need-returns Inv-loop μ-loop
 returns c =
@@ -53,12 +42,6 @@ returns c =
     let t = rw is at (c .if1 .taken) in
     is ∙ fit-here (a .total) (a .n) (l .loop .inv .0) (omega arith)
 
-add-i : tie.Need-add-i Inv-loop μ-loop
-add-i c = omega arith
-
-loop-less : tie.Need-loop-less Inv-loop μ-loop
-loop-less c = omega arith
-
 loop-again : tie.Need-loop-again Inv-loop μ-loop
 loop-again c =
     let l = c .before .before in
@@ -66,27 +49,11 @@ loop-again c =
     let t = rw (entry (l .loop .i) (omega arith)) at (c .if1 .left) in
     (rw (add-one (l .loop .i)) (fit-next (a .total) (a .n) (l .loop .inv .0) (omega arith) (omega arith)), refl)
 
-array-read-result-2 : tie.Need-array-read-result-2 Inv-loop μ-loop
-array-read-result-2 c = omega arith
-
 returns-2 : tie.Need-returns-2 Inv-loop μ-loop
 returns-2 c = let a = c .before .before .args in fit-last (a .total) (a .n) (c .before .loop .inv .0) (omega arith)
 
 pub first-fit-spec : {M : Type 1} → statement M
 first-fit-spec =
     tie.close
-    (tie.spec
-    Inv-loop
-    μ-loop
-    loop-holds
-    mul-if1
-    array-read-if1
-    div-if1
-    mul-result
-    array-read-result
-    returns
-    add-i
-    loop-less
-    loop-again
-    array-read-result-2
-    returns-2)
+    (tie.spec Inv-loop μ-loop loop-holds (λ c. omega arith) (λ c. omega arith) div-if1 (λ c. omega arith)
+    (λ c. omega arith) returns (λ c. omega arith) (λ c. omega arith) loop-again (λ c. omega arith) returns-2)

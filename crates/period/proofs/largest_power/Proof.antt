@@ -13,7 +13,9 @@ use Rattle.period.proofs.largest_power.Tie as tie
 
 -- the table's rule, by one computed test
 abbrev table : List ℕ
-table = 1 ∷ 10 ∷ 100 ∷ 1000 ∷ 10000 ∷ 100000 ∷ 1000000 ∷ 10000000 ∷ 100000000 ∷ 1000000000 ∷ 10000000000 ∷ 100000000000 ∷ 1000000000000 ∷ 10000000000000 ∷ 100000000000000 ∷ 1000000000000000 ∷ 10000000000000000 ∷ 100000000000000000 ∷ 1000000000000000000 ∷ []
+table = 1 ∷ 10 ∷ 100 ∷ 1000 ∷ 10000 ∷ 100000 ∷ 1000000 ∷ 10000000 ∷ 100000000 ∷ 1000000000 ∷ 10000000000 ∷ 100000000000
+    ∷ 1000000000000 ∷ 10000000000000 ∷ 100000000000000 ∷ 1000000000000000 ∷ 10000000000000000 ∷ 100000000000000000
+    ∷ 1000000000000000000 ∷ []
 
 entry : (k : ℕ) → k < 19 → getD table k 0 ≡ 10 ^ k
 unfolding all
@@ -31,37 +33,24 @@ div-most c = c .pre
 loop-holds : tie.Need-loop-holds Inv-loop μ-loop
 loop-holds c = (omega arith, from-top (c .args .span) (c .args .n), refl)
 
-mul-if1 : tie.Need-mul-if1 Inv-loop μ-loop
-mul-if1 c = omega arith
-
-array-read-if1 : tie.Need-array-read-if1 Inv-loop μ-loop
-array-read-if1 c = omega arith
-
-mul-result : tie.Need-mul-result Inv-loop μ-loop
-mul-result c = omega arith
-
-array-read-result : tie.Need-array-read-result Inv-loop μ-loop
-array-read-result c = omega arith
-
 returns : tie.Need-returns Inv-loop μ-loop
 returns c =
     let l = c .before .before in
     let s = l .before in
     let is = entry (l .loop .k) (omega arith) in
-    is ∙ ap (λ (x : ℕ). 10 ^ x) (sym (goes-in (s .args .span) (s .args .n) (s .pre) (l .loop .k) (omega arith) is (omega arith)) ∙ l .loop .inv .1)
-
-sub-k : tie.Need-sub-k Inv-loop μ-loop
-sub-k c = omega arith
-
-loop-less : tie.Need-loop-less Inv-loop μ-loop
-loop-less c = omega arith
+    is ∙ ap (λ (x : ℕ). 10 ^ x) (sym (goes-in (s .args .span) (s .args .n) (s .pre) (l .loop .k) (omega arith) is
+    (omega arith)) ∙ l .loop .inv .1)
 
 loop-again : tie.Need-loop-again Inv-loop μ-loop
 loop-again c =
     let l = c .before .before in
     let s = l .before in
-    let is = entry (l .loop .k) (omega arith) in
-    (omega arith, sym (stays-out (s .args .span) (s .args .n) (s .pre) (l .loop .k) (omega arith) is (omega arith)) ∙ l .loop .inv .1, refl)
+    let is = entry (l .loop .k) (omega arith) in (
+      omega arith,
+      sym (stays-out (s .args .span) (s .args .n) (s .pre) (l .loop .k) (omega arith) is (omega arith))
+          ∙ l .loop .inv .1,
+      refl,
+    )
 
 returns-2 : tie.Need-returns-2 Inv-loop μ-loop
 returns-2 c =
@@ -72,17 +61,5 @@ returns-2 c =
 pub largest-power-spec : {M : Type 1} → statement M
 largest-power-spec =
     tie.close
-    (tie.spec
-    Inv-loop
-    μ-loop
-    div-most
-    loop-holds
-    mul-if1
-    array-read-if1
-    mul-result
-    array-read-result
-    returns
-    sub-k
-    loop-less
-    loop-again
-    returns-2)
+    (tie.spec Inv-loop μ-loop div-most loop-holds (λ c. omega arith) (λ c. omega arith) (λ c. omega arith)
+    (λ c. omega arith) returns (λ c. omega arith) (λ c. omega arith) loop-again returns-2)

@@ -16,15 +16,11 @@ returns-2 c = let x = c .before .before .args in step-day (x .d) (x .n) (omega a
 returns-3 : tie.Need-returns-3
 returns-3 c = let x = c .before .before .before .args in step-week (x .d) (x .n) (omega arith) (c .if3 .taken)
 
-weeks-per-requires : tie.Need-weeks-per-requires
-weeks-per-requires c κs = search needs
-
-mul-result : tie.Need-mul-result
-mul-result c = search needs
-
 returns-4 : tie.Need-returns-4
-returns-4 c = let x = c .before .before .before .before .args in ap (λ (w : ℕ). 7 * w) (c .weeks-per .ensures) ∙ step-more (x .d) (x .n) (omega arith)
+returns-4 c = let x = c .before .before .before .before .args in
+    ap (λ (w : ℕ). 7 * w) (c .weeks-per .ensures) ∙ step-more (x .d) (x .n) (omega arith)
 
 pub date-step-spec : {M : Type 1} → statement M
 date-step-spec =
-    tie.close (tie.spec returns returns-2 returns-3 weeks-per-requires mul-result returns-4)
+    tie.close
+    (tie.spec returns returns-2 returns-3 (λ c κs. search needs) (λ c. search needs) returns-4)

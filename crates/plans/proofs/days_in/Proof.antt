@@ -21,7 +21,8 @@ whole-days-between-requires c κs = record { first = zero-value; second = c .pre
 
 returns : tie.Need-returns
 unfolding daysIn
-returns c = toZ-ofZ {w = w64} {z = c .whole-days-between .result} (search needs) ∙ (c .whole-days-between .ensures ∙ ap wholeDays (from-zero (c .before .args .v)))
+returns c = toZ-ofZ {w = w64} {z = c .whole-days-between .result} (search needs)
+    ∙ (c .whole-days-between .ensures ∙ ap wholeDays (from-zero (c .before .args .v)))
 
 pub days-in-spec : {M : Type 1} → statement M
 days-in-spec = tie.close (tie.spec whole-days-between-requires returns)

@@ -13,12 +13,6 @@ use Rattle.plans.proofs.even_plan.Tie as tie
 base-fits : (c : tie.Start) → SFits w64 (c .args .start .head)
 base-fits c = search needs
 
-less-requires : tie.Need-less-requires
-less-requires c κs = search needs
-
-how-many-requires : tie.Need-how-many-requires
-how-many-requires c κs = search needs
-
 returns : tie.Need-returns
 returns c =
     let x = c .before .before .before in
@@ -27,4 +21,4 @@ returns c =
     λ i. record { months = false; base = b≡ i; per = x .args .per; first = x .args .f; step = x .args .k; count = c≡ i }
 
 pub even-plan-spec : {M : Type 1} → statement M
-even-plan-spec = tie.close (tie.spec less-requires how-many-requires returns)
+even-plan-spec = tie.close (tie.spec (λ c κs. search needs) (λ c κs. search needs) returns)

@@ -26,13 +26,16 @@ tail : (c : tie.After-count2) → c .count2 .result ≡ up (c .before .before .b
 tail c = c .count2 .ensures ∙ ap up (toZ-ofZ (tail-fits (c .before .before .before .before)))
 
 count-requires : tie.Need-count-requires
-count-requires c κs = let x = c .before in let v = start-value (x .args .a) (x .pre) in rw (toZ-ofZ (head-fits x)) (is-ge (x .args .a .«start_head») (pos 0) (omega arith))
+count-requires c κs = let x = c .before in let v = start-value (x .args .a) (x .pre) in
+    rw (toZ-ofZ (head-fits x)) (is-ge (x .args .a .«start_head») (pos 0) (omega arith))
 
 count-requires-2 : tie.Need-count-requires-2
-count-requires-2 c κs = let x = c .before .before .before in let v = start-value (x .args .a) (x .pre) in rw (toZ-ofZ (tail-fits x)) (is-ge (x .args .a .«start_tail») (pos 0) (omega arith))
+count-requires-2 c κs = let x = c .before .before .before in let v = start-value (x .args .a) (x .pre) in
+    rw (toZ-ofZ (tail-fits x)) (is-ge (x .args .a .«start_tail») (pos 0) (omega arith))
 
 date-ceil-requires : tie.Need-date-ceil-requires
-date-ceil-requires c κs = let x = c .before .before .before .before in let v = start-value (x .args .a) (x .pre) in omega (arith, head (c .before .before))
+date-ceil-requires c κs = let x = c .before .before .before .before in let v = start-value (x .args .a) (x .pre) in
+    omega (arith, head (c .before .before))
 
 returns : tie.Need-returns
 unfolding fromDay

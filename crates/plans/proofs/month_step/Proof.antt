@@ -9,24 +9,17 @@ use Rattle.plans.proofs.month_step.Tie as tie
 returns : tie.Need-returns
 returns c = each-month (c .before .args .t) (c .before .args .n) (c .if1 .taken)
 
-mul-if2 : tie.Need-mul-if2
-mul-if2 c = search needs
-
 returns-2 : tie.Need-returns-2
 returns-2 c = let x = c .before .before .args in each-quarter (x .t) (x .n) (omega arith) (c .if2 .taken)
 
-mul-if3 : tie.Need-mul-if3
-mul-if3 c = search needs
-
 returns-3 : tie.Need-returns-3
 returns-3 c = let x = c .before .before .before .args in each-half (x .t) (x .n) (omega arith) (c .if3 .taken)
-
-year-step-requires : tie.Need-year-step-requires
-year-step-requires c κs = search needs
 
 returns-4 : tie.Need-returns-4
 returns-4 c = let x = c .before .before .before .before .args in c .year-step .ensures ∙ each-year (x .t) (x .n) (omega arith)
 
 pub month-step-spec : {M : Type 1} → statement M
 month-step-spec =
-    tie.close (tie.spec returns mul-if2 returns-2 mul-if3 returns-3 year-step-requires returns-4)
+    tie.close
+    (tie.spec returns (λ c. search needs) returns-2 (λ c. search needs) returns-3 (λ c κs. search needs)
+    returns-4)

@@ -8,15 +8,6 @@ use Rattle.steps.specs.Progression.{fitting}
 use Rattle.plans.proofs.months_by.Statement.{statement}
 use Rattle.plans.proofs.months_by.Tie as tie
 
-add-less : tie.Need-add-less
-add-less c = search needs
-
-less-requires : tie.Need-less-requires
-less-requires c κs = search needs
-
-how-many-requires : tie.Need-how-many-requires
-how-many-requires c κs = search needs
-
 returns : tie.Need-returns
 returns c =
     let x = c .before .before .args in
@@ -24,4 +15,6 @@ returns c =
     λ i. record { months = true; base = pos 0; per = 1; first = x .m; step = x .k; count = c≡ i }
 
 pub months-by-spec : {M : Type 1} → statement M
-months-by-spec = tie.close (tie.spec add-less less-requires how-many-requires returns)
+months-by-spec =
+    tie.close
+    (tie.spec (λ c. search needs) (λ c κs. search needs) (λ c κs. search needs) returns)

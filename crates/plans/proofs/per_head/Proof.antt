@@ -14,9 +14,6 @@ kind-fits c = search needs
 asked : (c : tie.After-is-duration) → c .is-duration .result ≡ isDuration (c .before .before .args .a .kind)
 asked c = rw (toZ-ofZ (kind-fits (c .before .before))) at (c .is-duration .ensures)
 
-is-duration-requires : tie.Need-is-duration-requires
-is-duration-requires c κs = search needs
-
 returns : tie.Need-returns
 returns c = rw (sym (asked (c .before)) ∙ c .if1 .taken)
 
@@ -24,4 +21,4 @@ returns-2 : tie.Need-returns-2
 returns-2 c = rw (sym (asked (c .before)) ∙ c .if1 .left)
 
 pub per-head-spec : {M : Type 1} → statement M
-per-head-spec = tie.close (tie.spec is-duration-requires returns returns-2)
+per-head-spec = tie.close (tie.spec (λ c κs. search needs) returns returns-2)

@@ -31,32 +31,33 @@ span-fits c = search needs
 fits : (c : tie.After-span) → c .span .result .fits ≡ fitsI64 (spanOf (c .before .args .a))
 fits c = ap (λ (x : Nanoseconds). x .fits) (c .span .ensures) ∙ fits-is (spanOf (c .before .args .a))
 
-value : (c : tie.After-span) → fitsI64 (spanOf (c .before .args .a)) ≡ true → toZ w64 (ofZ w64 (c .span .result .value)) ≡ spanOf (c .before .args .a)
-value c e = toZ-ofZ (span-fits c) ∙ (ap (λ (x : Nanoseconds). x .value) (c .span .ensures) ∙ value-is (spanOf (c .before .args .a)) e)
+value : (c : tie.After-span) → fitsI64 (spanOf (c .before .args .a)) ≡ true → toZ w64 (ofZ w64 (c .span .result .value))
+    ≡ spanOf (c .before .args .a)
+value c e = toZ-ofZ (span-fits c) ∙ (ap (λ (x : Nanoseconds). x .value) (c .span .ensures)
+    ∙ value-is (spanOf (c .before .args .a)) e)
 
 short : (c : tie.Else1) → fitsI64 (spanOf (c .before .before .before .args .a)) ≡ true
 short c = sym (fits (c .before .before)) ∙ not-false _ (c .if1 .left)
 
-counted : (c : tie.After-count) → c .count .result ≡ up (spanOf (c .before .before .before .before .before .before .before .args .a))
-counted c = c .count .ensures ∙ ap up (value (c .before .before .before .before .before .before) (short (c .before .before .before .before)))
+counted : (c : tie.After-count) →
+    c .count .result ≡ up (spanOf (c .before .before .before .before .before .before .before .args .a))
+counted c = c .count .ensures ∙ ap up (value (c .before .before .before .before .before .before)
+    (short (c .before .before .before .before)))
 
-asked : (c : tie.After-is-duration) → c .is-duration .result ≡ isDuration (c .before .before .before .before .before .args .a .kind)
+asked : (c : tie.After-is-duration) → c .is-duration .result
+    ≡ isDuration (c .before .before .before .before .before .args .a .kind)
 asked c = rw (toZ-ofZ (kind-fits (c .before .before .before .before .before))) at (c .is-duration .ensures)
 
-span-requires : tie.Need-span-requires
-span-requires c κs = search needs
-
 returns : tie.Need-returns
-returns c = let x = c .before .before .before .args in no-period (x .a) (x .n) (sym (fits (c .before .before)) ∙ not-true _ (c .if1 .taken))
-
-is-duration-requires : tie.Need-is-duration-requires
-is-duration-requires c κs = search needs
+returns c = let x = c .before .before .before .args in
+    no-period (x .a) (x .n) (sym (fits (c .before .before)) ∙ not-true _ (c .if1 .taken))
 
 count-requires : tie.Need-count-requires
 count-requires c κs =
     let s = c .before .before .before .before .before in
     let x = s .before in
-    rw (value s (short (c .before .before .before))) (is-ge (spanOf (x .args .a)) (pos 0) (omega (arith, span-from-0 (x .args .a) (x .pre .0 .real) (x .pre .0 .order))))
+    rw (value s (short (c .before .before .before)))
+    (is-ge (spanOf (x .args .a)) (pos 0) (omega (arith, span-from-0 (x .args .a) (x .pre .0 .real) (x .pre .0 .order))))
 
 compute-period-per-point-requires : tie.Need-compute-period-per-point-requires
 compute-period-per-point-requires c κs =
@@ -70,7 +71,8 @@ returns-2 c =
     let n = c .before in
     let e = n .before .before .before .before in
     let x = e .before .before .before in
-    let d : not (n .before .before .is-duration .result) ≡ not (isDuration (x .args .a .kind)) = ap not (asked (n .before .before)) in
+    let d : not (n .before .before .is-duration .result) ≡ not (isDuration (x .args .a .kind)) =
+    ap not (asked (n .before .before)) in
     c .compute-period-per-point .ensures .0
     ∙ ap (λ (k : ℕ). periodOf k (x .args .n) (not (n .before .before .is-duration .result))) (counted n)
     ∙ ap (periodOf (up (spanOf (x .args .a))) (x .args .n)) d
@@ -79,10 +81,5 @@ returns-2 c =
 pub period-in-spec : {M : Type 1} → statement M
 period-in-spec =
     tie.close
-    (tie.spec
-    span-requires
-    returns
-    is-duration-requires
-    count-requires
-    compute-period-per-point-requires
-    returns-2)
+    (tie.spec (λ c κs. search needs) returns (λ c κs. search needs) count-requires
+    compute-period-per-point-requires returns-2)

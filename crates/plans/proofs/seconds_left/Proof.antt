@@ -22,10 +22,13 @@ tail-fits c = search needs
 first-fits : (c : tie.Start) → SFits w64 (c .args .first .head)
 first-fits c = search needs
 
-ends-at : (c : tie.Start) → toZ w64 (ofZ w64 (c .args .a .«end_head»)) -ℤ toZ w64 (ofZ w64 (c .args .first .head)) ≡ c .args .a .«end_head» -ℤ firstSecond (start (c .args .a))
+ends-at : (c : tie.Start) → toZ w64 (ofZ w64 (c .args .a .«end_head»)) -ℤ toZ w64 (ofZ w64 (c .args .first .head))
+    ≡ c .args .a .«end_head» -ℤ firstSecond (start (c .args .a))
 ends-at c = rw (toZ-ofZ (end-fits c), toZ-ofZ (first-fits c), c .pre .1)
 
-counted : (c : tie.After-count) → c .count .result ≡ up (c .before .before .before .before .before .args .a .«end_head» -ℤ firstSecond (start (c .before .before .before .before .before .args .a)))
+counted : (c : tie.After-count) →
+    c .count .result ≡ up (c .before .before .before .before .before .args .a .«end_head» -ℤ firstSecond
+    (start (c .before .before .before .before .before .args .a)))
 counted c =
     let x = c .before .before .before .before .before in
     c .count .ensures ∙ rw (ends-at x, toZ-ofZ (left-fits (x .args .a) (x .pre .0)))
@@ -34,18 +37,22 @@ sub-count : tie.Need-sub-count
 sub-count c = let x = c .before .before .before .before in rw (ends-at x) (left-fits (x .args .a) (x .pre .0))
 
 count-requires : tie.Need-count-requires
-count-requires c κs = let x = c .before .before .before .before in rw (ends-at x, toZ-ofZ (left-fits (x .args .a) (x .pre .0))) (left-from-0 (x .args .a) (x .pre .0))
+count-requires c κs = let x = c .before .before .before .before in
+    rw (ends-at x, toZ-ofZ (left-fits (x .args .a) (x .pre .0))) (left-from-0 (x .args .a) (x .pre .0))
 
 add-result : tie.Need-add-result
-add-result c = let n = c .before .before .before in let x = n .before .before .before .before .before in omega (arith, counted n, left-small (x .args .a) (x .pre .0))
+add-result c = let n = c .before .before .before in let x = n .before .before .before .before .before in
+    omega (arith, counted n, left-small (x .args .a) (x .pre .0))
 
 returns : tie.Need-returns
 unfolding secondsLeft
-returns c = let t = c .before in let n = t .before .before in let x = n .before .before .before .before .before in rw (counted n, rw (toZ-ofZ (tail-fits x)) at (c .if1 .taken))
+returns c = let t = c .before in let n = t .before .before in let x = n .before .before .before .before .before in
+    rw (counted n, rw (toZ-ofZ (tail-fits x)) at (c .if1 .taken))
 
 returns-2 : tie.Need-returns-2
 unfolding secondsLeft
-returns-2 c = let t = c .before in let n = t .before .before in let x = n .before .before .before .before .before in rw (counted n, rw (toZ-ofZ (tail-fits x)) at (c .if1 .left)) (omega arith)
+returns-2 c = let t = c .before in let n = t .before .before in let x = n .before .before .before .before .before in
+    rw (counted n, rw (toZ-ofZ (tail-fits x)) at (c .if1 .left)) (omega arith)
 
 pub seconds-left-spec : {M : Type 1} → statement M
 seconds-left-spec = tie.close (tie.spec sub-count count-requires add-result returns returns-2)

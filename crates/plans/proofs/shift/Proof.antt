@@ -39,24 +39,22 @@ unfolding isValue
 zero-value = refl
 
 -- the start's nanoseconds, which fit
-worked : (c : tie.After-nanoseconds-between) → c .nanoseconds-between .result .value ≡ nanoseconds (pos 7) (start (c .before .before .before .before .before .args .a))
+worked : (c : tie.After-nanoseconds-between) → c .nanoseconds-between .result .value ≡ nanoseconds (pos 7)
+    (start (c .before .before .before .before .before .args .a))
 worked c =
     let x = c .before .before .before .before .before in
     let n = nanoseconds (pos 7) (start (x .args .a)) in
     let r = near-start (x .args .a) (x .args .k) (x .pre) (seven (c .before .before)) in
-    let d : difference (pos 7) zeroSpan (c .before .start .result) ≡ n = ap (difference (pos 7) zeroSpan) (c .before .start .ensures) ∙ from-zero (start (x .args .a)) in
+    let d : difference (pos 7) zeroSpan (c .before .start .result) ≡ n =
+    ap (difference (pos 7) zeroSpan) (c .before .start .ensures) ∙ from-zero (start (x .args .a)) in
     ap (λ (y : Nanoseconds). y .value) (c .nanoseconds-between .ensures)
     ∙ ap (λ (z : ℤ). nanosecondsOf z .value) d
     ∙ value-is n (fits-yes n (omega arith) (omega arith))
 
-is-duration-requires : tie.Need-is-duration-requires
-is-duration-requires c κs = search needs
-
 count-requires : tie.Need-count-requires
-count-requires c κs = let x = c .before .before .before .before in rw (toZ-ofZ (tail-fits x)) (is-ge (x .args .a .«start_tail») (pos 0) (omega (arith, tail-range (x .args .a) (x .pre .real) .0)))
-
-shift-up-requires : tie.Need-shift-up-requires
-shift-up-requires c κs = search needs
+count-requires c κs = let x = c .before .before .before .before in
+    rw (toZ-ofZ (tail-fits x)) (is-ge (x .args .a .«start_tail») (pos 0)
+    (omega (arith, tail-range (x .args .a) (x .pre .real) .0)))
 
 returns : tie.Need-returns
 unfolding shift
@@ -67,11 +65,13 @@ returns c =
     let d : isDuration (x .args .a .kind) ≡ false = sym (asked (t .before)) ∙ not-true _ (t .if1 .taken) in
     c .shift-up .ensures ∙ (ap (λ (k : ℕ). shiftUp k (x .args .k)) (n .count .ensures ∙ ap up (toZ-ofZ (tail-fits x))) ∙ rw d)
 
-start-requires : tie.Need-start-requires
-start-requires c κs = search needs
-
 nanoseconds-between-requires : tie.Need-nanoseconds-between-requires
-nanoseconds-between-requires c κs = rw (c .start .ensures) (record { first = zero-value; second = start-seven (c .before .before .before .before .args .a) (c .before .before .before .before .pre .real) (seven (c .before)) })
+nanoseconds-between-requires c κs =
+    rw (c .start .ensures) (record {
+      first = zero-value;
+      second = start-seven (c .before .before .before .before .args .a)
+          (c .before .before .before .before .pre .real) (seven (c .before));
+    })
 
 shift-of-requires : tie.Need-shift-of-requires
 shift-of-requires c κs =
@@ -89,12 +89,5 @@ returns-2 c =
 pub shift-spec : {M : Type 1} → statement M
 shift-spec =
     tie.close
-    (tie.spec
-    is-duration-requires
-    count-requires
-    shift-up-requires
-    returns
-    start-requires
-    nanoseconds-between-requires
-    shift-of-requires
-    returns-2)
+    (tie.spec (λ c κs. search needs) count-requires (λ c κs. search needs) returns (λ c κs. search needs)
+    nanoseconds-between-requires shift-of-requires returns-2)

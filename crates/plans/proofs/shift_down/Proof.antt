@@ -5,23 +5,14 @@ use Rattle.plans.proofs.Times.{down-none, down-some}
 use Rattle.plans.proofs.shift_down.Statement.{statement}
 use Rattle.plans.proofs.shift_down.Tie as tie
 
-sub-if1 : tie.Need-sub-if1
-sub-if1 c = search needs
-
-sub-if1-2 : tie.Need-sub-if1-2
-sub-if1-2 c = search needs
-
-rem-if1 : tie.Need-rem-if1
-rem-if1 c = search needs
-
 returns : tie.Need-returns
 returns c = down-none (c .before .args .x) (c .before .args .k) (c .before .pre .1) (omega arith) (c .if1 .taken)
-
-rem-result : tie.Need-rem-result
-rem-result c = search needs
 
 returns-2 : tie.Need-returns-2
 returns-2 c = down-some (c .before .args .x) (c .before .args .k) (c .before .pre .1) (omega arith) (c .if1 .left)
 
 pub shift-down-spec : {M : Type 1} → statement M
-shift-down-spec = tie.close (tie.spec sub-if1 sub-if1-2 rem-if1 returns rem-result returns-2)
+shift-down-spec =
+    tie.close
+    (tie.spec (λ c. search needs) (λ c. search needs) (λ c. search needs) returns (λ c. search needs)
+    returns-2)

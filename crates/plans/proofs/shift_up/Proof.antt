@@ -6,9 +6,6 @@ use Rattle.plans.proofs.Times.{up-none, up-some}
 use Rattle.plans.proofs.shift_up.Statement.{statement}
 use Rattle.plans.proofs.shift_up.Tie as tie
 
-rem-r : tie.Need-rem-r
-rem-r c = search needs
-
 returns : tie.Need-returns
 returns c = up-none (c .before .args .x) (c .before .args .k) (c .if1 .taken)
 
@@ -19,4 +16,4 @@ returns-2 : tie.Need-returns-2
 returns-2 c = up-some (c .before .args .x) (c .before .args .k) (c .if1 .left)
 
 pub shift-up-spec : {M : Type 1} → statement M
-shift-up-spec = tie.close (tie.spec rem-r returns sub-result returns-2)
+shift-up-spec = tie.close (tie.spec (λ c. search needs) returns sub-result returns-2)

@@ -14,56 +14,68 @@ use Rattle.plans.proofs.Spans.{start-seven, end-seven, total-from-0, to
 use Rattle.plans.proofs.span_days_plan.Statement.{statement}
 use Rattle.plans.proofs.span_days_plan.Tie as tie
 
-first : (c : tie.After-first-second) → toZ w64 (ofZ w64 (c .first-second .result)) ≡ firstSecond (start (c .before .before .args .a))
-first c = toZ-ofZ {w = w64} {z = c .first-second .result} (search needs) ∙ (c .first-second .ensures ∙ ap firstSecond (c .before .start .ensures))
+first : (c : tie.After-first-second) → toZ w64 (ofZ w64 (c .first-second .result))
+    ≡ firstSecond (start (c .before .before .args .a))
+first c = toZ-ofZ {w = w64} {z = c .first-second .result} (search needs)
+    ∙ (c .first-second .ensures ∙ ap firstSecond (c .before .start .ensures))
 
-between : (c : tie.After-days-in2) → toZ w64 (ofZ w64 (c .before .before .days-in .result)) -ℤ toZ w64 (ofZ w64 (c .days-in2 .result)) ≡ daysIn (end (c .before .before .before .before .before .before .args .a)) -ℤ daysIn (start (c .before .before .before .before .before .before .args .a))
+between : (c : tie.After-days-in2) → toZ w64 (ofZ w64 (c .before .before .days-in .result)) -ℤ toZ w64
+    (ofZ w64 (c .days-in2 .result)) ≡ daysIn (end (c .before .before .before .before .before .before .args .a)) -ℤ daysIn
+    (start (c .before .before .before .before .before .before .args .a))
 between c =
     let d = c .before .before in
-    let e = toZ-ofZ {w = w64} {z = d .days-in .result} (search needs) ∙ (d .days-in .ensures ∙ ap daysIn (d .before .end .ensures)) in
-    let s = toZ-ofZ {w = w64} {z = c .days-in2 .result} (search needs) ∙ (c .days-in2 .ensures ∙ ap daysIn (c .before .start2 .ensures)) in
+    let e = toZ-ofZ {w = w64} {z = d .days-in .result} (search needs)
+    ∙ (d .days-in .ensures ∙ ap daysIn (d .before .end .ensures)) in
+    let s = toZ-ofZ {w = w64} {z = c .days-in2 .result} (search needs)
+    ∙ (c .days-in2 .ensures ∙ ap daysIn (c .before .start2 .ensures)) in
     rw (e, s)
 
-counted : (c : tie.After-count) → c .count .result ≡ up (daysIn (end (c .before .before .before .before .before .before .before .args .a)) -ℤ daysIn (start (c .before .before .before .before .before .before .before .args .a)))
+counted : (c : tie.After-count) →
+    c .count .result ≡ up (daysIn (end (c .before .before .before .before .before .before .before .args .a)) -ℤ daysIn
+    (start (c .before .before .before .before .before .before .before .args .a)))
 counted c =
     let x = c .before .before .before .before .before .before .before in
     c .count .ensures ∙ rw (between (c .before), toZ-ofZ (total-range (x .args .a) (x .pre) .1))
 
-start-requires : tie.Need-start-requires
-start-requires c κs = search needs
-
 first-second-requires : tie.Need-first-second-requires
-first-second-requires c κs = let x = c .before in rw (c .start .ensures) (start-seven (x .args .a) (x .pre .real) (x .pre .duration))
-
-end-requires : tie.Need-end-requires
-end-requires c κs = search needs
+first-second-requires c κs = let x = c .before in
+    rw (c .start .ensures) (start-seven (x .args .a) (x .pre .real) (x .pre .duration))
 
 days-in-requires : tie.Need-days-in-requires
-days-in-requires c κs = let x = c .before .before .before in rw (c .end .ensures) (end-seven (x .args .a) (x .pre .real) (x .pre .duration))
-
-start-requires-2 : tie.Need-start-requires-2
-start-requires-2 c κs = search needs
+days-in-requires c κs = let x = c .before .before .before in
+    rw (c .end .ensures) (end-seven (x .args .a) (x .pre .real) (x .pre .duration))
 
 days-in-requires-2 : tie.Need-days-in-requires-2
-days-in-requires-2 c κs = let x = c .before .before .before .before .before in rw (c .start2 .ensures) (start-seven (x .args .a) (x .pre .real) (x .pre .duration))
+days-in-requires-2 c κs = let x = c .before .before .before .before .before in
+    rw (c .start2 .ensures) (start-seven (x .args .a) (x .pre .real) (x .pre .duration))
 
 sub-d : tie.Need-sub-d
 sub-d c = let x = c .before .before .before .before .before .before in rw (between c) (total-range (x .args .a) (x .pre) .1)
 
 count-requires : tie.Need-count-requires
-count-requires c κs = let x = c .before .before .before .before .before .before in rw (between c, toZ-ofZ (total-range (x .args .a) (x .pre) .1)) (total-from-0 (x .args .a) (x .pre))
-
-first-fit-requires : tie.Need-first-fit-requires
-first-fit-requires c κs = search needs
+count-requires c κs = let x = c .before .before .before .before .before .before in
+    rw (between c, toZ-ofZ (total-range (x .args .a) (x .pre) .1)) (total-from-0 (x .args .a) (x .pre))
 
 mul-step : tie.Need-mul-step
-mul-step c = omega (arith, c .first-fit .ensures, fit-most (c .before .count .result) (c .before .before .before .before .before .before .before .before .args .n))
+mul-step c = omega (
+  arith,
+  c .first-fit .ensures,
+  fit-most (c .before .count .result)
+      (c .before .before .before .before .before .before .before .before .args .n),
+)
 
 seconds-left-requires : tie.Need-seconds-left-requires
-seconds-left-requires c κs = let x = c .before .before .before .before .before .before .before .before in (x .pre, first (c .before .before .before .before .before .before))
+seconds-left-requires c κs = let x = c .before .before .before .before .before .before .before .before in
+    (x .pre, first (c .before .before .before .before .before .before))
 
 even-plan-requires : tie.Need-even-plan-requires
-even-plan-requires c κs = omega (arith, c .before .first-fit .ensures, fit-above (c .before .before .count .result) (c .before .before .before .before .before .before .before .before .before .args .n))
+even-plan-requires c κs =
+    omega (
+      arith,
+      c .before .first-fit .ensures,
+      fit-above (c .before .before .count .result)
+          (c .before .before .before .before .before .before .before .before .before .args .n),
+    )
 
 returns : tie.Need-returns
 unfolding spanDaysPlan
@@ -78,17 +90,6 @@ returns c =
 pub span-days-plan-spec : {M : Type 1} → statement M
 span-days-plan-spec =
     tie.close
-    (tie.spec
-    start-requires
-    first-second-requires
-    end-requires
-    days-in-requires
-    start-requires-2
-    days-in-requires-2
-    sub-d
-    count-requires
-    first-fit-requires
-    mul-step
-    seconds-left-requires
-    even-plan-requires
-    returns)
+    (tie.spec (λ c κs. search needs) first-second-requires (λ c κs. search needs) days-in-requires
+    (λ c κs. search needs) days-in-requires-2 sub-d count-requires (λ c κs. search needs) mul-step
+    seconds-left-requires even-plan-requires returns)

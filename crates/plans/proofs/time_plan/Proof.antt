@@ -25,8 +25,10 @@ tail-fits c = search needs
 span-fits : (c : tie.After-span) → SFits w64 (c .span .result .value)
 span-fits c = search needs
 
-value : (c : tie.After-span) → fitsI64 (spanOf (c .before .args .a)) ≡ true → toZ w64 (ofZ w64 (c .span .result .value)) ≡ spanOf (c .before .args .a)
-value c e = toZ-ofZ (span-fits c) ∙ (ap (λ (x : Nanoseconds). x .value) (c .span .ensures) ∙ value-is (spanOf (c .before .args .a)) e)
+value : (c : tie.After-span) → fitsI64 (spanOf (c .before .args .a)) ≡ true → toZ w64 (ofZ w64 (c .span .result .value))
+    ≡ spanOf (c .before .args .a)
+value c e = toZ-ofZ (span-fits c) ∙ (ap (λ (x : Nanoseconds). x .value) (c .span .ensures)
+    ∙ value-is (spanOf (c .before .args .a)) e)
 
 tail : (c : tie.After-count) → c .count .result ≡ up (c .before .before .before .args .a .«start_tail»)
 tail c = c .count .ensures ∙ ap up (toZ-ofZ (tail-fits (c .before .before .before)))
@@ -34,40 +36,36 @@ tail c = c .count .ensures ∙ ap up (toZ-ofZ (tail-fits (c .before .before .bef
 counted : (c : tie.After-count2) → c .count2 .result ≡ up (spanOf (c .before .before .before .before .before .before .args .a))
 counted c = let s = c .before .before .before .before .before in c .count2 .ensures ∙ ap up (value s (s .before .pre .fits))
 
-span-requires : tie.Need-span-requires
-span-requires c κs = search needs
-
 count-requires : tie.Need-count-requires
-count-requires c κs = let x = c .before .before in rw (toZ-ofZ (tail-fits x)) (is-ge (x .args .a .«start_tail») (pos 0) (omega (arith, tail-range (x .args .a) (x .pre .real) .0)))
-
-shift-requires : tie.Need-shift-requires
-shift-requires c κs = search needs
+count-requires c κs = let x = c .before .before in
+    rw (toZ-ofZ (tail-fits x)) (is-ge (x .args .a .«start_tail») (pos 0)
+    (omega (arith, tail-range (x .args .a) (x .pre .real) .0)))
 
 add-f : tie.Need-add-f
 add-f c =
     let x = c .before .before .before .before in
-    omega (arith, tail (c .before), tail-range (x .args .a) (x .pre .real), c .shift .ensures, shift-small (x .args .a) (x .args .k) (x .pre .above), x .pre .small)
+    omega (
+      arith,
+      tail (c .before),
+      tail-range (x .args .a) (x .pre .real),
+      c .shift .ensures,
+      shift-small (x .args .a)
+          (x .args .k) (x .pre .above),
+      x .pre .small,
+    )
 
 count-requires-2 : tie.Need-count-requires-2
 count-requires-2 c κs =
     let s = c .before .before .before .before in
     let x = s .before in
-    rw (value s (x .pre .fits)) (is-ge (spanOf (x .args .a)) (pos 0) (omega (arith, span-from-0 (x .args .a) (x .pre .real) (x .pre .order))))
+    rw (value s (x .pre .fits))
+    (is-ge (spanOf (x .args .a)) (pos 0) (omega (arith, span-from-0 (x .args .a) (x .pre .real) (x .pre .order))))
 
 add-e : tie.Need-add-e
 add-e c =
     let n = c .before .before .before in
     let x = n .before .before .before in
     omega (arith, tail n, tail-range (x .args .a) (x .pre .real), counted c, fits-range (spanOf (x .args .a)) (x .pre .fits))
-
-start-requires : tie.Need-start-requires
-start-requires c κs = search needs
-
-per-head-requires : tie.Need-per-head-requires
-per-head-requires c κs = search needs
-
-even-plan-requires : tie.Need-even-plan-requires
-even-plan-requires c κs = search needs
 
 returns : tie.Need-returns
 unfolding timePlan
@@ -83,14 +81,5 @@ returns c =
 pub time-plan-spec : {M : Type 1} → statement M
 time-plan-spec =
     tie.close
-    (tie.spec
-    span-requires
-    count-requires
-    shift-requires
-    add-f
-    count-requires-2
-    add-e
-    start-requires
-    per-head-requires
-    even-plan-requires
-    returns)
+    (tie.spec (λ c κs. search needs) count-requires (λ c κs. search needs) add-f count-requires-2 add-e
+    (λ c κs. search needs) (λ c κs. search needs) (λ c κs. search needs) returns)

@@ -17,7 +17,8 @@ head-fits : (c : tie.Start) → SFits w64 (c .args .a .«end_head»)
 head-fits c = search needs
 
 count-requires : tie.Need-count-requires
-count-requires c κs = let x = c .before in let v = end-value (x .args .a) (x .pre) in rw (toZ-ofZ (head-fits x)) (is-ge (x .args .a .«end_head») (pos 0) (omega arith))
+count-requires c κs = let x = c .before in let v = end-value (x .args .a) (x .pre) in
+    rw (toZ-ofZ (head-fits x)) (is-ge (x .args .a .«end_head») (pos 0) (omega arith))
 
 returns : tie.Need-returns
 unfolding toDay

@@ -19,22 +19,16 @@ unfolding toMonth
 last c = c .month-of .ensures ∙ ap monthOf (c .before .to-day .ensures)
 
 months : (c : tie.After-less) → c .less .result < 119988
-months c = let x = c .before .before .before .before .before in omega (arith, c .less .ensures, last (c .before), last-most (x .args .a) (x .pre))
-
-from-day-requires : tie.Need-from-day-requires
-from-day-requires c κs = search needs
+months c = let x = c .before .before .before .before .before in
+    omega (arith, c .less .ensures, last (c .before), last-most (x .args .a) (x .pre))
 
 whole-month-requires : tie.Need-whole-month-requires
-whole-month-requires c κs = let r = from-range (c .before .args .a) (c .before .pre) in rw (c .from-day .ensures) (r .0, omega arith)
-
-to-day-requires : tie.Need-to-day-requires
-to-day-requires c κs = search needs
+whole-month-requires c κs = let r = from-range (c .before .args .a) (c .before .pre) in
+    rw (c .from-day .ensures) (r .0, omega arith)
 
 month-of-requires : tie.Need-month-of-requires
-month-of-requires c κs = let x = c .before .before .before in let r = to-range (x .args .a) (x .pre) in rw (c .to-day .ensures) (r .0, omega arith)
-
-less-requires : tie.Need-less-requires
-less-requires c κs = search needs
+month-of-requires c κs = let x = c .before .before .before in let r = to-range (x .args .a) (x .pre) in
+    rw (c .to-day .ensures) (r .0, omega arith)
 
 year-step-requires : tie.Need-year-step-requires
 year-step-requires c κs = omega (arith, months c)
@@ -42,8 +36,10 @@ year-step-requires c κs = omega (arith, months c)
 months-by-requires : tie.Need-months-by-requires
 months-by-requires c κs =
     let l = c .before in
-    let x = l .before .before .before .before .before in
-    (rw (c .year-step .ensures) (year-wide (l .less .result) (x .args .n) (omega (arith, months l)) .0), omega (arith, last (l .before), last-most (x .args .a) (x .pre)))
+    let x = l .before .before .before .before .before in (
+      rw (c .year-step .ensures) (year-wide (l .less .result) (x .args .n) (omega (arith, months l)) .0),
+      omega (arith, last (l .before), last-most (x .args .a) (x .pre)),
+    )
 
 returns : tie.Need-returns
 unfolding yearPlan
@@ -52,18 +48,12 @@ returns c =
     let l = s .before in
     let e = l .before in
     let x = e .before .before .before .before in
-    let t : l .less .result ≡ toMonth (x .args .a) - fromMonth (x .args .a) = l .less .ensures ∙ rw (first (e .before .before), last e) in
+    let t : l .less .result ≡ toMonth (x .args .a) - fromMonth (x .args .a) =
+    l .less .ensures ∙ rw (first (e .before .before), last e) in
     c .months-by .ensures ∙ rw (first (e .before .before), last e, s .year-step .ensures, t)
 
 pub year-plan-spec : {M : Type 1} → statement M
 year-plan-spec =
     tie.close
-    (tie.spec
-    from-day-requires
-    whole-month-requires
-    to-day-requires
-    month-of-requires
-    less-requires
-    year-step-requires
-    months-by-requires
-    returns)
+    (tie.spec (λ c κs. search needs) whole-month-requires (λ c κs. search needs) month-of-requires
+    (λ c κs. search needs) year-step-requires months-by-requires returns)

@@ -8,12 +8,6 @@ use Rattle.plans.specs.Months.{yearStep}
 use Rattle.plans.proofs.year_step.Statement.{statement}
 use Rattle.plans.proofs.year_step.Tie as tie
 
-add-first-fit : tie.Need-add-first-fit
-add-first-fit c = search needs
-
-first-fit-requires : tie.Need-first-fit-requires
-first-fit-requires c κs = search needs
-
 mul-result : tie.Need-mul-result
 mul-result c = omega (arith, c .first-fit .ensures, fit-most (c .before .args .t / 12 + 1) (c .before .args .n))
 
@@ -22,4 +16,4 @@ unfolding yearStep
 returns c = ap (λ (f : ℕ). 12 * f) (c .first-fit .ensures)
 
 pub year-step-spec : {M : Type 1} → statement M
-year-step-spec = tie.close (tie.spec add-first-fit first-fit-requires mul-result returns)
+year-step-spec = tie.close (tie.spec (λ c. search needs) (λ c κs. search needs) mul-result returns)

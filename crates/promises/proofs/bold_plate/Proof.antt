@@ -18,24 +18,6 @@ use Rattle.promises.proofs.Demand.{demand-3}
 use Rattle.promises.proofs.bold_plate.Statement.{statement}
 use Rattle.promises.proofs.bold_plate.Tie as tie
 
-list-bold-requires : tie.Need-list-bold-requires
-list-bold-requires c κs = search needs
-
-day-value-requires : tie.Need-day-value-requires
-day-value-requires c κs = search needs
-
-map-requires : tie.Need-map-requires
-map-requires c κs = search needs
-
-day-value-requires-2 : tie.Need-day-value-requires-2
-day-value-requires-2 c κs = search needs
-
-map-requires-2 : tie.Need-map-requires-2
-map-requires-2 c κs = search needs
-
-same-length : tie.Need-same-length
-same-length c = search needs
-
 first-fits : (c : tie.Start) → SFits w64 (c .args .d .first)
 first-fits c = search needs
 
@@ -53,18 +35,13 @@ returns c =
     let (fine, apart) = demand-3 (x .a) (bold (x .h)) (x .lent .now) (x .l) (x .d .first) (x .d .second) in
     let first = m .map .ensures ∙ ap (mapped (x .a) (x .l)) (f .day-value .ensures ∙ ap day (toZ-ofZ (first-fits s))) in
     let second = c .map2 .ensures ∙ ap (mapped (x .a) (x .l)) (e .day-value2 .ensures ∙ ap day (toZ-ofZ (second-fits s))) in (
-      λ k z. subst (λ (l : List ℤ). Fine (limit (bold (x .h))) (tick (start (x .a))) (tick (end (x .a))) (take (2 * k) l)) (sym (t .list-bold .ensures .1)) (fine k (sym (t .list-bold .ensures .0) ∙ z)),
+      λ k z. subst (λ (l : List ℤ). Fine (limit (bold (x .h))) (tick (start (x .a))) (tick (end (x .a))) (take (2 * k) l))
+          (sym (t .list-bold .ensures .1)) (fine k (sym (t .list-bold .ensures .0) ∙ z)),
       λ p q w I J n u v z. apart p q w I J n (sym first ∙ u) (sym second ∙ v) z,
     )
 
 pub bold-plate-spec : {M : Type 1} → statement M
 bold-plate-spec =
     tie.close
-    (tie.spec
-    list-bold-requires
-    day-value-requires
-    map-requires
-    day-value-requires-2
-    map-requires-2
-    same-length
-    returns)
+    (tie.spec (λ c κs. search needs) (λ c κs. search needs) (λ c κs. search needs) (λ c κs. search needs)
+    (λ c κs. search needs) (λ c. search needs) returns)

@@ -13,20 +13,15 @@ use Rattle.segmented.proofs.Pixels.{half-sum-fits, beside-left, beside-
 use Rattle.segmented.proofs.beside.Statement.{statement}
 use Rattle.segmented.proofs.beside.Tie as tie
 
-fits-i32-requires : tie.Need-fits-i32-requires
-fits-i32-requires c κs = search needs
-
 left-fits : (c : tie.After-fits-i32) → c .fits-i32 .result ≡ fitsI32 (c .before .args .left)
 left-fits c = rw (toZ-ofZ (c .before .fits .left)) at (c .fits-i32 .ensures)
 
 returns : tie.Need-returns
-returns c = let x = c .before .before .args in beside-left (x .left) (x .margin) (sym (left-fits (c .before)) ∙ not-true _ (c .if1 .taken))
+returns c = let x = c .before .before .args in
+    beside-left (x .left) (x .margin) (sym (left-fits (c .before)) ∙ not-true _ (c .if1 .taken))
 
 left-true : (c : tie.Else1) → fitsI32 (c .before .before .args .left) ≡ true
 left-true c = sym (left-fits (c .before)) ∙ not-false _ (c .if1 .left)
-
-half-requires : tie.Need-half-requires
-half-requires c κs = search needs
 
 abbrev start : tie.After-half → tie.Start
 start c = c .before .before .before
@@ -34,7 +29,8 @@ start c = c .before .before .before
 half-is : (c : tie.After-half) → toZ w64 (ofZ w64 (c .half .result)) ≡ half (start c .args .margin)
 half-is c = toZ-ofZ {w = w64} {z = c .half .result} (search needs) ∙ c .half .ensures ∙ ap half (toZ-ofZ (start c .fits .margin))
 
-sum-is : (c : tie.After-half) → toZ w64 (ofZ w64 (start c .args .left)) +ℤ toZ w64 (ofZ w64 (c .half .result)) ≡ start c .args .left +ℤ half (start c .args .margin)
+sum-is : (c : tie.After-half) → toZ w64 (ofZ w64 (start c .args .left)) +ℤ toZ w64 (ofZ w64 (c .half .result))
+    ≡ start c .args .left +ℤ half (start c .args .margin)
 sum-is c = λ i. toZ-ofZ (start c .fits .left) i +ℤ half-is c i
 
 sum-fits : (c : tie.After-half) → SFits w64 (start c .args .left +ℤ half (start c .args .margin))
@@ -42,9 +38,6 @@ sum-fits c = let s = start c in half-sum-fits (s .args .left) (s .args .margin) 
 
 add-fitting : tie.Need-add-fitting
 add-fitting c = subst (SFits w64) (sym (sum-is c)) (sum-fits c)
-
-fitting-requires : tie.Need-fitting-requires
-fitting-requires c κs = search needs
 
 returns-2 : tie.Need-returns-2
 returns-2 c =
@@ -57,4 +50,5 @@ returns-2 c =
 pub beside-spec : {M : Type 1} → statement M
 beside-spec =
     tie.close
-    (tie.spec fits-i32-requires returns half-requires add-fitting fitting-requires returns-2)
+    (tie.spec (λ c κs. search needs) returns (λ c κs. search needs) add-fitting (λ c κs. search needs)
+    returns-2)

@@ -19,17 +19,17 @@ use Rattle.segmented.proofs.Margins.{inner-pixels}
 use Rattle.segmented.proofs.centre.Statement.{statement}
 use Rattle.segmented.proofs.centre.Tie as tie
 
-inner-requires : tie.Need-inner-requires
-inner-requires c κs = search needs
-
 within : (c : tie.After-inner) → pixels (c .inner .result) ≡ true
-within c = let s = c .before in subst (λ (l : Limits). pixels l ≡ true) (sym (c .inner .ensures)) (inner-pixels (s .args .size) (s .args .l) (s .pre .2) (s .pre .1))
+within c = let s = c .before in
+    subst (λ (l : Limits). pixels l ≡ true) (sym (c .inner .ensures)) (inner-pixels (s .args .size) (s .args .l) (s .pre .2)
+    (s .pre .1))
 
 pixel-of-requires : tie.Need-pixel-of-requires
 pixel-of-requires c κs = let s = c .before in (s .pre .0 .real, within c, s .pre .3)
 
 -- the pixel of v
-left-is : (c : tie.After-pixel-of) → let s = c .before .before in toZ w64 (ofZ w64 (c .pixel-of .result)) ≡ placed (s .args .a) (inner (sizeOf (s .args .a)) (s .args .l)) (s .args .v)
+left-is : (c : tie.After-pixel-of) → let s = c .before .before in
+    toZ w64 (ofZ w64 (c .pixel-of .result)) ≡ placed (s .args .a) (inner (sizeOf (s .args .a)) (s .args .l)) (s .args .v)
 left-is c =
     let s = c .before .before in
     let x = s .args in
@@ -37,34 +37,17 @@ left-is c =
     ∙ c .pixel-of .ensures
     ∙ ap (λ (l : Limits). placed (x .a) l (x .v)) (c .before .inner .ensures ∙ ap (λ (n : ℕ). inner n (x .l)) (s .pre .4))
 
-next-in-requires : tie.Need-next-in-requires
-next-in-requires c κs = search needs
-
-enum-known-q : tie.Need-enum-known-q
-enum-known-q c = search needs
-
-enum-told : tie.Need-enum-told
-enum-told c = search needs
-
-margin-of-requires : tie.Need-margin-of-requires
-margin-of-requires c κs = search needs
-
-beside-requires : tie.Need-beside-requires
-beside-requires c κs = search needs
-
-enum-known-w : tie.Need-enum-known-w
-enum-known-w c = search needs
-
 pixel-of-requires-2 : tie.Need-pixel-of-requires-2
 pixel-of-requires-2 c κs =
     let k = c .before in
     let n = k .before .before in
     let i = n .before .before in
-    let s = i .before in
-    (s .pre .0 .real, within i, next-on (s .args .a) (s .args .v) (k .w .given .0 .0) (s .pre .0) (sym (n .next-in .ensures) ∙ k .w .given .1))
-
-between-requires : tie.Need-between-requires
-between-requires c κs = search needs
+    let s = i .before in (
+      s .pre .0 .real,
+      within i,
+      next-on (s .args .a) (s .args .v) (k .w .given .0 .0) (s .pre .0) (sym (n .next-in .ensures)
+          ∙ k .w .given .1),
+    )
 
 returns : tie.Need-returns
 unfolding centreOf
@@ -72,7 +55,8 @@ returns c =
     let k = c .before in
     let n = k .before .before in
     let x = n .before .before .before .args in
-    sym (ap (centred (x .a) (x .l) (placed (x .a) (inner (sizeOf (x .a)) (x .l)) (x .v))) (sym (n .next-in .ensures) ∙ k .q .given .1))
+    sym (ap (centred (x .a) (x .l) (placed (x .a) (inner (sizeOf (x .a)) (x .l)) (x .v))) (sym (n .next-in .ensures)
+    ∙ k .q .given .1))
 
 returns-2 : tie.Need-returns-2
 unfolding centreOf
@@ -83,7 +67,9 @@ returns-2 c =
     let x = n .before .before .before .args in
     let left = placed (x .a) (inner (sizeOf (x .a)) (x .l)) (x .v) in
     c .beside .ensures
-    ∙ (λ i. beside (left-is (n .before) i) ((toZ-ofZ {w = w64} {z = m .margin-of .result} (search needs) ∙ m .margin-of .ensures ∙ ap (λ (n : ℕ). marginOf n (x .l)) (n .before .before .before .pre .4)) i))
+    ∙ (λ i. beside (left-is (n .before) i)
+    ((toZ-ofZ {w = w64} {z = m .margin-of .result} (search needs) ∙ m .margin-of .ensures
+    ∙ ap (λ (n : ℕ). marginOf n (x .l)) (n .before .before .before .pre .4)) i))
     ∙ sym (ap (centred (x .a) (x .l) left) (sym (n .next-in .ensures) ∙ k .enum-told .given .1))
 
 returns-3 : tie.Need-returns-3
@@ -98,7 +84,8 @@ returns-3 c =
     let right : toZ w64 (ofZ w64 (m .pixel-of2 .result)) ≡ placed (x .a) (inner (sizeOf (x .a)) (x .l)) (k .w .given .0 .0) =
     toZ-ofZ {w = w64} {z = m .pixel-of2 .result} (search needs)
     ∙ m .pixel-of2 .ensures
-    ∙ ap (λ (l : Limits). placed (x .a) l (k .w .given .0 .0)) (i .inner .ensures ∙ ap (λ (n : ℕ). inner n (x .l)) (i .before .pre .4)) in
+    ∙ ap (λ (l : Limits). placed (x .a) l (k .w .given .0 .0)) (i .inner .ensures ∙ ap (λ (n : ℕ). inner n (x .l))
+    (i .before .pre .4)) in
     c .between .ensures
     ∙ (λ j. between (left-is (n .before) j) (right j))
     ∙ sym (ap (centred (x .a) (x .l) left) (sym (n .next-in .ensures) ∙ k .w .given .1))
@@ -106,17 +93,6 @@ returns-3 c =
 pub centre-spec : {M : Type 1} → statement M
 centre-spec =
     tie.close
-    (tie.spec
-    inner-requires
-    pixel-of-requires
-    next-in-requires
-    enum-known-q
-    enum-told
-    margin-of-requires
-    beside-requires
-    enum-known-w
-    pixel-of-requires-2
-    between-requires
-    returns
-    returns-2
-    returns-3)
+    (tie.spec (λ c κs. search needs) pixel-of-requires (λ c κs. search needs) (λ c. search needs)
+    (λ c. search needs) (λ c κs. search needs) (λ c κs. search needs) (λ c. search needs) pixel-of-requires-2
+    (λ c κs. search needs) returns returns-2 returns-3)

@@ -10,19 +10,18 @@ use Rattle.segmented.specs.Segments.{fitting}
 use Rattle.segmented.proofs.fitting.Statement.{statement}
 use Rattle.segmented.proofs.fitting.Tie as tie
 
-fits-i32-requires : tie.Need-fits-i32-requires
-fits-i32-requires c κs = search needs
-
 fits : (c : tie.After-fits-i32) → c .fits-i32 .result ≡ fitsI32 (c .before .args .p)
 fits c = rw (toZ-ofZ (c .before .fits .p)) at (c .fits-i32 .ensures)
 
 returns : tie.Need-returns
-returns c = let x = c .before .before .args in ap (λ (b : Bool). fitting b (x .p)) (sym (sym (fits (c .before)) ∙ not-true _ (c .if1 .taken)))
+returns c = let x = c .before .before .args in
+    ap (λ (b : Bool). fitting b (x .p)) (sym (sym (fits (c .before)) ∙ not-true _ (c .if1 .taken)))
 
 returns-2 : tie.Need-returns-2
 returns-2 c =
     let s = c .before .before in
-    ap pixel.At (toZ-ofZ (s .fits .p)) ∙ ap (λ (b : Bool). fitting b (s .args .p)) (sym (sym (fits (c .before)) ∙ not-false _ (c .if1 .left)))
+    ap pixel.At (toZ-ofZ (s .fits .p)) ∙ ap (λ (b : Bool). fitting b (s .args .p))
+    (sym (sym (fits (c .before)) ∙ not-false _ (c .if1 .left)))
 
 pub fitting-spec : {M : Type 1} → statement M
-fitting-spec = tie.close (tie.spec fits-i32-requires returns returns-2)
+fitting-spec = tie.close (tie.spec (λ c κs. search needs) returns returns-2)

@@ -15,10 +15,8 @@ use Rattle.segmented.proofs.Answers.{segment-refused}
 use Rattle.segmented.proofs.from_index.Statement.{statement}
 use Rattle.segmented.proofs.from_index.Tie as tie
 
-place-refusal-requires : tie.Need-place-refusal-requires
-place-refusal-requires c κs = search needs
-
-asked-of : (c : tie.After-place-refusal) → c .place-refusal .result ≡ firstNo (placeQuestions (c .before .args .a) (c .before .args .i))
+asked-of : (c : tie.After-place-refusal) → c .place-refusal .result
+    ≡ firstNo (placeQuestions (c .before .args .a) (c .before .args .i))
 asked-of c = rw (toZ-ofZ (c .before .fits .i)) at (c .place-refusal .ensures)
 
 returns : tie.Need-returns
@@ -26,7 +24,8 @@ unfolding segmentFromAnswer
 returns c =
     let r = c .before in
     let x = r .before .args in
-    segment-refused (firstNo (placeQuestions (x .a) (x .i))) (r .place-refusal .result) (segmentAt (x .a) (up (x .i))) (asked-of r) (c .if1 .taken)
+    segment-refused (firstNo (placeQuestions (x .a) (x .i))) (r .place-refusal .result) (segmentAt (x .a) (up (x .i)))
+    (asked-of r) (c .if1 .taken)
 
 none : (c : tie.Else1) → firstNo (placeQuestions (c .before .before .args .a) (c .before .before .args .i)) ≡ 0
 none c = sym (asked-of (c .before)) ∙ c .if1 .left
@@ -44,8 +43,10 @@ segment-at-requires : tie.Need-segment-at-requires
 segment-at-requires c κs =
     let e = c .before in
     let x = e .before .before .args in
-    let row = placeQuestions (x .a) (x .i) in
-    (record { has = told 2 row tt (none e); real = told 3 row tt (none e) }, omega (arith, counted c, index-range (x .i) (told 8 row tt (none e)) .1))
+    let row = placeQuestions (x .a) (x .i) in (
+      record { has = told 2 row tt (none e); real = told 3 row tt (none e) },
+      omega (arith, counted c, index-range (x .i) (told 8 row tt (none e)) .1),
+    )
 
 returns-2 : tie.Need-returns-2
 unfolding segmentFromAnswer
@@ -58,4 +59,5 @@ returns-2 c =
 
 pub from-index-spec : {M : Type 1} → statement M
 from-index-spec =
-    tie.close (tie.spec place-refusal-requires returns count-requires segment-at-requires returns-2)
+    tie.close
+    (tie.spec (λ c κs. search needs) returns count-requires segment-at-requires returns-2)

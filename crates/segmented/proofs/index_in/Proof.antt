@@ -8,29 +8,17 @@ use Rattle.segmented.specs.Answers.{segmentIndexIn}
 use Rattle.segmented.proofs.index_in.Statement.{statement}
 use Rattle.segmented.proofs.index_in.Tie as tie
 
-enum-known-v : tie.Need-enum-known-v
-enum-known-v c = search needs
-
 index-in-requires : tie.Need-index-in-requires
 index-in-requires c κs =
     let g = c .before .v .given in
     let s = c .before .before .before in
     (s .pre .0, subst (λ (y : SegmentValue). SegmentOn (s .args .a) y) (g .1) (s .pre .1))
 
-enum-known-v-2 : tie.Need-enum-known-v-2
-enum-known-v-2 c = search needs
-
 index-in-requires-2 : tie.Need-index-in-requires-2
 index-in-requires-2 c κs =
     let g = c .before .v2 .given in
     let s = c .before .before .before in
     (s .pre .0, subst (λ (y : SegmentValue). SegmentOn (s .args .a) y) (g .1) (s .pre .1))
-
-enum-told : tie.Need-enum-told
-enum-told c = search needs
-
-size-of-requires : tie.Need-size-of-requires
-size-of-requires c κs = search needs
 
 returns : tie.Need-returns
 unfolding segmentIndexIn
@@ -53,13 +41,5 @@ returns-3 c =
 pub index-in-spec : {M : Type 1} → statement M
 index-in-spec =
     tie.close
-    (tie.spec
-    enum-known-v
-    index-in-requires
-    enum-known-v-2
-    index-in-requires-2
-    enum-told
-    size-of-requires
-    returns
-    returns-2
-    returns-3)
+    (tie.spec (λ c. search needs) index-in-requires (λ c. search needs) index-in-requires-2
+    (λ c. search needs) (λ c κs. search needs) returns returns-2 returns-3)

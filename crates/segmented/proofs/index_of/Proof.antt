@@ -13,28 +13,26 @@ use Rattle.segmented.proofs.Answers.{on-kind}
 use Rattle.segmented.proofs.index_of.Statement.{statement}
 use Rattle.segmented.proofs.index_of.Tie as tie
 
-segment-refusal-requires : tie.Need-segment-refusal-requires
-segment-refusal-requires c κs = search needs
-
 returns : tie.Need-returns
 unfolding segmentIndexAnswer
 returns c =
     let r = c .before in
     let x = r .before .args in
-    number-refused (firstNo (segmentQuestions (x .a) (x .s))) (r .segment-refusal .result) (segmentIndexIn (x .a) (segmentOf (x .s))) (r .segment-refusal .ensures) (c .if1 .taken)
+    number-refused (firstNo (segmentQuestions (x .a) (x .s))) (r .segment-refusal .result)
+    (segmentIndexIn (x .a) (segmentOf (x .s))) (r .segment-refusal .ensures) (c .if1 .taken)
 
 none : (c : tie.Else1) → firstNo (segmentQuestions (c .before .before .args .a) (c .before .before .args .s)) ≡ 0
 none c = sym (c .before .segment-refusal .ensures) ∙ c .if1 .left
-
-segment-of-requires : tie.Need-segment-of-requires
-segment-of-requires c κs = search needs
 
 index-in-requires : tie.Need-index-in-requires
 index-in-requires c κs =
     let x = c .before .before .before .args in
     let row = segmentQuestions (x .a) (x .s) in
-    let e = none (c .before) in
-    (record { has = told 2 row tt e; real = told 3 row tt e }, subst (λ (y : SegmentValue). SegmentOn (x .a) y) (sym (c .segment-of .ensures)) (on-kind (x .a) (x .s) (told 8 row tt e)))
+    let e = none (c .before) in (
+      record { has = told 2 row tt e; real = told 3 row tt e },
+      subst (λ (y : SegmentValue). SegmentOn (x .a) y)
+          (sym (c .segment-of .ensures)) (on-kind (x .a) (x .s) (told 8 row tt e)),
+    )
 
 returns-2 : tie.Need-returns-2
 unfolding segmentIndexAnswer
@@ -48,4 +46,4 @@ returns-2 c =
 pub index-of-spec : {M : Type 1} → statement M
 index-of-spec =
     tie.close
-    (tie.spec segment-refusal-requires returns segment-of-requires index-in-requires returns-2)
+    (tie.spec (λ c κs. search needs) returns (λ c κs. search needs) index-in-requires returns-2)

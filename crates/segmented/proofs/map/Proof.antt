@@ -15,17 +15,13 @@ use Rattle.segmented.proofs.Answers.{on-kind, some-size, map-refused, m
 use Rattle.segmented.proofs.map.Statement.{statement}
 use Rattle.segmented.proofs.map.Tie as tie
 
-map-refusal-requires : tie.Need-map-refusal-requires
-map-refusal-requires c κs = search needs
-
 returns : tie.Need-returns
-returns c = let x = c .before .before .args in map-refused (x .a) (x .l) (x .s) (c .before .map-refusal .result) (c .before .map-refusal .ensures) (c .if1 .taken)
+returns c = let x = c .before .before .args in
+    map-refused (x .a) (x .l) (x .s) (c .before .map-refusal .result) (c .before .map-refusal .ensures) (c .if1 .taken)
 
-none : (c : tie.Else1) → firstNo (segmentValueQuestions (c .before .before .args .a) (c .before .before .args .l) (c .before .before .args .s)) ≡ 0
+none : (c : tie.Else1) → firstNo (segmentValueQuestions (c .before .before .args .a) (c .before .before .args .l)
+    (c .before .before .args .s)) ≡ 0
 none c = sym (c .before .map-refusal .ensures) ∙ c .if1 .left
-
-segment-of-requires : tie.Need-segment-of-requires
-segment-of-requires c κs = search needs
 
 real : (c : tie.Else1) → Counted (c .before .before .args .a)
 real c =
@@ -40,8 +36,10 @@ segment-mappable-requires : tie.Need-segment-mappable-requires
 segment-mappable-requires c κs = c .size-of .ensures
 
 -- question 9's test
-nine : (c : tie.After-segment-mappable) → let x = c .before .before .before .before .before .args in c .segment-mappable .result ≡ segmentMappable (x .a) (segmentOf (x .s))
-nine c = let x = c .before .before .before .before .before .args in c .segment-mappable .ensures ∙ ap (segmentMappable (x .a)) (c .before .before .segment-of .ensures)
+nine : (c : tie.After-segment-mappable) → let x = c .before .before .before .before .before .args in
+    c .segment-mappable .result ≡ segmentMappable (x .a) (segmentOf (x .s))
+nine c = let x = c .before .before .before .before .before .args in
+    c .segment-mappable .ensures ∙ ap (segmentMappable (x .a)) (c .before .before .segment-of .ensures)
 
 returns-2 : tie.Need-returns-2
 returns-2 c =
@@ -50,7 +48,8 @@ returns-2 c =
     let x = e .before .before .args in
     map-nine (x .a) (x .l) (x .s) (none e) (sym (nine t) ∙ not-true _ (c .if2 .taken))
 
-yes : (c : tie.Else2) → let x = c .before .before .before .before .before .before .args in segmentMappable (x .a) (segmentOf (x .s)) ≡ true
+yes : (c : tie.Else2) → let x = c .before .before .before .before .before .before .args in
+    segmentMappable (x .a) (segmentOf (x .s)) ≡ true
 yes c = sym (nine (c .before)) ∙ not-false _ (c .if2 .left)
 
 segment-pixel-requires : tie.Need-segment-pixel-requires
@@ -62,8 +61,13 @@ segment-pixel-requires c κs =
     let row = segmentValueQuestions (x .a) (x .l) (x .s) in (
       real e,
       told 7 row tt (none e),
-      record { least = rw (m .size-of .ensures) (some-size (x .a) (segmentOf (x .s)) (yes c)); most = rw (m .size-of .ensures) (size-most (x .a) (real e)) },
-      subst (λ (y : SegmentValue). SegmentOn (x .a) y) (sym (n .segment-of .ensures)) (on-kind (x .a) (x .s) (told 8 row tt (none e))),
+      record {
+        least = rw (m .size-of .ensures) (some-size (x .a) (segmentOf (x .s)) (yes c));
+        most =
+            rw (m .size-of .ensures) (size-most (x .a) (real e));
+      },
+      subst (λ (y : SegmentValue). SegmentOn (x .a) y) (sym (n .segment-of .ensures))
+          (on-kind (x .a) (x .s) (told 8 row tt (none e))),
       m .size-of .ensures,
     )
 
@@ -80,12 +84,5 @@ returns-3 c =
 pub map-spec : {M : Type 1} → statement M
 map-spec =
     tie.close
-    (tie.spec
-    map-refusal-requires
-    returns
-    segment-of-requires
-    size-of-requires
-    segment-mappable-requires
-    returns-2
-    segment-pixel-requires
-    returns-3)
+    (tie.spec (λ c κs. search needs) returns (λ c κs. search needs) size-of-requires segment-mappable-requires
+    returns-2 segment-pixel-requires returns-3)

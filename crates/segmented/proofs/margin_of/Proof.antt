@@ -30,7 +30,8 @@ width s = s .args .l .high -ℤ s .args .l .low
 width-fits : (s : tie.Start) → SFits w64 (width s)
 width-fits s = let (p, q) = limits-are (s .args .l) (s .pre .1) in between-fits (s .args .l .high) (s .args .l .low) q p
 
-width-is : (s : tie.Start) → toZ w64 (ofZ w64 (toZ w64 (ofZ w64 (s .args .l .high)) -ℤ toZ w64 (ofZ w64 (s .args .l .low)))) ≡ width s
+width-is : (s : tie.Start) → toZ w64 (ofZ w64 (toZ w64 (ofZ w64 (s .args .l .high)) -ℤ toZ w64 (ofZ w64 (s .args .l .low))))
+    ≡ width s
 width-is s = rw (toZ-ofZ (high-fits s), toZ-ofZ (low-fits s)) (toZ-ofZ (width-fits s))
 
 few : (s : tie.Start) → natAbs (width s) ≤ 65534
@@ -38,9 +39,6 @@ few s = width-few (s .args .size) (s .args .l) (s .pre .0) (s .pre .1)
 
 sub-width : tie.Need-sub-width
 sub-width c = let s = c .before .before in rw (toZ-ofZ (high-fits s), toZ-ofZ (low-fits s)) (width-fits s)
-
-size-of-requires : tie.Need-size-of-requires
-size-of-requires c κs = search needs
 
 abbrev from : tie.After-size-of → tie.Start
 from c = c .before .before .before
@@ -52,17 +50,21 @@ half-up-requires : tie.Need-half-up-requires
 half-up-requires c κs = let s = from c in (omega (arith, wide c, few s), s .pre .0 .least, omega (arith, s .pre .0 .most))
 
 -- the quotient in whole numbers
-whole-is : (c : tie.After-half-up) → c .half-up .result ≡ halfUp (natAbs (width (from (c .before)))) (from (c .before) .args .size)
+whole-is : (c : tie.After-half-up) → c .half-up .result ≡ halfUp (natAbs (width (from (c .before))))
+    (from (c .before) .args .size)
 whole-is c =
     let s = from (c .before) in
     c .half-up .ensures
-    ∙ ap (λ (n : ℕ). toUnsigned 64 (roundF binary32 (div binary32 (ofInt binary32 (pos n)) (ofInt binary32 (pos (s .args .size)))))) (wide (c .before))
-    ∙ ratio-half binary32 (natAbs (width s)) (s .args .size) (omega (arith, few s)) (s .pre .0 .least) (omega (arith, s .pre .0 .most)) (omega (arith, few s))
+    ∙ ap (λ (n : ℕ). toUnsigned 64
+    (roundF binary32 (div binary32 (ofInt binary32 (pos n)) (ofInt binary32 (pos (s .args .size)))))) (wide (c .before))
+    ∙ ratio-half binary32 (natAbs (width s)) (s .args .size) (omega (arith, few s)) (s .pre .0 .least)
+    (omega (arith, s .pre .0 .most)) (omega (arith, few s))
 
 signed-requires : tie.Need-signed-requires
 signed-requires c κs =
     let s = from (c .before) in
-    subst (λ (k : ℕ). k < 2 ^ 63) (sym (whole-is c)) (omega (arith, margin-few (s .args .size) (s .args .l) (s .pre .0) (s .pre .1)))
+    subst (λ (k : ℕ). k < 2 ^ 63) (sym (whole-is c))
+    (omega (arith, margin-few (s .args .size) (s .args .l) (s .pre .0) (s .pre .1)))
 
 returns : tie.Need-returns
 returns c =
@@ -78,4 +80,4 @@ returns c =
 pub margin-of-spec : {M : Type 1} → statement M
 margin-of-spec =
     tie.close
-    (tie.spec sub-width size-of-requires half-up-requires signed-requires returns)
+    (tie.spec sub-width (λ c κs. search needs) half-up-requires signed-requires returns)

@@ -7,21 +7,13 @@ use Rattle.segmented.proofs.Answers.{segment-value, segment-last, segme
 use Rattle.segmented.proofs.segment_at.Statement.{statement}
 use Rattle.segmented.proofs.segment_at.Tie as tie
 
-size-of-requires : tie.Need-size-of-requires
-size-of-requires c κs = search needs
-
-value-at-requires : tie.Need-value-at-requires
-value-at-requires c κs = search needs
-
-exactly-requires : tie.Need-exactly-requires
-exactly-requires c κs = search needs
-
 returns : tie.Need-returns
 returns c =
     let v = c .before in
     let n = v .before .before in
     let x = n .before .args in
-    c .exactly .ensures ∙ ap exactly (v .value-at .ensures) ∙ sym (segment-value (x .a) (x .i) (omega (arith, n .size-of .ensures)))
+    c .exactly .ensures ∙ ap exactly (v .value-at .ensures)
+    ∙ sym (segment-value (x .a) (x .i) (omega (arith, n .size-of .ensures)))
 
 returns-2 : tie.Need-returns-2
 returns-2 c =
@@ -38,4 +30,4 @@ returns-3 c =
 pub segment-at-spec : {M : Type 1} → statement M
 segment-at-spec =
     tie.close
-    (tie.spec size-of-requires value-at-requires exactly-requires returns returns-2 returns-3)
+    (tie.spec (λ c κs. search needs) (λ c κs. search needs) (λ c κs. search needs) returns returns-2 returns-3)

@@ -7,21 +7,6 @@ use Rattle.segmented.specs.Segments.{segmentMappable}
 use Rattle.segmented.proofs.segment_mappable.Statement.{statement}
 use Rattle.segmented.proofs.segment_mappable.Tie as tie
 
-enum-known-v : tie.Need-enum-known-v
-enum-known-v c = search needs
-
-mappable-requires : tie.Need-mappable-requires
-mappable-requires c κs = search needs
-
-enum-known-v-2 : tie.Need-enum-known-v-2
-enum-known-v-2 c = search needs
-
-mappable-requires-2 : tie.Need-mappable-requires-2
-mappable-requires-2 c κs = search needs
-
-enum-told : tie.Need-enum-told
-enum-told c = search needs
-
 returns : tie.Need-returns
 unfolding segmentMappable
 returns c =
@@ -45,12 +30,5 @@ returns-3 c =
 pub segment-mappable-spec : {M : Type 1} → statement M
 segment-mappable-spec =
     tie.close
-    (tie.spec
-    enum-known-v
-    mappable-requires
-    enum-known-v-2
-    mappable-requires-2
-    enum-told
-    returns
-    returns-2
-    returns-3)
+    (tie.spec (λ c. search needs) (λ c κs. search needs) (λ c. search needs) (λ c κs. search needs)
+    (λ c. search needs) returns returns-2 returns-3)

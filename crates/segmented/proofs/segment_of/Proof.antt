@@ -15,12 +15,6 @@ use Rattle.segmented.proofs.segment_of.Tie as tie
 case-fits : (c : tie.Start) → SFits w64 (c .args .s .case)
 case-fits c = search needs
 
-value-in-requires : tie.Need-value-in-requires
-value-in-requires c κs = search needs
-
-value-in-requires-2 : tie.Need-value-in-requires-2
-value-in-requires-2 c κs = search needs
-
 returns : tie.Need-returns
 unfolding segmentOf
 returns c =
@@ -29,7 +23,8 @@ returns c =
     let x = z .args .s in
     let one : within (pos 1) (x .case) (pos 1) ≡ true = rw (toZ-ofZ (case-fits z)) at (t .if1 .taken) in
     ap Exact (c .value-in .ensures)
-    ∙ sym (ap (λ (b : Bool). cond b (Exact (valueIn x)) (cond (within (pos 2) (x .case) (pos 2)) (CenterOf (valueIn x)) Last)) one)
+    ∙ sym (ap (λ (b : Bool). cond b (Exact (valueIn x)) (cond (within (pos 2) (x .case) (pos 2)) (CenterOf (valueIn x)) Last))
+    one)
 
 returns-2 : tie.Need-returns-2
 unfolding segmentOf
@@ -55,4 +50,5 @@ returns-3 c =
 
 pub segment-of-spec : {M : Type 1} → statement M
 segment-of-spec =
-    tie.close (tie.spec value-in-requires returns value-in-requires-2 returns-2 returns-3)
+    tie.close
+    (tie.spec (λ c κs. search needs) returns (λ c κs. search needs) returns-2 returns-3)

@@ -20,35 +20,26 @@ use Rattle.segmented.proofs.segment_pixel.Tie as tie
 high-fits : (s : tie.Start) → SFits w64 (s .args .l .high)
 high-fits s = search needs
 
-enum-known-v : tie.Need-enum-known-v
-enum-known-v c = search needs
-
-inner-requires : tie.Need-inner-requires
-inner-requires c κs = search needs
-
 pixel-of-requires : tie.Need-pixel-of-requires
 pixel-of-requires c κs =
     let k = c .before .before in
     let s = k .before .before in (
       s .pre .0 .real,
-      subst (λ (l : Limits). pixels l ≡ true) (sym (c .inner .ensures)) (inner-pixels (s .args .size) (s .args .l) (s .pre .2) (s .pre .1)),
+      subst (λ (l : Limits). pixels l ≡ true) (sym (c .inner .ensures)) (inner-pixels (s .args .size) (s .args .l) (s .pre .2)
+          (s .pre .1)),
       subst (λ (y : SegmentValue). SegmentOn (s .args .a) y) (k .v .given .1) (s .pre .3),
     )
-
-fitting-requires : tie.Need-fitting-requires
-fitting-requires c κs = search needs
-
-enum-known-v-2 : tie.Need-enum-known-v-2
-enum-known-v-2 c = search needs
 
 centre-requires : tie.Need-centre-requires
 centre-requires c κs =
     let k = c .before in
-    let s = k .before .before in
-    (s .pre .0, s .pre .1, s .pre .2, subst (λ (y : SegmentValue). SegmentOn (s .args .a) y) (k .v2 .given .1) (s .pre .3), s .pre .4)
-
-enum-told : tie.Need-enum-told
-enum-told c = search needs
+    let s = k .before .before in (
+      s .pre .0,
+      s .pre .1,
+      s .pre .2,
+      subst (λ (y : SegmentValue). SegmentOn (s .args .a) y) (k .v2 .given .1) (s .pre .3),
+      s .pre .4,
+    )
 
 returns : tie.Need-returns
 unfolding segmentPixel
@@ -82,14 +73,5 @@ returns-3 c =
 pub segment-pixel-spec : {M : Type 1} → statement M
 segment-pixel-spec =
     tie.close
-    (tie.spec
-    enum-known-v
-    inner-requires
-    pixel-of-requires
-    fitting-requires
-    enum-known-v-2
-    centre-requires
-    enum-told
-    returns
-    returns-2
-    returns-3)
+    (tie.spec (λ c. search needs) (λ c κs. search needs) pixel-of-requires (λ c κs. search needs)
+    (λ c. search needs) centre-requires (λ c. search needs) returns returns-2 returns-3)

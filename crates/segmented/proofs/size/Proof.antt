@@ -13,14 +13,12 @@ use Rattle.segmented.specs.Answers.{segmentSizeAnswer}
 use Rattle.segmented.proofs.size.Statement.{statement}
 use Rattle.segmented.proofs.size.Tie as tie
 
-size-refusal-requires : tie.Need-size-refusal-requires
-size-refusal-requires c κs = search needs
-
 returns : tie.Need-returns
 unfolding segmentSizeAnswer
 returns c =
     let r = c .before in
-    number-refused (firstNo (sizeQuestions (r .before .args .a))) (r .size-refusal .result) (number.Is (sizeOf (r .before .args .a) + 1)) (r .size-refusal .ensures) (c .if1 .taken)
+    number-refused (firstNo (sizeQuestions (r .before .args .a))) (r .size-refusal .result)
+    (number.Is (sizeOf (r .before .args .a) + 1)) (r .size-refusal .ensures) (c .if1 .taken)
 
 none : (c : tie.Else1) → firstNo (sizeQuestions (c .before .before .args .a)) ≡ 0
 none c = sym (c .before .size-refusal .ensures) ∙ c .if1 .left
@@ -39,7 +37,8 @@ unfolding segmentSizeAnswer
 returns-2 c =
     let e = c .before in
     let a = e .before .before .args .a in
-    ap (λ (n : ℕ). number.Is (n + 1)) (c .size-of .ensures) ∙ sym (ap (λ (k : ℕ). numberAnswer k (number.Is (sizeOf a + 1))) (none e))
+    ap (λ (n : ℕ). number.Is (n + 1)) (c .size-of .ensures) ∙ sym (ap (λ (k : ℕ). numberAnswer k (number.Is (sizeOf a + 1)))
+    (none e))
 
 pub size-spec : {M : Type 1} → statement M
-size-spec = tie.close (tie.spec size-refusal-requires returns size-of-requires add-t5 returns-2)
+size-spec = tie.close (tie.spec (λ c κs. search needs) returns size-of-requires add-t5 returns-2)

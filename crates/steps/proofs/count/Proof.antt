@@ -5,9 +5,6 @@ use borrow.Author.Tests.{not-true, not-false}
 use Rattle.steps.proofs.count.Statement.{statement}
 use Rattle.steps.proofs.count.Tie as tie
 
-has-room-requires : tie.Need-has-room-requires
-has-room-requires c κs = search needs
-
 returns : tie.Need-returns
 returns c = rw (sym (c .before .has-room .ensures) ∙ not-true _ (c .if1 .taken))
 
@@ -15,4 +12,4 @@ returns-2 : tie.Need-returns-2
 returns-2 c = rw (sym (c .before .has-room .ensures) ∙ not-false _ (c .if1 .left))
 
 pub count-spec : {M : Type 1} → statement M
-count-spec = tie.close (tie.spec has-room-requires returns returns-2)
+count-spec = tie.close (tie.spec (λ c κs. search needs) returns returns-2)

@@ -16,7 +16,8 @@ same-test a b c d yes-too no-too =
     ]
 
 returns : tie.Need-returns
-returns c = let x = c .before .args in same-test (x .s .count) (x .k / 2) (2 * x .s .count) (x .k) (λ h. omega arith) (λ h. omega arith)
+returns c = let x = c .before .args in same-test (x .s .count) (x .k / 2) (2 * x .s .count) (x .k) (λ h. omega arith)
+    (λ h. omega arith)
 
 pub has-room-spec : {M : Type 1} → statement M
 has-room-spec = tie.close (tie.spec returns)

@@ -7,15 +7,6 @@ use Rattle.steps.proofs.Fitting.{some-steps}
 use Rattle.steps.proofs.how_many.Statement.{statement}
 use Rattle.steps.proofs.how_many.Tie as tie
 
-returns : tie.Need-returns
-returns c = search needs
-
-sub-result : tie.Need-sub-result
-sub-result c = search needs
-
-div-result : tie.Need-div-result
-div-result c = search needs
-
 add-result : tie.Need-add-result
 add-result c = omega (arith, div-le-self (c .before .args .room - 1) (c .before .args .step))
 
@@ -23,4 +14,6 @@ returns-2 : tie.Need-returns-2
 returns-2 c = some-steps (c .before .args .room) (c .before .args .step) (omega arith)
 
 pub how-many-spec : {M : Type 1} → statement M
-how-many-spec = tie.close (tie.spec returns sub-result div-result add-result returns-2)
+how-many-spec =
+    tie.close
+    (tie.spec (λ c. search needs) (λ c. search needs) (λ c. search needs) add-result returns-2)

@@ -10,13 +10,8 @@ use Rattle.steps.proofs.Fronts.{within-lent, front-is}
 use Rattle.steps.proofs.key_points.Statement.{statement}
 use Rattle.steps.proofs.key_points.Tie as tie
 
-list-requires : tie.Need-list-requires
-list-requires c κs = search needs
-
-count-of-requires : tie.Need-count-of-requires
-count-of-requires c κs = search needs
-
-counted : (c : tie.After-count-of) → let x = c .before .before .before .before in c .count-of .result ≡ countOf (listedOf (x .args .s) (length (x .args .lent .now)))
+counted : (c : tie.After-count-of) → let x = c .before .before .before .before in
+    c .count-of .result ≡ countOf (listedOf (x .args .s) (length (x .args .lent .now)))
 counted c = c .count-of .ensures ∙ ap countOf (c .before .before .list .ensures .0)
 
 fits : (c : tie.After-count-of) → 2 * c .count-of .result ≤ length (c .before .before .before .before .args .lent .now)
@@ -43,4 +38,5 @@ returns c =
 
 pub key-points-spec : {M : Type 1} → statement M
 key-points-spec =
-    tie.close (tie.spec list-requires count-of-requires mul-k slice-aggregate-result returns)
+    tie.close
+    (tie.spec (λ c κs. search needs) (λ c κs. search needs) mul-k slice-aggregate-result returns)

@@ -8,9 +8,6 @@ use Rattle.steps.specs.Listing.{hasRoom}
 use Rattle.steps.proofs.list.Statement.{statement}
 use Rattle.steps.proofs.list.Tie as tie
 
-has-room-requires : tie.Need-has-room-requires
-has-room-requires c κs = search needs
-
 returns : tie.Need-returns
 returns c = let e = sym (c .before .has-room .ensures) ∙ not-true _ (c .if1 .taken) in (rw e, rw e)
 
@@ -18,19 +15,15 @@ room : (c : tie.Else1) → hasRoom (c .before .before .args .s) (length (c .befo
 room c = sym (c .before .has-room .ensures) ∙ not-false _ (c .if1 .left)
 
 list-months-requires : tie.Need-list-months-requires
-list-months-requires c κs = ((c .before .before .before .before .pre, c .before .if2 .taken), leb-true _ _ (room (c .before .before)))
-
-same-length : tie.Need-same-length
-same-length c = search needs
+list-months-requires c κs =
+    ((c .before .before .before .before .pre, c .before .if2 .taken), leb-true _ _ (room (c .before .before)))
 
 returns-2 : tie.Need-returns-2
 returns-2 c = let e = room (c .before .before .before .before) in (rw e, rw e (c .before .list-months .ensures))
 
 list-even-requires : tie.Need-list-even-requires
-list-even-requires c κs = ((c .before .before .before .before .pre, c .before .if2 .left), leb-true _ _ (room (c .before .before)))
-
-same-length-2 : tie.Need-same-length-2
-same-length-2 c = search needs
+list-even-requires c κs =
+    ((c .before .before .before .before .pre, c .before .if2 .left), leb-true _ _ (room (c .before .before)))
 
 returns-3 : tie.Need-returns-3
 returns-3 c = let e = room (c .before .before .before .before) in (rw e, rw e (c .before .list-even .ensures))
@@ -38,12 +31,5 @@ returns-3 c = let e = room (c .before .before .before .before) in (rw e, rw e (c
 pub list-spec : {M : Type 1} → statement M
 list-spec =
     tie.close
-    (tie.spec
-    has-room-requires
-    returns
-    list-months-requires
-    same-length
-    returns-2
-    list-even-requires
-    same-length-2
-    returns-3)
+    (tie.spec (λ c κs. search needs) returns list-months-requires (λ c. search needs) returns-2
+    list-even-requires (λ c. search needs) returns-3)

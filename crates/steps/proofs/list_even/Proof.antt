@@ -62,23 +62,20 @@ module _ (s : Steps) (i whole part : ℕ) (t : Turn s i whole part) where
 base-fits : (c : tie.Start Inv-loop μ-loop) → SFits w64 (c .args .s .base)
 base-fits c = search needs
 
-turn : (c : tie.In-loop Inv-loop μ-loop) → Turn (c .before .before .before .before .before .before .args .s) (c .before .loop .i) (c .before .loop .whole) (c .before .loop .part)
+turn : (c : tie.In-loop Inv-loop μ-loop) → Turn (c .before .before .before .before .before .before .args .s)
+    (c .before .loop .i) (c .before .loop .whole) (c .before .loop .part)
 turn c =
     let l = c .before .loop in
     let x = c .before .before .before .before .before .before in
-    record { sound = x .pre .0 .0; even = x .pre .0 .1; base = base-fits x; going = omega arith; whole-is = l .inv .1 .0; part-is = l .inv .1 .1 }
-
-div-heads : tie.Need-div-heads Inv-loop μ-loop
-div-heads c = search needs
-
-rem-rest : tie.Need-rem-rest Inv-loop μ-loop
-rem-rest c = search needs
-
-div-whole : tie.Need-div-whole Inv-loop μ-loop
-div-whole c = search needs
-
-rem-part : tie.Need-rem-part Inv-loop μ-loop
-rem-part c = search needs
+    record {
+      sound = x .pre .0 .0;
+      even = x .pre .0 .1;
+      base = base-fits x;
+      going = omega arith;
+      whole-is =
+          l .inv .1 .0;
+      part-is = l .inv .1 .1;
+    }
 
 loop-holds : tie.Need-loop-holds Inv-loop μ-loop
 loop-holds c =
@@ -95,26 +92,13 @@ add-head c = sum-fits _ _ _ _ (turn (c .before .before))
 cast-tail : tie.Need-cast-tail Inv-loop μ-loop
 cast-tail c = count-fits (c .before .before .before .loop .part) (omega (arith, part-small _ _ _ _ (turn (c .before .before))))
 
-add-next : tie.Need-add-next Inv-loop μ-loop
-add-next c = search needs
-
-mul-head : tie.Need-mul-head Inv-loop μ-loop
-mul-head c = search needs
-
-slice-set-from-head : tie.Need-slice-set-from-head Inv-loop μ-loop
-slice-set-from-head c = search needs
-
-mul-tail : tie.Need-mul-tail Inv-loop μ-loop
-mul-tail c = search needs
-
 slice-set-from-tail : tie.Need-slice-set-from-tail Inv-loop μ-loop
-slice-set-from-tail c = simp length-set (omega (arith, c .before .before .before .loop .inv .0 .at-is, c .before .before .before .loop .inv .0 .length-is))
-
-add-at : tie.Need-add-at Inv-loop μ-loop
-add-at c = search needs
-
-add-i : tie.Need-add-i Inv-loop μ-loop
-add-i c = search needs
+slice-set-from-tail c =
+    simp length-set (omega (
+      arith,
+      c .before .before .before .loop .inv .0 .at-is,
+      c .before .before .before .loop .inv .0 .length-is,
+    ))
 
 add-whole : tie.Need-add-whole Inv-loop μ-loop
 add-whole c =
@@ -124,35 +108,37 @@ add-whole c =
 add-part : tie.Need-add-part Inv-loop μ-loop
 add-part c =
     let x = c .before .before .before .before .before .before .before .before in
-    omega (arith, part-small _ _ _ _ (turn (c .before .before)), mod-lt (x .args .s .step) (x .pre .0 .0 .divides), x .pre .0 .0 .small)
+    omega (
+      arith,
+      part-small _ _ _ _ (turn (c .before .before)),
+      mod-lt (x .args .s .step) (x .pre .0 .0 .divides),
+      x .pre .0 .0 .small,
+    )
 
 add-whole-2 : tie.Need-add-whole-2 Inv-loop μ-loop
 add-whole-2 c =
     let x = c .before .before .before .before .before .before .before .before .before in
     omega (arith, whole-small _ _ _ _ (turn (c .before .before .before)), x .pre .0 .0 .stride)
 
-loop-less : tie.Need-loop-less Inv-loop μ-loop
-loop-less c = search needs
-
 loop-again : tie.Need-loop-again Inv-loop μ-loop
 loop-again c =
     let l = c .before .before .before .before .loop in
     let x = c .before .before .before .before .before .before .before .before .before in
-    let t = turn (c .before .before .before) in
-    (one-more (l .inv .0) (t .going) (x .pre .1) (tick-is _ _ _ _ t), next-carried (x .args .s) (l .i) (l .whole) (l .part) (t .sound .divides) (t .whole-is) (t .part-is) (omega arith))
-
-loop-less-2 : tie.Need-loop-less-2 Inv-loop μ-loop
-loop-less-2 c = search needs
+    let t = turn (c .before .before .before) in (
+      one-more (l .inv .0) (t .going) (x .pre .1) (tick-is _ _ _ _ t),
+      next-carried (x .args .s) (l .i) (l .whole) (l .part)
+          (t .sound .divides) (t .whole-is) (t .part-is) (omega arith),
+    )
 
 loop-again-2 : tie.Need-loop-again-2 Inv-loop μ-loop
 loop-again-2 c =
     let l = c .before .before .before .before .loop in
     let x = c .before .before .before .before .before .before .before .before .before in
-    let t = turn (c .before .before .before) in
-    (one-more (l .inv .0) (t .going) (x .pre .1) (tick-is _ _ _ _ t), next-kept (x .args .s) (l .i) (l .whole) (l .part) (t .sound .divides) (t .whole-is) (t .part-is) (omega arith))
-
-same-length : tie.Need-same-length Inv-loop μ-loop
-same-length c = search needs
+    let t = turn (c .before .before .before) in (
+      one-more (l .inv .0) (t .going) (x .pre .1) (tick-is _ _ _ _ t),
+      next-kept (x .args .s) (l .i) (l .whole) (l .part)
+          (t .sound .divides) (t .whole-is) (t .part-is) (omega arith),
+    )
 
 returns : tie.Need-returns Inv-loop μ-loop
 returns c = all-written (c .before .loop .inv .0) (omega arith)
@@ -160,30 +146,7 @@ returns c = all-written (c .before .loop .inv .0) (omega arith)
 pub list-even-spec : {M : Type 1} → statement M
 list-even-spec =
     tie.close
-    (tie.spec
-    Inv-loop
-    μ-loop
-    div-heads
-    rem-rest
-    div-whole
-    rem-part
-    loop-holds
-    cast-head
-    add-head
-    cast-tail
-    add-next
-    mul-head
-    slice-set-from-head
-    mul-tail
-    slice-set-from-tail
-    add-at
-    add-i
-    add-whole
-    add-part
-    add-whole-2
-    loop-less
-    loop-again
-    loop-less-2
-    loop-again-2
-    same-length
-    returns)
+    (tie.spec Inv-loop μ-loop (λ c. search needs) (λ c. search needs) (λ c. search needs) (λ c. search needs)
+    loop-holds cast-head add-head cast-tail (λ c. search needs) (λ c. search needs) (λ c. search needs)
+    (λ c. search needs) slice-set-from-tail (λ c. search needs) (λ c. search needs) add-whole add-part
+    add-whole-2 (λ c. search needs) loop-again (λ c. search needs) loop-again-2 (λ c. search needs) returns)

@@ -45,29 +45,8 @@ in-calendar c = omega (arith, first-most _ (month (c .before .before .before)), 
 cast-day : tie.Need-cast-day Inv-loop μ-loop
 cast-day c = count-fits (c .first-day .result) (in-calendar c)
 
-add-next : tie.Need-add-next Inv-loop μ-loop
-add-next c = search needs
-
-mul-day : tie.Need-mul-day Inv-loop μ-loop
-mul-day c = search needs
-
-slice-set-from-day : tie.Need-slice-set-from-day Inv-loop μ-loop
-slice-set-from-day c = search needs
-
-mul-lent : tie.Need-mul-lent Inv-loop μ-loop
-mul-lent c = search needs
-
 slice-set-of-lent : tie.Need-slice-set-of-lent Inv-loop μ-loop
 slice-set-of-lent c = simp length-set (omega arith)
-
-add-at : tie.Need-add-at Inv-loop μ-loop
-add-at c = search needs
-
-add-i : tie.Need-add-i Inv-loop μ-loop
-add-i c = search needs
-
-loop-less : tie.Need-loop-less Inv-loop μ-loop
-loop-less c = search needs
 
 loop-again : tie.Need-loop-again Inv-loop μ-loop
 loop-again c =
@@ -75,13 +54,11 @@ loop-again c =
     let x = c .before .before .before .before .before in
     let f = c .first-day in
     let going : l .i < x .args .s .count = omega arith in
-    let head : toZ w64 (f .result) ≡ tickOf (x .args .s) (l .i) .head = read-count (f .result) (in-calendar c) ∙ rw (x .pre .0 .1) (ap pos (f .ensures)) in
+    let head : toZ w64 (f .result) ≡ tickOf (x .args .s) (l .i) .head = read-count (f .result) (in-calendar c)
+    ∙ rw (x .pre .0 .1) (ap pos (f .ensures)) in
     let tail : pos 0 ≡ tickOf (x .args .s) (l .i) .tail = rw (x .pre .0 .1) in
     let v : Tick = record { head = toZ w64 (f .result); tail = pos 0 } in
     one-more (l .inv) {v = v} going (x .pre .1) (λ k. record { head = head k; tail = tail k })
-
-same-length : tie.Need-same-length Inv-loop μ-loop
-same-length c = search needs
 
 returns : tie.Need-returns Inv-loop μ-loop
 returns c = all-written (c .before .loop .inv) (omega arith)
@@ -89,22 +66,6 @@ returns c = all-written (c .before .loop .inv) (omega arith)
 pub list-months-spec : {M : Type 1} → statement M
 list-months-spec =
     tie.close
-    (tie.spec
-    Inv-loop
-    μ-loop
-    loop-holds
-    mul-first-day
-    add-first-day
-    first-day-requires
-    cast-day
-    add-next
-    mul-day
-    slice-set-from-day
-    mul-lent
-    slice-set-of-lent
-    add-at
-    add-i
-    loop-less
-    loop-again
-    same-length
-    returns)
+    (tie.spec Inv-loop μ-loop loop-holds mul-first-day add-first-day first-day-requires cast-day
+    (λ c. search needs) (λ c. search needs) (λ c. search needs) (λ c. search needs) slice-set-of-lent
+    (λ c. search needs) (λ c. search needs) (λ c. search needs) loop-again (λ c. search needs) returns)

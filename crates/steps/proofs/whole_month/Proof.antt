@@ -10,9 +10,6 @@ use Rattle.steps.proofs.Months.{date-ranges, in-month}
 use Rattle.steps.proofs.whole_month.Statement.{statement}
 use Rattle.steps.proofs.whole_month.Tie as tie
 
-date-of-requires : tie.Need-date-of-requires
-date-of-requires c κs = search needs
-
 month-number-requires : tie.Need-month-number-requires
 month-number-requires c κs = rw (c .date-of .ensures) (date-ranges (c .before .args .day) (c .before .pre .0) (c .before .pre .1))
 
@@ -29,14 +26,23 @@ returns : tie.Need-returns
 unfolding wholeMonth
 returns c =
     let d = c .before .before .before .date-of in
-    rw (month (c .before .before), lt-ltb 1 (dateOf (c .before .before .before .before .args .day) .day) (rw (d .ensures) at (c .if1 .taken)))
+    rw (
+      month (c .before .before),
+      lt-ltb 1 (dateOf (c .before .before .before .before .args .day) .day)
+          (rw (d .ensures) at (c .if1 .taken)),
+    )
 
 returns-2 : tie.Need-returns-2
 unfolding wholeMonth
 returns-2 c =
     let d = c .before .before .before .date-of in
-    rw (month (c .before .before), le-ltb 1 (dateOf (c .before .before .before .before .args .day) .day) (rw (d .ensures) at (c .if1 .left))) (omega arith)
+    rw (
+      month (c .before .before),
+      le-ltb 1 (dateOf (c .before .before .before .before .args .day) .day)
+          (rw (d .ensures) at (c .if1 .left)),
+    ) (omega arith)
 
 pub whole-month-spec : {M : Type 1} → statement M
 whole-month-spec =
-    tie.close (tie.spec date-of-requires month-number-requires add-result returns returns-2)
+    tie.close
+    (tie.spec (λ c κs. search needs) month-number-requires add-result returns returns-2)

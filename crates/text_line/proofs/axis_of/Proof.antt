@@ -10,9 +10,6 @@ use Rattle.laws.proofs.Signed.{read-count}
 use Rattle.text_line.proofs.axis_of.Statement.{statement}
 use Rattle.text_line.proofs.axis_of.Tie as tie
 
-cast-t4 : tie.Need-cast-t4
-cast-t4 c = search needs
-
 returns : tie.Need-returns
 returns c =
     let x = c .before .before .args in
@@ -28,4 +25,4 @@ returns c =
     }
 
 pub axis-of-spec : {M : Type 1} → statement M
-axis-of-spec = tie.close (tie.spec cast-t4 returns)
+axis-of-spec = tie.close (tie.spec (λ c. search needs) returns)

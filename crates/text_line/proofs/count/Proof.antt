@@ -16,21 +16,6 @@ Inv-loop s c n₀ i₀ n i = (i ≤ length s) × ((n ≤ i) × (countOf c s ≡ 
 abbrev μ-loop : tie.MeasureT-loop
 μ-loop s c n₀ i₀ n i = length s - i
 
-loop-holds : tie.Need-loop-holds Inv-loop μ-loop
-loop-holds c = search needs
-
-shared-slice-read-if1 : tie.Need-shared-slice-read-if1 Inv-loop μ-loop
-shared-slice-read-if1 c = search needs
-
-add-n : tie.Need-add-n Inv-loop μ-loop
-add-n c = search needs
-
-add-i : tie.Need-add-i Inv-loop μ-loop
-add-i c = search needs
-
-loop-less : tie.Need-loop-less Inv-loop μ-loop
-loop-less c = search needs
-
 loop-again : tie.Need-loop-again Inv-loop μ-loop
 loop-again c =
     let l = c .before .before .before .loop in
@@ -41,18 +26,14 @@ loop-again c =
     (c .if1 .came)
 
 returns : tie.Need-returns Inv-loop μ-loop
-returns c = omega (arith, count-end (c .before .before .args .s .now) (c .before .loop .i) (c .before .before .args .c) (c .loop-test .left))
+returns c = omega (
+  arith,
+  count-end (c .before .before .args .s .now) (c .before .loop .i) (c .before .before .args .c)
+      (c .loop-test .left),
+)
 
 pub count-spec : {M : Type 1} → statement M
 count-spec =
     tie.close
-    (tie.spec
-    Inv-loop
-    μ-loop
-    loop-holds
-    shared-slice-read-if1
-    add-n
-    add-i
-    loop-less
-    loop-again
-    returns)
+    (tie.spec Inv-loop μ-loop (λ c. search needs) (λ c. search needs) (λ c. search needs) (λ c. search needs)
+    (λ c. search needs) loop-again returns)

@@ -4,12 +4,9 @@ use Rattle.text_line.specs.Line.{inForm}
 use Rattle.text_line.proofs.in_form.Statement.{statement}
 use Rattle.text_line.proofs.in_form.Tie as tie
 
-count-requires : tie.Need-count-requires
-count-requires c κs = search needs
-
 returns : tie.Need-returns
 unfolding inForm
 returns c = cc
 
 pub in-form-spec : {M : Type 1} → statement M
-in-form-spec = tie.close (tie.spec count-requires returns)
+in-form-spec = tie.close (tie.spec (λ c κs. search needs) returns)

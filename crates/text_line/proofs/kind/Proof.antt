@@ -7,17 +7,9 @@ use Rattle.text_line.specs.Line.{kindOf}
 use Rattle.text_line.proofs.kind.Statement.{statement}
 use Rattle.text_line.proofs.kind.Tie as tie
 
-until-requires : tie.Need-until-requires
-until-requires c κs = search needs
-
-slice-aggregate-named : tie.Need-slice-aggregate-named
-slice-aggregate-named c = search needs
-
-named-requires : tie.Need-named-requires
-named-requires c κs = search needs
-
 returns : tie.Need-returns
-returns c = c .named .ensures ∙ ap (λ (k : ℕ). kindOf (take k (c .before .before .before .before .args .s .now))) (c .before .before .until .ensures .0)
+returns c = c .named .ensures ∙ ap (λ (k : ℕ). kindOf (take k (c .before .before .before .before .args .s .now)))
+    (c .before .before .until .ensures .0)
 
 pub kind-spec : {M : Type 1} → statement M
-kind-spec = tie.close (tie.spec until-requires slice-aggregate-named named-requires returns)
+kind-spec = tie.close (tie.spec (λ c κs. search needs) (λ c. search needs) (λ c κs. search needs) returns)

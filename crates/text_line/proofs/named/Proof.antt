@@ -8,12 +8,6 @@ use Rattle.text_line.specs.Line.{kinds, placeIn, kindOf}
 use Rattle.text_line.proofs.named.Statement.{statement}
 use Rattle.text_line.proofs.named.Tie as tie
 
-slice-aggregate-same : tie.Need-slice-aggregate-same
-slice-aggregate-same c = search needs
-
-same-requires : tie.Need-same-requires
-same-requires c κs = search needs
-
 returns : tie.Need-returns
 unfolding kindOf
 returns c = rw (sym (c .before .same .ensures) ∙ c .if1 .taken)
@@ -25,12 +19,6 @@ left : (c : tie.Else1) → kindOf (word c) ≡ placeIn 2 (drop 1 kinds) (word c)
 unfolding kindOf
 left c = rw (sym (c .before .same .ensures) ∙ c .if1 .left)
 
-slice-aggregate-same-2 : tie.Need-slice-aggregate-same-2
-slice-aggregate-same-2 c = search needs
-
-same-requires-2 : tie.Need-same-requires-2
-same-requires-2 c κs = search needs
-
 returns-2 : tie.Need-returns-2
 returns-2 c = sym (left (c .before .before .before) ∙ rw (sym (c .before .same2 .ensures) ∙ c .if2 .taken))
 
@@ -39,12 +27,6 @@ word-2 c = word (c .before .before .before)
 
 left-2 : (c : tie.Else2) → kindOf (word-2 c) ≡ placeIn 3 (drop 2 kinds) (word-2 c)
 left-2 c = left (c .before .before .before) ∙ rw (sym (c .before .same2 .ensures) ∙ c .if2 .left)
-
-slice-aggregate-same-3 : tie.Need-slice-aggregate-same-3
-slice-aggregate-same-3 c = search needs
-
-same-requires-3 : tie.Need-same-requires-3
-same-requires-3 c κs = search needs
 
 returns-3 : tie.Need-returns-3
 returns-3 c = sym (left-2 (c .before .before .before) ∙ rw (sym (c .before .same3 .ensures) ∙ c .if3 .taken))
@@ -55,12 +37,6 @@ word-3 c = word-2 (c .before .before .before)
 left-3 : (c : tie.Else3) → kindOf (word-3 c) ≡ placeIn 4 (drop 3 kinds) (word-3 c)
 left-3 c = left-2 (c .before .before .before) ∙ rw (sym (c .before .same3 .ensures) ∙ c .if3 .left)
 
-slice-aggregate-same-4 : tie.Need-slice-aggregate-same-4
-slice-aggregate-same-4 c = search needs
-
-same-requires-4 : tie.Need-same-requires-4
-same-requires-4 c κs = search needs
-
 returns-4 : tie.Need-returns-4
 returns-4 c = sym (left-3 (c .before .before .before) ∙ rw (sym (c .before .same4 .ensures) ∙ c .if4 .taken))
 
@@ -69,12 +45,6 @@ word-4 c = word-3 (c .before .before .before)
 
 left-4 : (c : tie.Else4) → kindOf (word-4 c) ≡ placeIn 5 (drop 4 kinds) (word-4 c)
 left-4 c = left-3 (c .before .before .before) ∙ rw (sym (c .before .same4 .ensures) ∙ c .if4 .left)
-
-slice-aggregate-same-5 : tie.Need-slice-aggregate-same-5
-slice-aggregate-same-5 c = search needs
-
-same-requires-5 : tie.Need-same-requires-5
-same-requires-5 c κs = search needs
 
 returns-5 : tie.Need-returns-5
 returns-5 c = sym (left-4 (c .before .before .before) ∙ rw (sym (c .before .same5 .ensures) ∙ c .if5 .taken))
@@ -85,12 +55,6 @@ word-5 c = word-4 (c .before .before .before)
 left-5 : (c : tie.Else5) → kindOf (word-5 c) ≡ placeIn 6 (drop 5 kinds) (word-5 c)
 left-5 c = left-4 (c .before .before .before) ∙ rw (sym (c .before .same5 .ensures) ∙ c .if5 .left)
 
-slice-aggregate-same-6 : tie.Need-slice-aggregate-same-6
-slice-aggregate-same-6 c = search needs
-
-same-requires-6 : tie.Need-same-requires-6
-same-requires-6 c κs = search needs
-
 returns-6 : tie.Need-returns-6
 returns-6 c = sym (left-5 (c .before .before .before) ∙ rw (sym (c .before .same6 .ensures) ∙ c .if6 .taken))
 
@@ -99,12 +63,6 @@ word-6 c = word-5 (c .before .before .before)
 
 left-6 : (c : tie.Else6) → kindOf (word-6 c) ≡ placeIn 7 (drop 6 kinds) (word-6 c)
 left-6 c = left-5 (c .before .before .before) ∙ rw (sym (c .before .same6 .ensures) ∙ c .if6 .left)
-
-slice-aggregate-same-7 : tie.Need-slice-aggregate-same-7
-slice-aggregate-same-7 c = search needs
-
-same-requires-7 : tie.Need-same-requires-7
-same-requires-7 c κs = search needs
 
 returns-7 : tie.Need-returns-7
 returns-7 c = sym (left-6 (c .before .before .before) ∙ rw (sym (c .before .same7 .ensures) ∙ c .if7 .taken))
@@ -121,26 +79,7 @@ returns-8 c = sym (left-7 c)
 pub named-spec : {M : Type 1} → statement M
 named-spec =
     tie.close
-    (tie.spec
-    slice-aggregate-same
-    same-requires
-    returns
-    slice-aggregate-same-2
-    same-requires-2
-    returns-2
-    slice-aggregate-same-3
-    same-requires-3
-    returns-3
-    slice-aggregate-same-4
-    same-requires-4
-    returns-4
-    slice-aggregate-same-5
-    same-requires-5
-    returns-5
-    slice-aggregate-same-6
-    same-requires-6
-    returns-6
-    slice-aggregate-same-7
-    same-requires-7
-    returns-7
-    returns-8)
+    (tie.spec (λ c. search needs) (λ c κs. search needs) returns (λ c. search needs) (λ c κs. search needs)
+    returns-2 (λ c. search needs) (λ c κs. search needs) returns-3 (λ c. search needs) (λ c κs. search needs)
+    returns-4 (λ c. search needs) (λ c κs. search needs) returns-5 (λ c. search needs) (λ c κs. search needs)
+    returns-6 (λ c. search needs) (λ c κs. search needs) returns-7 returns-8)

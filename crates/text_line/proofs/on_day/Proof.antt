@@ -14,18 +14,6 @@ use Rattle.text_line.specs.Line.{onDay, dayAt}
 use Rattle.text_line.proofs.on_day.Statement.{statement}
 use Rattle.text_line.proofs.on_day.Tie as tie
 
-cast-t5 : tie.Need-cast-t5
-cast-t5 c = search needs
-
-cast-t6 : tie.Need-cast-t6
-cast-t6 c = search needs
-
-cast-t7 : tie.Need-cast-t7
-cast-t7 c = search needs
-
-number-of-requires : tie.Need-number-of-requires
-number-of-requires c κs = search needs
-
 abbrev answer : Day → DayAnswer
 answer d = numberOf (record { year = pos (d .year); month = pos (d .month); day = pos (d .day) })
 
@@ -37,14 +25,10 @@ said c =
     let k : d .day < 2 ^ 63 = omega arith in
     rw (read-count (d .year) y, read-count (d .month) m, read-count (d .day) k) at (c .number-of .ensures)
 
-enum-known-n : tie.Need-enum-known-n
-enum-known-n c = search needs
-
-enum-told : tie.Need-enum-told
-enum-told c = search needs
-
 -- by cases of the answer
-at : (c : tie.After-number-of) (a : DayAnswer) → c .number-of .result ≡ a → dayAt a (c .before .before .before .before .args .nano) ≡ onDay (c .before .before .before .before .args .d) (c .before .before .before .before .args .nano)
+at : (c : tie.After-number-of) (a : DayAnswer) → c .number-of .result ≡ a →
+    dayAt a (c .before .before .before .before .args .nano) ≡ onDay (c .before .before .before .before .args .d)
+    (c .before .before .before .before .args .nano)
 unfolding onDay
 at c a e = ap (λ (x : DayAnswer). dayAt x (c .before .before .before .before .args .nano)) (sym e ∙ said c)
 
@@ -58,27 +42,16 @@ day-most c = let g = c .before .n .given in number-range _ (g .0 .0) (sym (said 
 cast-t5-2 : tie.Need-cast-t5-2
 cast-t5-2 c = count-fits _ (omega (arith, day-most c))
 
-cast-t7-2 : tie.Need-cast-t7-2
-cast-t7-2 c = search needs
-
 returns-2 : tie.Need-returns-2
 returns-2 c =
     let t = c .before .before .before in
     let nano = t .before .before .before .before .args .nano in
     let short : nano < 2 ^ 63 = omega arith in
-    rw (read-count (c .before .n .given .0 .0) (omega (arith, day-most c)), read-count nano short) (at t _ (c .before .n .given .1))
+    rw (read-count (c .before .n .given .0 .0) (omega (arith, day-most c)), read-count nano short)
+    (at t _ (c .before .n .given .1))
 
 pub on-day-spec : {M : Type 1} → statement M
 on-day-spec =
     tie.close
-    (tie.spec
-    cast-t5
-    cast-t6
-    cast-t7
-    number-of-requires
-    enum-known-n
-    enum-told
-    returns
-    cast-t5-2
-    cast-t7-2
-    returns-2)
+    (tie.spec (λ c. search needs) (λ c. search needs) (λ c. search needs) (λ c κs. search needs)
+    (λ c. search needs) (λ c. search needs) returns cast-t5-2 (λ c. search needs) returns-2)

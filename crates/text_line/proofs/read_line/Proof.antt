@@ -6,44 +6,8 @@ use Rattle.text_line.proofs.Lines.{kind-most, line-not, line-all}
 use Rattle.text_line.proofs.read_line.Statement.{statement}
 use Rattle.text_line.proofs.read_line.Tie as tie
 
-in-form-requires : tie.Need-in-form-requires
-in-form-requires c κs = search needs
-
 returns : tie.Need-returns
 returns c = sym (line-not _ (sym (c .before .in-form .ensures) ∙ not-true _ (c .if1 .taken)))
-
-after-requires : tie.Need-after-requires
-after-requires c κs = search needs
-
-after-requires-2 : tie.Need-after-requires-2
-after-requires-2 c κs = search needs
-
-after-requires-3 : tie.Need-after-requires-3
-after-requires-3 c κs = search needs
-
-after-requires-4 : tie.Need-after-requires-4
-after-requires-4 c κs = search needs
-
-after-requires-5 : tie.Need-after-requires-5
-after-requires-5 c κs = search needs
-
-kind-requires : tie.Need-kind-requires
-kind-requires c κs = search needs
-
-value-requires : tie.Need-value-requires
-value-requires c κs = search needs
-
-value-requires-2 : tie.Need-value-requires-2
-value-requires-2 c κs = search needs
-
-number-requires : tie.Need-number-requires
-number-requires c κs = search needs
-
-number-requires-2 : tie.Need-number-requires-2
-number-requires-2 c κs = search needs
-
-number-requires-3 : tie.Need-number-requires-3
-number-requires-3 c κs = search needs
 
 together-requires : tie.Need-together-requires
 together-requires c κs = let k = c .before .before .before .before .before .kind .ensures in rw k (kind-most _)
@@ -56,26 +20,15 @@ returns-2 c =
     let b = e .before .before .before in
     let i = b .before .before in
     line-all _ _ _ _ _ _ _ _ _ _ _ _ _ (c .together .ensures) (sym (i .before .in-form .ensures) ∙ not-false _ (i .if1 .left))
-    (b .before .after .ensures) (b .after2 .ensures) (e .before .before .after3 .ensures) (e .before .after4 .ensures) (e .after5 .ensures)
+    (b .before .after .ensures) (b .after2 .ensures) (e .before .before .after3 .ensures) (e .before .after4 .ensures)
+    (e .after5 .ensures)
     (k .kind .ensures) (y .before .value .ensures) (y .value2 .ensures)
     (c .before .before .before .number .ensures) (c .before .before .number2 .ensures) (c .before .number3 .ensures)
 
 pub read-line-spec : {M : Type 1} → statement M
 read-line-spec =
     tie.close
-    (tie.spec
-    in-form-requires
-    returns
-    after-requires
-    after-requires-2
-    after-requires-3
-    after-requires-4
-    after-requires-5
-    kind-requires
-    value-requires
-    value-requires-2
-    number-requires
-    number-requires-2
-    number-requires-3
-    together-requires
-    returns-2)
+    (tie.spec (λ c κs. search needs) returns (λ c κs. search needs) (λ c κs. search needs)
+    (λ c κs. search needs) (λ c κs. search needs) (λ c κs. search needs) (λ c κs. search needs)
+    (λ c κs. search needs) (λ c κs. search needs) (λ c κs. search needs) (λ c κs. search needs)
+    (λ c κs. search needs) together-requires returns-2)

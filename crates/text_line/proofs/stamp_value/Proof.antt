@@ -12,9 +12,6 @@ use Rattle.text_line.specs.Line.{isTime, stampValue}
 use Rattle.text_line.proofs.stamp_value.Statement.{statement}
 use Rattle.text_line.proofs.stamp_value.Tie as tie
 
-is-time-requires : tie.Need-is-time-requires
-is-time-requires c κs = search needs
-
 returns : tie.Need-returns
 unfolding stampValue
 returns c = rw (sym (c .before .is-time .ensures) ∙ not-true _ (c .if1 .taken))
@@ -56,13 +53,5 @@ returns-2 c = rw (is (c .before .before .before .before .before)) (c .on-day .en
 pub stamp-value-spec : {M : Type 1} → statement M
 stamp-value-spec =
     tie.close
-    (tie.spec
-    is-time-requires
-    returns
-    mul-on-day
-    add-on-day
-    mul-on-day-2
-    add-on-day-2
-    mul-on-day-3
-    on-day-requires
-    returns-2)
+    (tie.spec (λ c κs. search needs) returns mul-on-day add-on-day mul-on-day-2 add-on-day-2 mul-on-day-3
+    on-day-requires returns-2)

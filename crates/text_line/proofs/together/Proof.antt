@@ -19,70 +19,59 @@ asked s = let x = s .args in requestOf (x .kind) (x .start) (x .end) (x .hint) (
 returns : tie.Need-returns
 returns c = sym (request-none _ _ _ _ _ _ (c .if1 .taken))
 
-known : (c : tie.Else1) → let x = c .before .args in asked (c .before) ≡ allOf (x .kind) (x .start) (x .end) (x .hint) (x .low) (x .high)
+known : (c : tie.Else1) → let x = c .before .args in
+    asked (c .before) ≡ allOf (x .kind) (x .start) (x .end) (x .hint) (x .low) (x .high)
 known c = request-all _ _ _ _ _ _ (c .if1 .left)
 
 -- ---- start
 enum-known-start : tie.Need-enum-known-start
 enum-known-start c = search needs
 
-enum-told : tie.Need-enum-told
-enum-told c = search needs
-
 returns-2 : tie.Need-returns-2
 returns-2 c = sym (known (c .before .before) ∙ rw (c .enum-told .given .1))
 
 with-start : (c : tie.After-known-told) → let s = c .before .before .before .before in
-    asked s ≡ allOf (s .args .kind) (value.Read (c .before .start .given .0 .0)) (s .args .end) (s .args .hint) (s .args .low) (s .args .high)
+    asked s ≡ allOf (s .args .kind) (value.Read (c .before .start .given .0 .0)) (s .args .end) (s .args .hint) (s .args .low)
+    (s .args .high)
 with-start c = known (c .before .before .before) ∙ rw (c .before .start .given .1)
 
 -- ---- end
 enum-known-end : tie.Need-enum-known-end
 enum-known-end c = search needs
 
-enum-told-2 : tie.Need-enum-told-2
-enum-told-2 c = search needs
-
 returns-3 : tie.Need-returns-3
 returns-3 c = sym (with-start (c .before .before) ∙ rw (c .enum-told2 .given .1))
 
 with-end : (c : tie.After-known-told2) → let t = c .before .before .before in let s = t .before .before .before .before in
-    asked s ≡ allOf (s .args .kind) (value.Read (t .before .start .given .0 .0)) (value.Read (c .before .end .given .0 .0)) (s .args .hint) (s .args .low) (s .args .high)
+    asked s ≡ allOf (s .args .kind) (value.Read (t .before .start .given .0 .0)) (value.Read (c .before .end .given .0 .0))
+    (s .args .hint) (s .args .low) (s .args .high)
 with-end c = with-start (c .before .before .before) ∙ rw (c .before .end .given .1)
 
 -- ---- hint
 enum-known-hint : tie.Need-enum-known-hint
 enum-known-hint c = search needs
 
-enum-told-3 : tie.Need-enum-told-3
-enum-told-3 c = search needs
-
 returns-4 : tie.Need-returns-4
 returns-4 c = sym (with-end (c .before .before) ∙ rw (c .enum-told3 .given .1))
 
-with-hint : (c : tie.After-known-told3) → let e = c .before .before .before in let t = e .before .before .before in let s = t .before .before .before .before in
-    asked s ≡ allOf (s .args .kind) (value.Read (t .before .start .given .0 .0)) (value.Read (e .before .end .given .0 .0)) (number.Read (c .before .hint .given .0 .0)) (s .args .low) (s .args .high)
+with-hint : (c : tie.After-known-told3) → let e = c .before .before .before in let t = e .before .before .before in
+    let s = t .before .before .before .before in
+    asked s ≡ allOf (s .args .kind) (value.Read (t .before .start .given .0 .0)) (value.Read (e .before .end .given .0 .0))
+    (number.Read (c .before .hint .given .0 .0)) (s .args .low) (s .args .high)
 with-hint c = with-end (c .before .before .before) ∙ rw (c .before .hint .given .1)
 
 -- ---- limits
 enum-known-low : tie.Need-enum-known-low
 enum-known-low c = search needs
 
-enum-told-4 : tie.Need-enum-told-4
-enum-told-4 c = search needs
-
 returns-5 : tie.Need-returns-5
 returns-5 c = sym (with-hint (c .before .before) ∙ rw (c .enum-told4 .given .1))
 
-with-low : (c : tie.After-known-told4) → let n = c .before .before .before in let e = n .before .before .before in let t = e .before .before .before in let s = t .before .before .before .before in
-    asked s ≡ allOf (s .args .kind) (value.Read (t .before .start .given .0 .0)) (value.Read (e .before .end .given .0 .0)) (number.Read (n .before .hint .given .0 .0)) (number.Read (c .before .low .given .0 .0)) (s .args .high)
+with-low : (c : tie.After-known-told4) → let n = c .before .before .before in let e = n .before .before .before in
+    let t = e .before .before .before in let s = t .before .before .before .before in
+    asked s ≡ allOf (s .args .kind) (value.Read (t .before .start .given .0 .0)) (value.Read (e .before .end .given .0 .0))
+    (number.Read (n .before .hint .given .0 .0)) (number.Read (c .before .low .given .0 .0)) (s .args .high)
 with-low c = with-hint (c .before .before .before) ∙ rw (c .before .low .given .1)
-
-enum-known-high : tie.Need-enum-known-high
-enum-known-high c = search needs
-
-enum-told-5 : tie.Need-enum-told-5
-enum-told-5 c = search needs
 
 returns-6 : tie.Need-returns-6
 returns-6 c = sym (with-low (c .before .before) ∙ rw (c .enum-told5 .given .1))
@@ -105,22 +94,6 @@ returns-7 c =
 pub together-spec : {M : Type 1} → statement M
 together-spec =
     tie.close
-    (tie.spec
-    returns
-    enum-known-start
-    enum-told
-    returns-2
-    enum-known-end
-    enum-told-2
-    returns-3
-    enum-known-hint
-    enum-told-3
-    returns-4
-    enum-known-low
-    enum-told-4
-    returns-5
-    enum-known-high
-    enum-told-5
-    returns-6
-    axis-of-requires
-    returns-7)
+    (tie.spec returns enum-known-start (λ c. search needs) returns-2 enum-known-end (λ c. search needs)
+    returns-3 enum-known-hint (λ c. search needs) returns-4 enum-known-low (λ c. search needs) returns-5
+    (λ c. search needs) (λ c. search needs) returns-6 axis-of-requires returns-7)

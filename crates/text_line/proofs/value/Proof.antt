@@ -19,12 +19,6 @@ date-requires c κs = search needs
 dated : (c : tie.After-date) → let x = c .before .before .before .args in valueOf (x .kind) (x .s .now) ≡ ofDate (c .date .result)
 dated c = value-date _ _ (c .before .if1 .taken) ∙ ap ofDate (sym (c .date .ensures))
 
-enum-known-d : tie.Need-enum-known-d
-enum-known-d c = search needs
-
-enum-told : tie.Need-enum-told
-enum-told c = search needs
-
 returns : tie.Need-returns
 returns c = sym (dated (c .before .before) ∙ ap ofDate (c .enum-told .given .1))
 
@@ -40,14 +34,9 @@ returns-2 c =
 stamp-requires : tie.Need-stamp-requires
 stamp-requires c κs = search needs
 
-stamped : (c : tie.After-stamp) → let x = c .before .before .before .before .args in valueOf (x .kind) (x .s .now) ≡ ofStamp (c .stamp .result)
+stamped : (c : tie.After-stamp) → let x = c .before .before .before .before .args in
+    valueOf (x .kind) (x .s .now) ≡ ofStamp (c .stamp .result)
 stamped c = value-stamp _ _ (c .before .before .if1 .left) (c .before .if2 .taken) ∙ ap ofStamp (sym (c .stamp .ensures))
-
-enum-known-m : tie.Need-enum-known-m
-enum-known-m c = search needs
-
-enum-told-2 : tie.Need-enum-told-2
-enum-told-2 c = search needs
 
 returns-3 : tie.Need-returns-3
 returns-3 c = sym (stamped (c .before .before) ∙ ap ofStamp (c .enum-told2 .given .1))
@@ -64,14 +53,9 @@ returns-4 c =
 number-requires : tie.Need-number-requires
 number-requires c κs = search needs
 
-counted : (c : tie.After-number) → let x = c .before .before .before .before .args in valueOf (x .kind) (x .s .now) ≡ ofSpan (c .number .result)
+counted : (c : tie.After-number) → let x = c .before .before .before .before .args in
+    valueOf (x .kind) (x .s .now) ≡ ofSpan (c .number .result)
 counted c = value-span _ _ (c .before .if2 .left) ∙ ap ofSpan (sym (c .number .ensures))
-
-enum-known-n : tie.Need-enum-known-n
-enum-known-n c = search needs
-
-enum-told-3 : tie.Need-enum-told-3
-enum-told-3 c = search needs
 
 returns-5 : tie.Need-returns-5
 returns-5 c = sym (counted (c .before .before) ∙ ap ofSpan (c .enum-told3 .given .1))
@@ -85,21 +69,6 @@ returns-6 c =
 pub value-spec : {M : Type 1} → statement M
 value-spec =
     tie.close
-    (tie.spec
-    date-requires
-    enum-known-d
-    enum-told
-    returns
-    on-day-requires
-    returns-2
-    stamp-requires
-    enum-known-m
-    enum-told-2
-    returns-3
-    stamp-value-requires
-    returns-4
-    number-requires
-    enum-known-n
-    enum-told-3
-    returns-5
-    returns-6)
+    (tie.spec date-requires (λ c. search needs) (λ c. search needs) returns on-day-requires returns-2
+    stamp-requires (λ c. search needs) (λ c. search needs) returns-3 stamp-value-requires returns-4
+    number-requires (λ c. search needs) (λ c. search needs) returns-5 returns-6)

@@ -10,12 +10,6 @@ use Rattle.text_plate.proofs.Lines.{ended-names, ended-none, ended-some
 use Rattle.text_plate.proofs.ended.Statement.{statement}
 use Rattle.text_plate.proofs.ended.Tie as tie
 
-no-names-requires : tie.Need-no-names-requires
-no-names-requires c κs = search needs
-
-same-length : tie.Need-same-length
-same-length c = search needs
-
 returns : tie.Need-returns
 returns c =
     let r = c .before .before in
@@ -26,28 +20,18 @@ returns c =
 returns-2 : tie.Need-returns-2
 returns-2 c = (rw (ended-none _ _ (c .before .if1 .left) (c .if2 .taken)) (nothing _ _), search needs)
 
-refusal-row-requires : tie.Need-refusal-row-requires
-refusal-row-requires c κs = search needs
-
-same-length-2 : tie.Need-same-length-2
-same-length-2 c = search needs
-
 returns-3 : tie.Need-returns-3
 returns-3 c =
     let r = c .before .before in
     let t = r .before .before in
     let w = r .refusal-row in
-    let h : w .result ≤ length (w .last .0) = omega arith in
-    (rw (ended-some _ _ (t .before .if1 .left) (t .if2 .left)) (w .ensures .0), (h, sym (length-take-le (w .result) (w .last .0) h)))
+    let h : w .result ≤ length (w .last .0) = omega arith in (
+      rw (ended-some _ _ (t .before .if1 .left) (t .if2 .left)) (w .ensures .0),
+      (h, sym (length-take-le (w .result) (w .last .0) h)),
+    )
 
 pub ended-spec : {M : Type 1} → statement M
 ended-spec =
     tie.close
-    (tie.spec
-    no-names-requires
-    same-length
-    returns
-    returns-2
-    refusal-row-requires
-    same-length-2
-    returns-3)
+    (tie.spec (λ c κs. search needs) (λ c. search needs) returns returns-2 (λ c κs. search needs)
+    (λ c. search needs) returns-3)

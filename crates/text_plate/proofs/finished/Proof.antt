@@ -5,61 +5,31 @@ use Rattle.text_plate.proofs.Lines.{finished-rows, finished-names, fini
 use Rattle.text_plate.proofs.finished.Statement.{statement}
 use Rattle.text_plate.proofs.finished.Tie as tie
 
-rows-requires : tie.Need-rows-requires
-rows-requires c κs = search needs
-
-same-length : tie.Need-same-length
-same-length c = search needs
-
-same-length-2 : tie.Need-same-length-2
-same-length-2 c = search needs
-
 returns : tie.Need-returns
 returns c =
     let r = c .before .before .before in
     (rw (finished-rows _ _ (r .before .before .before .if1 .taken)) (r .rows .ensures .0), search needs)
 
-is-names-requires : tie.Need-is-names-requires
-is-names-requires c κs = search needs
-
-names-requires : tie.Need-names-requires
-names-requires c κs = search needs
-
-same-length-3 : tie.Need-same-length-3
-same-length-3 c = search needs
-
 returns-2 : tie.Need-returns-2
 returns-2 c =
     let r = c .before .before in
     let t = r .before .before in
-    let n = t .before in
-    (rw (finished-names _ _ (n .before .if1 .left) (sym (n .is-names .ensures) ∙ t .if2 .taken)) (r .names .ensures .0), search needs)
-
-no-names-requires : tie.Need-no-names-requires
-no-names-requires c κs = search needs
-
-same-length-4 : tie.Need-same-length-4
-same-length-4 c = search needs
+    let n = t .before in (
+      rw (finished-names _ _ (n .before .if1 .left) (sym (n .is-names .ensures) ∙ t .if2 .taken)) (r .names .ensures .0),
+      search needs,
+    )
 
 returns-3 : tie.Need-returns-3
 returns-3 c =
     let r = c .before .before in
     let t = r .before .before in
-    let n = t .before in
-    (rw (finished-wrong _ _ (n .before .if1 .left) (sym (n .is-names .ensures) ∙ t .if2 .left)) (r .no-names .ensures .0), search needs)
+    let n = t .before in (
+      rw (finished-wrong _ _ (n .before .if1 .left) (sym (n .is-names .ensures) ∙ t .if2 .left)) (r .no-names .ensures .0),
+      search needs,
+    )
 
 pub finished-spec : {M : Type 1} → statement M
 finished-spec =
     tie.close
-    (tie.spec
-    rows-requires
-    same-length
-    same-length-2
-    returns
-    is-names-requires
-    names-requires
-    same-length-3
-    returns-2
-    no-names-requires
-    same-length-4
-    returns-3)
+    (tie.spec (λ c κs. search needs) (λ c. search needs) (λ c. search needs) returns (λ c κs. search needs)
+    (λ c κs. search needs) (λ c. search needs) returns-2 (λ c κs. search needs) (λ c. search needs) returns-3)

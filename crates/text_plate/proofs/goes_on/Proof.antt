@@ -8,11 +8,8 @@ use Rattle.text_plate.proofs.goes_on.Tie as tie
 returns : tie.Need-returns
 returns c = goes-rows _ _ (c .if1 .taken)
 
-is-names-requires : tie.Need-is-names-requires
-is-names-requires c κs = search needs
-
 returns-2 : tie.Need-returns-2
 returns-2 c = c .is-names .ensures ∙ goes-names _ _ (c .before .if1 .left)
 
 pub goes-on-spec : {M : Type 1} → statement M
-goes-on-spec = tie.close (tie.spec returns is-names-requires returns-2)
+goes-on-spec = tie.close (tie.spec returns (λ c κs. search needs) returns-2)

@@ -8,73 +8,32 @@ use Rattle.text_plate.proofs.Output.{turned-on, turned-end}
 use Rattle.text_plate.proofs.turn.Statement.{statement}
 use Rattle.text_plate.proofs.turn.Tie as tie
 
-feed-requires : tie.Need-feed-requires
-feed-requires c κs = search needs
-
-same-length : tie.Need-same-length
-same-length c = search needs
-
 returns : tie.Need-returns
 returns c =
     let f = c .before .before .before .before in
     turned-on _ _ _ _ _ (f .feed .ensures) _ (not-true (f .feed .result .ended) (c .if1 .taken))
-
-slice-reshare-prefix-goes-on : tie.Need-slice-reshare-prefix-goes-on
-slice-reshare-prefix-goes-on c = search needs
 
 slice-aggregate-goes-on : tie.Need-slice-aggregate-goes-on
 slice-aggregate-goes-on c =
     let f = c .before .before .before .before .before .feed in
     sym (length-take-le (f .result .len) (f .last .0) (omega (arith, f .ensures .most, f .ensures .same-size)))
 
-goes-on-requires : tie.Need-goes-on-requires
-goes-on-requires c κs = search needs
-
-slice-reshare-prefix-finished : tie.Need-slice-reshare-prefix-finished
-slice-reshare-prefix-finished c = search needs
-
 slice-aggregate-finished : tie.Need-slice-aggregate-finished
 slice-aggregate-finished c =
     let f = c .before .before .before .before .before .before .before .feed in
     sym (length-take-le (f .result .len) (f .last .0) (omega (arith, f .ensures .most, f .ensures .same-size)))
-
-finished-requires : tie.Need-finished-requires
-finished-requires c κs = search needs
-
-next-requires : tie.Need-next-requires
-next-requires c κs = search needs
-
-same-length-2 : tie.Need-same-length-2
-same-length-2 c = search needs
-
-same-length-3 : tie.Need-same-length-3
-same-length-3 c = search needs
-
-same-length-4 : tie.Need-same-length-4
-same-length-4 c = search needs
 
 returns-2 : tie.Need-returns-2
 returns-2 c =
     let w = c .before .before .before .before in
     let g = w .before .before .before .before in
     let f = g .before .before .before .before .before .before in
-    turned-end _ _ _ _ _ (f .feed .ensures) (not-false (f .feed .result .ended) (g .before .before .if1 .left)) (c .next .ensures) (g .goes-on .ensures) (w .finished .ensures .0) (w .finished .ensures .1)
+    turned-end _ _ _ _ _ (f .feed .ensures) (not-false (f .feed .result .ended) (g .before .before .if1 .left))
+    (c .next .ensures) (g .goes-on .ensures) (w .finished .ensures .0) (w .finished .ensures .1)
 
 pub turn-spec : {M : Type 1} → statement M
 turn-spec =
     tie.close
-    (tie.spec
-    feed-requires
-    same-length
-    returns
-    slice-reshare-prefix-goes-on
-    slice-aggregate-goes-on
-    goes-on-requires
-    slice-reshare-prefix-finished
-    slice-aggregate-finished
-    finished-requires
-    next-requires
-    same-length-2
-    same-length-3
-    same-length-4
-    returns-2)
+    (tie.spec (λ c κs. search needs) (λ c. search needs) returns (λ c. search needs) slice-aggregate-goes-on
+    (λ c κs. search needs) (λ c. search needs) slice-aggregate-finished (λ c κs. search needs)
+    (λ c κs. search needs) (λ c. search needs) (λ c. search needs) (λ c. search needs) returns-2)

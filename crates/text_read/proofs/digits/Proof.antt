@@ -24,21 +24,13 @@ returns c = sym (digits-short _ (c .if1 .taken))
 returns-2 : tie.Need-returns-2 Inv-loop μ-loop
 returns-2 c = sym (digits-long _ (c .if2 .taken))
 
-loop-holds : tie.Need-loop-holds Inv-loop μ-loop
-loop-holds c = search needs
-
-shared-slice-read-b : tie.Need-shared-slice-read-b Inv-loop μ-loop
-shared-slice-read-b c = search needs
-
-is-digit-requires : tie.Need-is-digit-requires Inv-loop μ-loop
-is-digit-requires c κs = search needs
-
 returns-3 : tie.Need-returns-3 Inv-loop μ-loop
 returns-3 c =
     let l = c .before .before .before .before .loop in
     let x = c .before .before .before .before .before .before .before .before .args in
     let e : isDigit (getD (x .s .now) (l .i) 0) ≡ false = sym (c .before .is-digit .ensures) ∙ not-true _ (c .if3 .taken) in
-    sym (digits-start (x .s .now) (omega arith) (omega arith) ∙ l .inv .1 .1 ∙ digit-not (x .s .now) (l .i) (c .before .before .before .loop-test .taken) (l .n) e)
+    sym (digits-start (x .s .now) (omega arith) (omega arith) ∙ l .inv .1 .1 ∙ digit-not (x .s .now) (l .i)
+    (c .before .before .before .loop-test .taken) (l .n) e)
 
 -- the byte at i, which was a digit
 abbrev byte : tie.Else3 Inv-loop μ-loop → ℕ
@@ -53,9 +45,6 @@ range c = digit-value (byte c) (is c)
 mul-n : tie.Need-mul-n Inv-loop μ-loop
 mul-n c = let l = c .before .before .before .before .loop in omega (arith, below (l .n) (l .i) (l .inv .1 .0) (omega arith))
 
-wide-requires : tie.Need-wide-requires Inv-loop μ-loop
-wide-requires c κs = search needs
-
 sub-n : tie.Need-sub-n Inv-loop μ-loop
 sub-n c = omega (arith, range (c .before))
 
@@ -63,12 +52,6 @@ add-n : tie.Need-add-n Inv-loop μ-loop
 add-n c =
     let l = c .before .before .before .before .before .loop in
     omega (arith, range (c .before), below (l .n) (l .i) (l .inv .1 .0) (omega arith))
-
-add-i : tie.Need-add-i Inv-loop μ-loop
-add-i c = search needs
-
-loop-less : tie.Need-loop-less Inv-loop μ-loop
-loop-less c = search needs
 
 loop-again : tie.Need-loop-again Inv-loop μ-loop
 loop-again c =
@@ -78,7 +61,8 @@ loop-again c =
       search needs,
       (
         grow _ _ _ (l .inv .1 .0) (omega (arith, range (c .before))),
-        rw e (l .inv .1 .1 ∙ digit-on (x .s .now) (l .i) (c .before .before .before .before .loop-test .taken) (l .n) (is (c .before))),
+        rw e (l .inv .1 .1 ∙ digit-on (x .s .now) (l .i) (c .before .before .before .before .loop-test .taken) (l .n)
+            (is (c .before))),
       ),
     )
 
@@ -86,25 +70,12 @@ returns-4 : tie.Need-returns-4 Inv-loop μ-loop
 returns-4 c =
     let l = c .before .loop in
     let x = c .before .before .before .before .before .args in
-    sym (digits-start (x .s .now) (omega arith) (omega arith) ∙ l .inv .1 .1 ∙ digits-end (l .n) (x .s .now) (l .i) (c .loop-test .left))
+    sym (digits-start (x .s .now) (omega arith) (omega arith) ∙ l .inv .1 .1 ∙ digits-end (l .n) (x .s .now) (l .i)
+    (c .loop-test .left))
 
 pub digits-spec : {M : Type 1} → statement M
 digits-spec =
     tie.close
-    (tie.spec
-    Inv-loop
-    μ-loop
-    returns
-    returns-2
-    loop-holds
-    shared-slice-read-b
-    is-digit-requires
-    returns-3
-    mul-n
-    wide-requires
-    sub-n
-    add-n
-    add-i
-    loop-less
-    loop-again
+    (tie.spec Inv-loop μ-loop returns returns-2 (λ c. search needs) (λ c. search needs) (λ c κs. search needs)
+    returns-3 mul-n (λ c κs. search needs) sub-n add-n (λ c. search needs) (λ c. search needs) loop-again
     returns-4)

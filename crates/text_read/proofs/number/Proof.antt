@@ -10,39 +10,17 @@ use Rattle.text_read.proofs.Fields.{digits-small, number-none, number-m
 use Rattle.text_read.proofs.number.Statement.{statement}
 use Rattle.text_read.proofs.number.Tie as tie
 
-until-requires : tie.Need-until-requires
-until-requires c κs = search needs
-
 returns : tie.Need-returns
 returns c = sym (number-none _ _ (c .before .until .ensures .0) (c .if1 .taken))
 
-shared-slice-read-if2 : tie.Need-shared-slice-read-if2
-shared-slice-read-if2 c = omega arith
-
-sub-digits : tie.Need-sub-digits
-sub-digits c = search needs
-
-part-digits-start : tie.Need-part-digits-start
-part-digits-start c = search needs
-
-part-digits-end : tie.Need-part-digits-end
-part-digits-end c = omega arith
-
-digits-requires : tie.Need-digits-requires
-digits-requires c κs = search needs
-
-enum-known-n : tie.Need-enum-known-n
-enum-known-n c = search needs
-
-enum-told : tie.Need-enum-told
-enum-told c = search needs
-
 -- after the minus
-below-zero : (c : tie.After-digits) → readNumber (c .before .before .before .before .before .before .before .args .s .now) ≡ minusOf (c .digits .result)
+below-zero : (c : tie.After-digits) → readNumber (c .before .before .before .before .before .before .before .args .s .now)
+    ≡ minusOf (c .digits .result)
 below-zero c =
     let t = c .before .before in
     let k = t .before .before .before .until in
-    number-minus (t .before .before .before .before .before .args .s .now) (k .result) (k .ensures .0) (t .if2 .taken) ∙ ap minusOf (sym (c .digits .ensures))
+    number-minus (t .before .before .before .before .before .args .s .now) (k .result) (k .ensures .0) (t .if2 .taken)
+    ∙ ap minusOf (sym (c .digits .ensures))
 
 returns-2 : tie.Need-returns-2
 returns-2 c = sym (below-zero (c .before .before) ∙ ap minusOf (c .enum-told .given .1))
@@ -65,27 +43,21 @@ returns-3 c =
 slice-aggregate-digits : tie.Need-slice-aggregate-digits
 slice-aggregate-digits c = c .before .before .before .before .until .ensures .1 .1
 
-digits-requires-2 : tie.Need-digits-requires-2
-digits-requires-2 c κs = search needs
-
-enum-known-n-2 : tie.Need-enum-known-n-2
-enum-known-n-2 c = search needs
-
-enum-told-2 : tie.Need-enum-told-2
-enum-told-2 c = search needs
-
 -- with no minus
-above-zero : (c : tie.After-digits2) → readNumber (c .before .before .before .before .before .before .before .args .s .now) ≡ plusOf (c .digits2 .result)
+above-zero : (c : tie.After-digits2) → readNumber (c .before .before .before .before .before .before .before .args .s .now)
+    ≡ plusOf (c .digits2 .result)
 above-zero c =
     let t = c .before .before in
     let k = t .before .before .before .until in
-    number-plus (t .before .before .before .before .before .args .s .now) (k .result) (k .ensures .0) (t .if2 .left) ∙ ap plusOf (sym (c .digits2 .ensures))
+    number-plus (t .before .before .before .before .before .args .s .now) (k .result) (k .ensures .0) (t .if2 .left)
+    ∙ ap plusOf (sym (c .digits2 .ensures))
 
 returns-4 : tie.Need-returns-4
 returns-4 c = sym (above-zero (c .before .before) ∙ ap plusOf (c .enum-told2 .given .1))
 
 small-2 : (c : tie.After-known-told2) → c .before .n2 .given .0 .0 < 1000000000000
-small-2 c = digits-small _ (c .before .n2 .given .0 .0) (sym (c .before .before .before .digits2 .ensures) ∙ c .before .n2 .given .1)
+small-2 c = digits-small _ (c .before .n2 .given .0 .0) (sym (c .before .before .before .digits2 .ensures)
+    ∙ c .before .n2 .given .1)
 
 cast-t18 : tie.Need-cast-t18
 cast-t18 c = count-fits _ (omega (arith, small-2 c))
@@ -99,24 +71,7 @@ returns-5 c =
 pub number-spec : {M : Type 1} → statement M
 number-spec =
     tie.close
-    (tie.spec
-    until-requires
-    returns
-    shared-slice-read-if2
-    sub-digits
-    part-digits-start
-    part-digits-end
-    digits-requires
-    enum-known-n
-    enum-told
-    returns-2
-    cast-t13
-    sub-t14
-    returns-3
-    slice-aggregate-digits
-    digits-requires-2
-    enum-known-n-2
-    enum-told-2
-    returns-4
-    cast-t18
-    returns-5)
+    (tie.spec (λ c κs. search needs) returns (λ c. omega arith) (λ c. search needs) (λ c. search needs)
+    (λ c. omega arith) (λ c κs. search needs) (λ c. search needs) (λ c. search needs) returns-2 cast-t13
+    sub-t14 returns-3 slice-aggregate-digits (λ c κs. search needs) (λ c. search needs) (λ c. search needs)
+    returns-4 cast-t18 returns-5)

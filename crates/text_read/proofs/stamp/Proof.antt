@@ -7,60 +7,29 @@ use Rattle.text_read.proofs.Fields.{stamp-not, stamp-no-t, stamp-is}
 use Rattle.text_read.proofs.stamp.Statement.{statement}
 use Rattle.text_read.proofs.stamp.Tie as tie
 
-until-requires : tie.Need-until-requires
-until-requires c κs = search needs
-
 returns : tie.Need-returns
 returns c = sym (stamp-not _ (λ e. c .if1 .taken (c .before .until .ensures .0 ∙ e)))
-
-shared-slice-read-if2 : tie.Need-shared-slice-read-if2
-shared-slice-read-if2 c = search needs
 
 returns-2 : tie.Need-returns-2
 returns-2 c =
     let e = c .before .before in
     sym (stamp-no-t (e .before .before .before .args .s .now) (sym (e .before .until .ensures .0) ∙ e .if1 .left) (c .if2 .taken))
 
-triple-requires : tie.Need-triple-requires
-triple-requires c κs = search needs
-
 -- 19 bytes and a T: the date's numbers and the time's decide
-nineteen : (c : tie.After-triple) → let s = c .before .before .before .before .before .before .args .s .now in readStamp s ≡ stampOf (c .triple .result) (tripleOf 2 58 (take 8 (drop 11 s)))
+nineteen : (c : tie.After-triple) → let s = c .before .before .before .before .before .before .args .s .now in
+    readStamp s ≡ stampOf (c .triple .result) (tripleOf 2 58 (take 8 (drop 11 s)))
 nineteen c =
     let t = c .before in
     let e = t .before .before in
     let s = e .before .before .before .args .s .now in
     rw (c .triple .ensures) (stamp-is s (sym (e .before .until .ensures .0) ∙ e .if1 .left) (t .if2 .left))
 
-enum-known-y : tie.Need-enum-known-y
-enum-known-y c = search needs
-
-enum-told : tie.Need-enum-told
-enum-told c = search needs
-
 returns-3 : tie.Need-returns-3
 returns-3 c = sym (nineteen (c .before .before) ∙ rw (c .enum-told .given .1))
 
-sub-triple : tie.Need-sub-triple
-sub-triple c = search needs
-
-part-triple-start : tie.Need-part-triple-start
-part-triple-start c = search needs
-
-part-triple-end : tie.Need-part-triple-end
-part-triple-end c = search needs
-
-triple-requires-2 : tie.Need-triple-requires-2
-triple-requires-2 c κs = search needs
-
-both : (c : tie.After-triple2) → let d = c .before .before .before .before .before in readStamp (d .before .before .before .before .before .before .args .s .now) ≡ stampOf (d .triple .result) (c .triple2 .result)
+both : (c : tie.After-triple2) → let d = c .before .before .before .before .before in
+    readStamp (d .before .before .before .before .before .before .args .s .now) ≡ stampOf (d .triple .result) (c .triple2 .result)
 both c = rw (c .triple2 .ensures) (nineteen (c .before .before .before .before .before))
-
-enum-known-h : tie.Need-enum-known-h
-enum-known-h c = search needs
-
-enum-told-2 : tie.Need-enum-told-2
-enum-told-2 c = search needs
 
 returns-4 : tie.Need-returns-4
 returns-4 c =
@@ -75,20 +44,6 @@ returns-5 c =
 pub stamp-spec : {M : Type 1} → statement M
 stamp-spec =
     tie.close
-    (tie.spec
-    until-requires
-    returns
-    shared-slice-read-if2
-    returns-2
-    triple-requires
-    enum-known-y
-    enum-told
-    returns-3
-    sub-triple
-    part-triple-start
-    part-triple-end
-    triple-requires-2
-    enum-known-h
-    enum-told-2
-    returns-4
-    returns-5)
+    (tie.spec (λ c κs. search needs) returns (λ c. search needs) returns-2 (λ c κs. search needs)
+    (λ c. search needs) (λ c. search needs) returns-3 (λ c. search needs) (λ c. search needs)
+    (λ c. search needs) (λ c κs. search needs) (λ c. search needs) (λ c. search needs) returns-4 returns-5)

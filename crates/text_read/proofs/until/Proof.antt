@@ -16,29 +16,25 @@ Inv-loop s c i₀ i = (i ≤ length s) × (untilOf c s ≡ i + untilOf c (drop i
 abbrev μ-loop : tie.MeasureT-loop
 μ-loop s c i₀ i = length s - i
 
-loop-holds : tie.Need-loop-holds Inv-loop μ-loop
-loop-holds c = search needs
-
-shared-slice-read-if1 : tie.Need-shared-slice-read-if1 Inv-loop μ-loop
-shared-slice-read-if1 c = search needs
-
 returns : tie.Need-returns Inv-loop μ-loop
 returns c =
     let x = c .before .before .before .before .args in
     let i = c .before .before .before .loop .i in
-    let h : i ≤ length (x .s .now) = omega arith in
-    (omega (arith, until-here (x .s .now) i (c .before .before .loop-test .taken) (x .c) (c .if1 .taken)), (h, sym (length-take-le i (x .s .now) h)))
-
-add-i : tie.Need-add-i Inv-loop μ-loop
-add-i c = search needs
-
-loop-less : tie.Need-loop-less Inv-loop μ-loop
-loop-less c = search needs
+    let h : i ≤ length (x .s .now) = omega arith in (
+      omega (arith, until-here (x .s .now) i (c .before .before .loop-test .taken) (x .c) (c .if1 .taken)),
+      (h, sym (length-take-le i (x .s .now) h)),
+    )
 
 loop-again : tie.Need-loop-again Inv-loop μ-loop
 loop-again c =
-    let x = c .before .before .before .before .args in
-    (search needs, omega (arith, until-on (x .s .now) (c .before .before .before .loop .i) (c .before .before .loop-test .taken) (x .c) (c .if1 .left)))
+    let x = c .before .before .before .before .args in (
+      search needs,
+      omega (
+        arith,
+        until-on (x .s .now) (c .before .before .before .loop .i)
+            (c .before .before .loop-test .taken) (x .c) (c .if1 .left),
+      ),
+    )
 
 returns-2 : tie.Need-returns-2 Inv-loop μ-loop
 returns-2 c =
@@ -50,13 +46,5 @@ returns-2 c =
 pub until-spec : {M : Type 1} → statement M
 until-spec =
     tie.close
-    (tie.spec
-    Inv-loop
-    μ-loop
-    loop-holds
-    shared-slice-read-if1
-    returns
-    add-i
-    loop-less
-    loop-again
-    returns-2)
+    (tie.spec Inv-loop μ-loop (λ c. search needs) (λ c. search needs) returns (λ c. search needs)
+    (λ c. search needs) loop-again returns-2)

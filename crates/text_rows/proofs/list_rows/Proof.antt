@@ -18,7 +18,8 @@ use Rattle.text_rows.proofs.list_rows.Tie as tie
 
 abbrev Inv-loop : tie.InvT-loop
 Inv-loop number a l list out₀ n i₀ at₀ out i at =
-    (n ≡ length list / 2) × ((i ≤ n) × ((at ≤ 65 * i) × ((length out ≡ length out₀) × Wrote (ticksText number a l list i) 0 out₀ at out)))
+    (n ≡ length list / 2)
+    × ((i ≤ n) × ((at ≤ 65 * i) × ((length out ≡ length out₀) × Wrote (ticksText number a l list i) 0 out₀ at out)))
 
 abbrev μ-loop : tie.MeasureT-loop
 μ-loop number a l list out₀ n i₀ at₀ out i at = n - i
@@ -26,10 +27,12 @@ abbrev μ-loop : tie.MeasureT-loop
 abbrev listOf : tie.At-loop Inv-loop μ-loop → List ℤ
 listOf c = c .before .before .args .list .now
 
-head-fits : (c : tie.After-t17 Inv-loop μ-loop) → SFits w64 (getD (listOf (c .before .before)) (2 * c .before .before .loop .i) (pos 0))
+head-fits : (c : tie.After-t17 Inv-loop μ-loop) →
+    SFits w64 (getD (listOf (c .before .before)) (2 * c .before .before .loop .i) (pos 0))
 head-fits c = search needs
 
-tail-fits : (c : tie.After-t20 Inv-loop μ-loop) → SFits w64 (getD (listOf (c .before .before .before)) (2 * c .before .before .before .loop .i + 1) (pos 0))
+tail-fits : (c : tie.After-t20 Inv-loop μ-loop) →
+    SFits w64 (getD (listOf (c .before .before .before)) (2 * c .before .before .before .loop .i + 1) (pos 0))
 tail-fits c = search needs
 
 kind-fits : (c : tie.At-loop Inv-loop μ-loop) → SFits w64 (c .before .before .args .a .kind)
@@ -37,27 +40,6 @@ kind-fits c = search needs
 
 loop-holds : tie.Need-loop-holds Inv-loop μ-loop
 loop-holds c = (search needs, (search needs, (search needs, (search needs, rw (no-ticks _ _ _ _) (nothing _ _)))))
-
-mul-head : tie.Need-mul-head Inv-loop μ-loop
-mul-head c = search needs
-
-add-tail : tie.Need-add-tail Inv-loop μ-loop
-add-tail c = search needs
-
-mul-t15 : tie.Need-mul-t15 Inv-loop μ-loop
-mul-t15 c = search needs
-
-slice-copy-out-t17 : tie.Need-slice-copy-out-t17 Inv-loop μ-loop
-slice-copy-out-t17 c = search needs
-
-mul-t18 : tie.Need-mul-t18 Inv-loop μ-loop
-mul-t18 c = search needs
-
-slice-copy-out-t20 : tie.Need-slice-copy-out-t20 Inv-loop μ-loop
-slice-copy-out-t20 c = search needs
-
-map-requires : tie.Need-map-requires Inv-loop μ-loop
-map-requires c κs = search needs
 
 row-requires : tie.Need-row-requires Inv-loop μ-loop
 row-requires c κs =
@@ -67,12 +49,6 @@ row-requires c κs =
     let w = x .pre .ticks (p .loop .i) (omega arith) in
     (rw (toZ-ofZ (kind-fits p), toZ-ofZ (head-fits (b .before)), toZ-ofZ (tail-fits b)) w, omega (arith, x .pre .most))
 
-add-i : tie.Need-add-i Inv-loop μ-loop
-add-i c = search needs
-
-loop-less : tie.Need-loop-less Inv-loop μ-loop
-loop-less c = search needs
-
 loop-again : tie.Need-loop-again Inv-loop μ-loop
 loop-again c =
     let r = c .before .before in
@@ -81,11 +57,20 @@ loop-again c =
     let p = b .before .before .before in
     let x = p .before .before .args in
     let pixel = rw (toZ-ofZ (head-fits (b .before)), toZ-ofZ (tail-fits b)) at (m .map .ensures) in
-    let row = rw (toZ-ofZ (kind-fits p), toZ-ofZ (head-fits (b .before)), toZ-ofZ (tail-fits b), pixel) at (r .row .ensures .0) in
-    (search needs, (search needs, (search needs, (search needs, rw (one-more (x .number) (x .a) (x .l) (x .list .now) (p .loop .i)) (then (p .loop .inv .1 .1 .1 .1) row)))))
-
-same-length : tie.Need-same-length Inv-loop μ-loop
-same-length c = search needs
+    let row = rw (toZ-ofZ (kind-fits p), toZ-ofZ (head-fits (b .before)), toZ-ofZ (tail-fits b), pixel) at (r .row .ensures .0) in (
+      search needs,
+      (
+        search needs,
+        (
+          search needs,
+          (
+            search needs,
+            rw (one-more (x .number) (x .a) (x .l) (x .list .now) (p .loop .i))
+                (then (p .loop .inv .1 .1 .1 .1) row),
+          ),
+        ),
+      ),
+    )
 
 returns : tie.Need-returns Inv-loop μ-loop
 returns c =
@@ -97,20 +82,6 @@ returns c =
 pub list-rows-spec : {M : Type 1} → statement M
 list-rows-spec =
     tie.close
-    (tie.spec
-    Inv-loop
-    μ-loop
-    loop-holds
-    mul-head
-    add-tail
-    mul-t15
-    slice-copy-out-t17
-    mul-t18
-    slice-copy-out-t20
-    map-requires
-    row-requires
-    add-i
-    loop-less
-    loop-again
-    same-length
-    returns)
+    (tie.spec Inv-loop μ-loop loop-holds (λ c. search needs) (λ c. search needs) (λ c. search needs)
+    (λ c. search needs) (λ c. search needs) (λ c. search needs) (λ c κs. search needs) row-requires
+    (λ c. search needs) (λ c. search needs) loop-again (λ c. search needs) returns)

@@ -10,23 +10,9 @@ use Rattle.text_rows.proofs.request_rows.Statement.{statement}
 use Rattle.text_rows.proofs.request_rows.Tie as tie
 
 -- the count where the list is not refused
-listed : (c : tie.After-enum-told) → ticksAnswer (c .before .before .before .before .before .before .before .args .q .axis) (bold (c .before .before .before .before .before .before .before .args .q .hint)) 8194 ≡ Ticks (c .enum-told .given .0 .0)
+listed : (c : tie.After-enum-told) → ticksAnswer (c .before .before .before .before .before .before .before .args .q .axis)
+    (bold (c .before .before .before .before .before .before .before .args .q .hint)) 8194 ≡ Ticks (c .enum-told .given .0 .0)
 listed c = sym (c .before .before .count-bold .ensures) ∙ c .enum-told .given .1
-
-count-bold-requires : tie.Need-count-bold-requires
-count-bold-requires c κs = search needs
-
-enum-known-n : tie.Need-enum-known-n
-enum-known-n c = search needs
-
-refusal-row-requires : tie.Need-refusal-row-requires
-refusal-row-requires c κs = search needs
-
-enum-told : tie.Need-enum-told
-enum-told c = search needs
-
-key-points-bold-requires : tie.Need-key-points-bold-requires
-key-points-bold-requires c κs = search needs
 
 list-rows-requires : tie.Need-list-rows-requires
 list-rows-requires c κs =
@@ -34,10 +20,8 @@ list-rows-requires c κs =
     let t = k .before .before in
     let x = t .before .before .before .before .before .before .before in
     let e = ap (λ (n : ℕ). ticksAnswer (x .args .q .axis) (bold (x .args .q .hint)) n) (x .pre .0) ∙ listed t in
-    rw (k .key-points-bold .ensures .0) (printable (x .args .q .axis) (x .args .q .hint) (x .args .lent .now) (t .enum-told .given .0 .0) e _ (x .pre .1))
-
-same-length : tie.Need-same-length
-same-length c = search needs
+    rw (k .key-points-bold .ensures .0) (printable (x .args .q .axis) (x .args .q .hint) (x .args .lent .now)
+    (t .enum-told .given .0 .0) e _ (x .pre .1))
 
 returns : tie.Need-returns
 returns c =
@@ -48,33 +32,19 @@ returns c =
     let e = sym (m .count-bold .ensures) ∙ n .n .given .1 in
     (rw (request-refused (x .args .number) (x .args .q) _ e) (r .refusal-row .ensures .0), search needs)
 
-same-length-2 : tie.Need-same-length-2
-same-length-2 c = search needs
-
-same-length-3 : tie.Need-same-length-3
-same-length-3 c = search needs
-
 returns-2 : tie.Need-returns-2
 returns-2 c =
     let r = c .before .before .before in
     let k = r .before .before in
     let t = k .before .before in
     let x = t .before .before .before .before .before .before .before in
-    let e = k .key-points-bold .ensures .0 ∙ ap (λ (n : ℕ). ticksHanded (x .args .q .axis) (bold (x .args .q .hint)) n) (x .pre .0) in
+    let e = k .key-points-bold .ensures .0 ∙ ap (λ (n : ℕ). ticksHanded (x .args .q .axis) (bold (x .args .q .hint)) n)
+    (x .pre .0) in
     (rw (request-listed (x .args .number) (x .args .q) _ (listed t)) (rw e at (r .list-rows .ensures .0)), search needs)
 
 pub request-rows-spec : {M : Type 1} → statement M
 request-rows-spec =
     tie.close
-    (tie.spec
-    count-bold-requires
-    enum-known-n
-    refusal-row-requires
-    enum-told
-    key-points-bold-requires
-    list-rows-requires
-    same-length
-    returns
-    same-length-2
-    same-length-3
-    returns-2)
+    (tie.spec (λ c κs. search needs) (λ c. search needs) (λ c κs. search needs) (λ c. search needs)
+    (λ c κs. search needs) list-rows-requires (λ c. search needs) returns (λ c. search needs)
+    (λ c. search needs) returns-2)

@@ -84,8 +84,11 @@ fixed-returns-2 : (t : ℕ) → fixed-lts.Need-returns-2 (
   byte-reads.Learnt,
 ) (fixed-at t) fixed.Post
 fixed-returns-2 t c =
-    let x = c .before .before .before .before .before .before .before .before .before .before .args in
-    (rw (fixed-more (x .w) (x .n) (c .before .before .before .before .before .before .before .before .if1 .left)) (then (c .before .before .before .before .before .before .fixed .ensures .0) (c .before .before .byte .ensures .0)), search needs)
+    let x = c .before .before .before .before .before .before .before .before .before .before .args in (
+      rw (fixed-more (x .w) (x .n) (c .before .before .before .before .before .before .before .before .if1 .left))
+          (then (c .before .before .before .before .before .before .fixed .ensures .0) (c .before .before .byte .ensures .0)),
+      search needs,
+    )
 
 pub +fixed-spec : {M : Type 1} → statement M
 +fixed-spec = close μ-fixed λ t. fixed-lts.spec (

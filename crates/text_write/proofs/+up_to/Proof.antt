@@ -68,8 +68,11 @@ up-to-returns-2 : (t : ℕ) → up-to-lts.Need-returns-2 (
   up-to.Post,
 ) (up-to-at t) up-to.Post
 up-to-returns-2 t c =
-    let x = c .before .before .before .before .before .before .before .args in
-    (rw (up-to-one (x .k) (x .n) (c .before .before .before .before .before .if1 .left) (c .before .before .before .before .if2 .taken)) (c .before .before .byte .ensures .0), search needs)
+    let x = c .before .before .before .before .before .before .before .args in (
+      rw (up-to-one (x .k) (x .n) (c .before .before .before .before .before .if1 .left)
+          (c .before .before .before .before .if2 .taken)) (c .before .before .byte .ensures .0),
+      search needs,
+    )
 
 up-to-sub-up-to : (t : ℕ) → up-to-lts.Need-sub-up-to (
   byte-reads.Asked,
@@ -126,8 +129,12 @@ up-to-returns-3 : (t : ℕ) → up-to-lts.Need-returns-3 (
   up-to.Post,
 ) (up-to-at t) up-to.Post
 up-to-returns-3 t c =
-    let x = c .before .before .before .before .before .before .before .before .before .before .before .args in
-    (rw (up-to-more (x .k) (x .n) (c .before .before .before .before .before .before .before .before .before .if1 .left) (c .before .before .before .before .before .before .before .before .if2 .left)) (then (c .before .before .before .before .before .before .up-to .ensures .0) (c .before .before .byte2 .ensures .0)), search needs)
+    let x = c .before .before .before .before .before .before .before .before .before .before .before .args in (
+      rw (up-to-more (x .k) (x .n) (c .before .before .before .before .before .before .before .before .before .if1 .left)
+          (c .before .before .before .before .before .before .before .before .if2 .left))
+          (then (c .before .before .before .before .before .before .up-to .ensures .0) (c .before .before .byte2 .ensures .0)),
+      search needs,
+    )
 
 pub +up-to-spec : {M : Type 1} → statement M
 +up-to-spec = close μ-up-to λ t. up-to-lts.spec (

@@ -12,7 +12,8 @@ use Rattle.text_write.proofs.bytes.Statement.{statement}
 use Rattle.text_write.proofs.bytes.Tie as tie
 
 abbrev Inv-loop : tie.InvT-loop
-Inv-loop out₀ at text i₀ p₀ out i p = (i ≤ length text) × ((p ≡ at + i) × ((length out ≡ length out₀) × Wrote (take i text) at out₀ p out))
+Inv-loop out₀ at text i₀ p₀ out i p =
+    (i ≤ length text) × ((p ≡ at + i) × ((length out ≡ length out₀) × Wrote (take i text) at out₀ p out))
 
 abbrev μ-loop : tie.MeasureT-loop
 μ-loop out₀ at text i₀ p₀ out i p = length text - i
@@ -20,28 +21,22 @@ abbrev μ-loop : tie.MeasureT-loop
 loop-holds : tie.Need-loop-holds Inv-loop μ-loop
 loop-holds c = (search needs, (search needs, (search needs, nothing _ _)))
 
-shared-slice-read-byte : tie.Need-shared-slice-read-byte Inv-loop μ-loop
-shared-slice-read-byte c = search needs
-
-byte-requires : tie.Need-byte-requires Inv-loop μ-loop
-byte-requires c κs = search needs
-
-add-i : tie.Need-add-i Inv-loop μ-loop
-add-i c = search needs
-
-loop-less : tie.Need-loop-less Inv-loop μ-loop
-loop-less c = search needs
-
 loop-again : tie.Need-loop-again Inv-loop μ-loop
 loop-again c =
     let b = c .before .before in
     let l = b .before .before .before .before .loop in
     let x = b .before .before .before .before .before .before .before .args in
-    let h : l .i < length (x .text .now) = omega arith in
-    (search needs, (search needs, (search needs, rw (add-one (l .i), take-suc (x .text .now) (l .i) 0 h) (then (l .inv .1 .1 .1) (b .byte .ensures .0)))))
-
-same-length : tie.Need-same-length Inv-loop μ-loop
-same-length c = search needs
+    let h : l .i < length (x .text .now) = omega arith in (
+      search needs,
+      (
+        search needs,
+        (
+          search needs,
+          rw (add-one (l .i), take-suc (x .text .now) (l .i) 0 h)
+              (then (l .inv .1 .1 .1) (b .byte .ensures .0)),
+        ),
+      ),
+    )
 
 returns : tie.Need-returns Inv-loop μ-loop
 returns c =
@@ -52,14 +47,5 @@ returns c =
 pub bytes-spec : {M : Type 1} → statement M
 bytes-spec =
     tie.close
-    (tie.spec
-    Inv-loop
-    μ-loop
-    loop-holds
-    shared-slice-read-byte
-    byte-requires
-    add-i
-    loop-less
-    loop-again
-    same-length
-    returns)
+    (tie.spec Inv-loop μ-loop loop-holds (λ c. search needs) (λ c κs. search needs) (λ c. search needs)
+    (λ c. search needs) loop-again (λ c. search needs) returns)

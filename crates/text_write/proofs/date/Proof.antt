@@ -4,27 +4,6 @@ use Rattle.text_write.proofs.Writing.{then}
 use Rattle.text_write.proofs.date.Statement.{statement}
 use Rattle.text_write.proofs.date.Tie as tie
 
-date-of-requires : tie.Need-date-of-requires
-date-of-requires c κs = search needs
-
-fixed-requires : tie.Need-fixed-requires
-fixed-requires c κs = search needs
-
-byte-requires : tie.Need-byte-requires
-byte-requires c κs = search needs
-
-fixed-requires-2 : tie.Need-fixed-requires-2
-fixed-requires-2 c κs = search needs
-
-byte-requires-2 : tie.Need-byte-requires-2
-byte-requires-2 c κs = search needs
-
-fixed-requires-3 : tie.Need-fixed-requires-3
-fixed-requires-3 c κs = search needs
-
-same-length : tie.Need-same-length
-same-length c = search needs
-
 returns : tie.Need-returns
 returns c =
     let t = c .before .before in
@@ -32,17 +11,14 @@ returns c =
     let r = s .before .before .before .before in
     let q = r .before .before .before .before in
     let p = q .before .before .before .before in
-    rw (← p .before .before .date-of .ensures) (then (then (then (then (p .fixed .ensures .0) (q .byte .ensures .0)) (r .fixed2 .ensures .0)) (s .byte2 .ensures .0)) (t .fixed3 .ensures .0), search needs)
+    rw (← p .before .before .date-of .ensures) (
+      then (then (then (then (p .fixed .ensures .0) (q .byte .ensures .0)) (r .fixed2 .ensures .0)) (s .byte2 .ensures .0))
+          (t .fixed3 .ensures .0),
+      search needs,
+    )
 
 pub date-spec : {M : Type 1} → statement M
 date-spec =
     tie.close
-    (tie.spec
-    date-of-requires
-    fixed-requires
-    byte-requires
-    fixed-requires-2
-    byte-requires-2
-    fixed-requires-3
-    same-length
-    returns)
+    (tie.spec (λ c κs. search needs) (λ c κs. search needs) (λ c κs. search needs) (λ c κs. search needs)
+    (λ c κs. search needs) (λ c κs. search needs) (λ c. search needs) returns)

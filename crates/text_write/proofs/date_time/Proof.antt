@@ -4,18 +4,6 @@ use Rattle.text_write.proofs.Writing.{then}
 use Rattle.text_write.proofs.date_time.Statement.{statement}
 use Rattle.text_write.proofs.date_time.Tie as tie
 
-date-requires : tie.Need-date-requires
-date-requires c κs = search needs
-
-byte-requires : tie.Need-byte-requires
-byte-requires c κs = search needs
-
-time-requires : tie.Need-time-requires
-time-requires c κs = search needs
-
-same-length : tie.Need-same-length
-same-length c = search needs
-
 returns : tie.Need-returns
 returns c =
     let r = c .before .before in
@@ -24,4 +12,6 @@ returns c =
     (then (then (p .date .ensures .0) (q .byte .ensures .0)) (r .time .ensures .0), search needs)
 
 pub date-time-spec : {M : Type 1} → statement M
-date-time-spec = tie.close (tie.spec date-requires byte-requires time-requires same-length returns)
+date-time-spec =
+    tie.close
+    (tie.spec (λ c κs. search needs) (λ c κs. search needs) (λ c κs. search needs) (λ c. search needs) returns)

@@ -4,27 +4,6 @@ use Rattle.text_write.proofs.Writing.{then}
 use Rattle.text_write.proofs.refusal_row.Statement.{statement}
 use Rattle.text_write.proofs.refusal_row.Tie as tie
 
-decimal-requires : tie.Need-decimal-requires
-decimal-requires c κs = search needs
-
-byte-requires : tie.Need-byte-requires
-byte-requires c κs = search needs
-
-byte-requires-2 : tie.Need-byte-requires-2
-byte-requires-2 c κs = search needs
-
-byte-requires-3 : tie.Need-byte-requires-3
-byte-requires-3 c κs = search needs
-
-mark-requires : tie.Need-mark-requires
-mark-requires c κs = search needs
-
-byte-requires-4 : tie.Need-byte-requires-4
-byte-requires-4 c κs = search needs
-
-same-length : tie.Need-same-length
-same-length c = search needs
-
 returns : tie.Need-returns
 returns c =
     let u = c .before .before in
@@ -32,18 +11,14 @@ returns c =
     let s = t .before .before .before .before in
     let r = s .before .before .before .before in
     let q = r .before .before .before .before in
-    let p = q .before .before .before .before in
-    (then (then (then (then (then (p .decimal .ensures .0) (q .byte .ensures .0)) (r .byte2 .ensures .0)) (s .byte3 .ensures .0)) (t .mark .ensures .0)) (u .byte4 .ensures .0), search needs)
+    let p = q .before .before .before .before in (
+      then (then (then (then (then (p .decimal .ensures .0) (q .byte .ensures .0)) (r .byte2 .ensures .0))
+          (s .byte3 .ensures .0)) (t .mark .ensures .0)) (u .byte4 .ensures .0),
+      search needs,
+    )
 
 pub refusal-row-spec : {M : Type 1} → statement M
 refusal-row-spec =
     tie.close
-    (tie.spec
-    decimal-requires
-    byte-requires
-    byte-requires-2
-    byte-requires-3
-    mark-requires
-    byte-requires-4
-    same-length
-    returns)
+    (tie.spec (λ c κs. search needs) (λ c κs. search needs) (λ c κs. search needs) (λ c κs. search needs)
+    (λ c κs. search needs) (λ c κs. search needs) (λ c. search needs) returns)

@@ -24,14 +24,18 @@ less : (c : tie.Then1) → SFits w64 (pos (natAbs (c .before .before .args .n) -
 less c = less-fits _ (is-neg c) (c .before .before .fits .n)
 
 -- what the code computes from n, as a number
-read : (c : tie.Then1) → toZ w64 (ofZ w64 (pos 0 -ℤ toZ w64 (ofZ w64 (toZ w64 (ofZ w64 (c .before .before .args .n)) +ℤ pos 1)))) ≡ pos (natAbs (c .before .before .args .n) - 1)
-read c = let f = c .before .before .fits .n in rw (toZ-ofZ f, toZ-ofZ (up-fits _ (is-neg c) f), neg-up _ (is-neg c)) (toZ-ofZ (less c))
+read : (c : tie.Then1) →
+    toZ w64 (ofZ w64 (pos 0 -ℤ toZ w64 (ofZ w64 (toZ w64 (ofZ w64 (c .before .before .args .n)) +ℤ pos 1))))
+    ≡ pos (natAbs (c .before .before .args .n) - 1)
+read c = let f = c .before .before .fits .n in
+    rw (toZ-ofZ f, toZ-ofZ (up-fits _ (is-neg c) f), neg-up _ (is-neg c)) (toZ-ofZ (less c))
 
 add-m : tie.Need-add-m
 add-m c = let x = c .before .before in rw (toZ-ofZ (x .fits .n)) (up-fits _ (is-neg c) (x .fits .n))
 
 sub-m : tie.Need-sub-m
-sub-m c = let x = c .before .before in rw (toZ-ofZ (x .fits .n), toZ-ofZ (up-fits _ (is-neg c) (x .fits .n)), neg-up _ (is-neg c)) (less c)
+sub-m c = let x = c .before .before in
+    rw (toZ-ofZ (x .fits .n), toZ-ofZ (up-fits _ (is-neg c) (x .fits .n)), neg-up _ (is-neg c)) (less c)
 
 cast-m : tie.Need-cast-m
 cast-m c = rw (read c) (tt, omega (arith, less c .sfits))
@@ -39,48 +43,29 @@ cast-m c = rw (read c) (tt, omega (arith, less c .sfits))
 add-m-2 : tie.Need-add-m-2
 add-m-2 c = rw (read c) (omega (arith, less c .sfits))
 
-byte-requires : tie.Need-byte-requires
-byte-requires c κs = search needs
-
-decimal-requires : tie.Need-decimal-requires
-decimal-requires c κs = search needs
-
-same-length : tie.Need-same-length
-same-length c = search needs
-
 returns : tie.Need-returns
 returns c =
     let n = is-neg (c .before .before .before .before .before .before .before .before) in
-    let e = rw (read (c .before .before .before .before .before .before .before .before), abs-pos _ n) at (c .before .before .decimal .ensures .0) in
+    let e = rw (
+      read (c .before .before .before .before .before .before .before .before),
+      abs-pos _ n,
+    ) at (c .before .before .decimal .ensures .0) in
     (rw (signed-neg _ n) (then (c .before .before .before .before .before .before .byte .ensures .0) e), search needs)
 
 cast-decimal : tie.Need-cast-decimal
-cast-decimal c = let x = c .before .before .before in rw (toZ-ofZ (x .fits .n)) (not-neg (x .args .n) (not-below (c .before)), fits-natAbs tt (x .fits .n))
-
-decimal-requires-2 : tie.Need-decimal-requires-2
-decimal-requires-2 c κs = search needs
-
-same-length-2 : tie.Need-same-length-2
-same-length-2 c = search needs
+cast-decimal c = let x = c .before .before .before in
+    rw (toZ-ofZ (x .fits .n)) (not-neg (x .args .n) (not-below (c .before)), fits-natAbs tt (x .fits .n))
 
 returns-2 : tie.Need-returns-2
 returns-2 c =
-    let x = c .before .before .before .before .before .before in
-    (rw (signed-pos _ (not-below (c .before .before .before .before))) (rw (toZ-ofZ (x .fits .n)) at (c .before .before .decimal2 .ensures .0)), search needs)
+    let x = c .before .before .before .before .before .before in (
+      rw (signed-pos _ (not-below (c .before .before .before .before)))
+          (rw (toZ-ofZ (x .fits .n)) at (c .before .before .decimal2 .ensures .0)),
+      search needs,
+    )
 
 pub signed-spec : {M : Type 1} → statement M
 signed-spec =
     tie.close
-    (tie.spec
-    add-m
-    sub-m
-    cast-m
-    add-m-2
-    byte-requires
-    decimal-requires
-    same-length
-    returns
-    cast-decimal
-    decimal-requires-2
-    same-length-2
-    returns-2)
+    (tie.spec add-m sub-m cast-m add-m-2 (λ c κs. search needs) (λ c κs. search needs) (λ c. search needs)
+    returns cast-decimal (λ c κs. search needs) (λ c. search needs) returns-2)

@@ -32,16 +32,17 @@ durations c = rw (toZ-ofZ (c .before .before .before .fits .kind)) at (c .if2 .l
 
 -- the head is read back from its bits
 day : (c : tie.After-above) → c .above .result ≡ up (c .before .before .before .before .before .args .v .head)
-day c = let f : SFits w64 (c .before .before .before .before .before .args .v .head) = search needs in c .above .ensures ∙ ap up (toZ-ofZ f)
+day c = let f : SFits w64 (c .before .before .before .before .before .args .v .head) = search needs in
+    c .above .ensures ∙ ap up (toZ-ofZ f)
 
 day2 : (c : tie.After-above2) → c .above2 .result ≡ up (c .before .before .before .before .before .before .args .v .head)
-day2 c = let f : SFits w64 (c .before .before .before .before .before .before .args .v .head) = search needs in c .above2 .ensures ∙ ap up (toZ-ofZ f)
+day2 c = let f : SFits w64 (c .before .before .before .before .before .before .args .v .head) = search needs in
+    c .above2 .ensures ∙ ap up (toZ-ofZ f)
 
-nano : (c : tie.After-above3) → c .above3 .result ≡ up (c .before .before .before .before .before .before .before .before .args .v .tail)
-nano c = let f : SFits w64 (c .before .before .before .before .before .before .before .before .args .v .tail) = search needs in c .above3 .ensures ∙ ap up (toZ-ofZ f)
-
-above-requires : tie.Need-above-requires
-above-requires c κs = search needs
+nano : (c : tie.After-above3) →
+    c .above3 .result ≡ up (c .before .before .before .before .before .before .before .before .args .v .tail)
+nano c = let f : SFits w64 (c .before .before .before .before .before .before .before .before .args .v .tail) =
+    search needs in c .above3 .ensures ∙ ap up (toZ-ofZ f)
 
 date-requires : tie.Need-date-requires
 date-requires c κs =
@@ -49,19 +50,10 @@ date-requires c κs =
     let h = head-day (x .args .kind) (x .args .v) (x .pre .0) (six (x .args .kind) (dates (c .before .before .before))) in
     (omega (arith, day c), search needs)
 
-same-length : tie.Need-same-length
-same-length c = search needs
-
 returns : tie.Need-returns
 returns c =
     let d = c .before .before in
     (rw (tick-date _ _ (dates (d .before .before .before .before)), ← day (d .before)) (d .date .ensures .0), search needs)
-
-above-requires-2 : tie.Need-above-requires-2
-above-requires-2 c κs = search needs
-
-above-requires-3 : tie.Need-above-requires-3
-above-requires-3 c κs = search needs
 
 date-time-requires : tie.Need-date-time-requires
 date-time-requires c κs =
@@ -70,20 +62,14 @@ date-time-requires c κs =
     let h = head-day (x .args .kind) (x .args .v) (x .pre .0) (date-times e) in
     (omega (arith, day2 (c .before .before)), search needs)
 
-same-length-2 : tie.Need-same-length-2
-same-length-2 c = search needs
-
 returns-2 : tie.Need-returns-2
 returns-2 c =
     let d = c .before .before in
-    let e = d .before .before .before .before .before .before in
-    (rw (tick-date-time _ _ (no-dates (e .before)) (date-times e), ← day2 (d .before .before .before), ← nano (d .before)) (d .date-time .ensures .0), search needs)
-
-signed-requires : tie.Need-signed-requires
-signed-requires c κs = search needs
-
-same-length-3 : tie.Need-same-length-3
-same-length-3 c = search needs
+    let e = d .before .before .before .before .before .before in (
+      rw (tick-date-time _ _ (no-dates (e .before)) (date-times e), ← day2 (d .before .before .before), ← nano (d .before))
+          (d .date-time .ensures .0),
+      search needs,
+    )
 
 returns-3 : tie.Need-returns-3
 returns-3 c =
@@ -95,16 +81,6 @@ returns-3 c =
 pub tick-spec : {M : Type 1} → statement M
 tick-spec =
     tie.close
-    (tie.spec
-    above-requires
-    date-requires
-    same-length
-    returns
-    above-requires-2
-    above-requires-3
-    date-time-requires
-    same-length-2
-    returns-2
-    signed-requires
-    same-length-3
-    returns-3)
+    (tie.spec (λ c κs. search needs) date-requires (λ c. search needs) returns (λ c κs. search needs)
+    (λ c κs. search needs) date-time-requires (λ c. search needs) returns-2 (λ c κs. search needs)
+    (λ c. search needs) returns-3)

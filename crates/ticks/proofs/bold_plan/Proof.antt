@@ -20,7 +20,9 @@ counted : (c : tie.After-count) → c .count .result ≡ up (c .before .before .
 counted c = c .count .ensures ∙ ap up (toZ-ofZ (limit-fits (c .before .before)))
 
 count-requires : tie.Need-count-requires
-count-requires c κs = let x = c .before in rw (toZ-ofZ (limit-fits x)) (is-ge (x .args .h .n) (pos 0) (omega (arith, bold-accepted (x .args .a) (x .args .h) (x .pre) .1)))
+count-requires c κs = let x = c .before in
+    rw (toZ-ofZ (limit-fits x))
+    (is-ge (x .args .h .n) (pos 0) (omega (arith, bold-accepted (x .args .a) (x .args .h) (x .pre) .1)))
 
 plan-of-requires : tie.Need-plan-of-requires
 plan-of-requires c κs = let x = c .before .before in rw (counted c) (bold-accepted (x .args .a) (x .args .h) (x .pre) .0)

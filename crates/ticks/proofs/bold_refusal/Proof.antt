@@ -3,18 +3,10 @@ use borrow.Author.Needs.{needs}
 use Rattle.ticks.proofs.bold_refusal.Statement.{statement}
 use Rattle.ticks.proofs.bold_refusal.Tie as tie
 
-axis-refusal-requires : tie.Need-axis-refusal-requires
-axis-refusal-requires c κs = search needs
-
-bold-hint-requires : tie.Need-bold-hint-requires
-bold-hint-requires c κs = search needs
-
-ask-requires : tie.Need-ask-requires
-ask-requires c κs = search needs
-
 returns : tie.Need-returns
 returns c = cc
 
 pub bold-refusal-spec : {M : Type 1} → statement M
 bold-refusal-spec =
-    tie.close (tie.spec axis-refusal-requires bold-hint-requires ask-requires returns)
+    tie.close
+    (tie.spec (λ c κs. search needs) (λ c κs. search needs) (λ c κs. search needs) returns)

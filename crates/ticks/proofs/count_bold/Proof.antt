@@ -13,24 +13,22 @@ use Rattle.ticks.proofs.count_bold.Tie as tie
 none : (c : tie.Else1) → firstNo (tickQuestions (c .before .before .args .a) (bold (c .before .before .args .h))) ≡ 0
 none c = sym (c .before .bold-refusal .ensures) ∙ c .if1 .left
 
-bold-refusal-requires : tie.Need-bold-refusal-requires
-bold-refusal-requires c κs = search needs
-
 returns : tie.Need-returns
-returns c = let x = c .before .before .args in refused (x .a) (bold (x .h)) (c .before .bold-refusal .result) (c .before .bold-refusal .ensures) (c .if1 .taken) (x .lent-len)
+returns c = let x = c .before .before .args in
+    refused (x .a) (bold (x .h)) (c .before .bold-refusal .result) (c .before .bold-refusal .ensures) (c .if1 .taken)
+    (x .lent-len)
 
 bold-plan-requires : tie.Need-bold-plan-requires
 bold-plan-requires c κs = none c
-
-count-requires : tie.Need-count-requires
-count-requires c κs = search needs
 
 returns-2 : tie.Need-returns-2
 returns-2 c =
     let p = c .before in
     let x = p .before .before .before .args in
-    c .count .ensures ∙ (ap (λ (s : Steps). listedOf s (x .lent-len)) (p .bold-plan .ensures) ∙ asked (x .a) (bold (x .h)) (none (p .before)) (x .lent-len))
+    c .count .ensures ∙ (ap (λ (s : Steps). listedOf s (x .lent-len)) (p .bold-plan .ensures) ∙ asked (x .a) (bold (x .h))
+    (none (p .before)) (x .lent-len))
 
 pub count-bold-spec : {M : Type 1} → statement M
 count-bold-spec =
-    tie.close (tie.spec bold-refusal-requires returns bold-plan-requires count-requires returns-2)
+    tie.close
+    (tie.spec (λ c κs. search needs) returns bold-plan-requires (λ c κs. search needs) returns-2)

@@ -13,25 +13,22 @@ use Rattle.ticks.proofs.count_light.Tie as tie
 none : (c : tie.Else1) → firstNo (tickQuestions (c .before .before .args .a) (light (c .before .before .args .h))) ≡ 0
 none c = sym (c .before .light-refusal .ensures) ∙ c .if1 .left
 
-light-refusal-requires : tie.Need-light-refusal-requires
-light-refusal-requires c κs = search needs
-
 returns : tie.Need-returns
-returns c = let x = c .before .before .args in refused (x .a) (light (x .h)) (c .before .light-refusal .result) (c .before .light-refusal .ensures) (c .if1 .taken) (x .lent-len)
+returns c = let x = c .before .before .args in
+    refused (x .a) (light (x .h)) (c .before .light-refusal .result) (c .before .light-refusal .ensures) (c .if1 .taken)
+    (x .lent-len)
 
 light-plan-requires : tie.Need-light-plan-requires
 light-plan-requires c κs = none c
-
-count-requires : tie.Need-count-requires
-count-requires c κs = search needs
 
 returns-2 : tie.Need-returns-2
 returns-2 c =
     let p = c .before in
     let x = p .before .before .before .args in
-    c .count .ensures ∙ (ap (λ (s : Steps). listedOf s (x .lent-len)) (p .light-plan .ensures) ∙ asked (x .a) (light (x .h)) (none (p .before)) (x .lent-len))
+    c .count .ensures ∙ (ap (λ (s : Steps). listedOf s (x .lent-len)) (p .light-plan .ensures) ∙ asked (x .a) (light (x .h))
+    (none (p .before)) (x .lent-len))
 
 pub count-light-spec : {M : Type 1} → statement M
 count-light-spec =
     tie.close
-    (tie.spec light-refusal-requires returns light-plan-requires count-requires returns-2)
+    (tie.spec (λ c κs. search needs) returns light-plan-requires (λ c κs. search needs) returns-2)

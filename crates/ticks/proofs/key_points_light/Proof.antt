@@ -12,17 +12,13 @@ use Rattle.ticks.proofs.Answers.{in-lent, handed-is}
 use Rattle.ticks.proofs.key_points_light.Statement.{statement}
 use Rattle.ticks.proofs.key_points_light.Tie as tie
 
-counted : (c : tie.After-count-of) → let x = c .before .before .before .before in c .count-of .result ≡ countOf (ticksAnswer (x .args .a) (light (x .args .h)) (length (x .args .lent .now)))
+counted : (c : tie.After-count-of) → let x = c .before .before .before .before in
+    c .count-of .result ≡ countOf (ticksAnswer (x .args .a) (light (x .args .h)) (length (x .args .lent .now)))
 counted c = c .count-of .ensures ∙ ap countOf (c .before .before .list-light .ensures .0)
 
 fits : (c : tie.After-count-of) → 2 * c .count-of .result ≤ length (c .before .before .before .before .args .lent .now)
-fits c = let x = c .before .before .before .before in rw (counted c) (in-lent (x .args .a) (light (x .args .h)) (x .args .lent .now))
-
-list-light-requires : tie.Need-list-light-requires
-list-light-requires c κs = search needs
-
-count-of-requires : tie.Need-count-of-requires
-count-of-requires c κs = search needs
+fits c = let x = c .before .before .before .before in
+    rw (counted c) (in-lent (x .args .a) (light (x .args .h)) (x .args .lent .now))
 
 mul-k : tie.Need-mul-k
 mul-k c = omega (arith, fits c)
@@ -45,4 +41,5 @@ returns c =
 
 pub key-points-light-spec : {M : Type 1} → statement M
 key-points-light-spec =
-    tie.close (tie.spec list-light-requires count-of-requires mul-k slice-aggregate-result returns)
+    tie.close
+    (tie.spec (λ c κs. search needs) (λ c κs. search needs) mul-k slice-aggregate-result returns)

@@ -15,23 +15,20 @@ use Rattle.ticks.proofs.list_bold.Tie as tie
 none : (c : tie.Else1) → firstNo (tickQuestions (c .before .before .args .a) (bold (c .before .before .args .h))) ≡ 0
 none c = sym (c .before .bold-refusal .ensures) ∙ c .if1 .left
 
-bold-refusal-requires : tie.Need-bold-refusal-requires
-bold-refusal-requires c κs = search needs
-
 returns : tie.Need-returns
 returns c =
     let x = c .before .before .args in
-    let r = c .before .bold-refusal in
-    (refused (x .a) (bold (x .h)) (r .result) (r .ensures) (c .if1 .taken) (length (x .lent .now)), unwritten (x .a) (bold (x .h)) (r .result) (r .ensures) (c .if1 .taken) (x .lent .now))
+    let r = c .before .bold-refusal in (
+      refused (x .a) (bold (x .h)) (r .result) (r .ensures) (c .if1 .taken) (length (x .lent .now)),
+      unwritten (x .a) (bold (x .h)) (r .result) (r .ensures) (c .if1 .taken) (x .lent .now),
+    )
 
 bold-plan-requires : tie.Need-bold-plan-requires
 bold-plan-requires c κs = none c
 
 list-requires : tie.Need-list-requires
-list-requires c κs = let p = c .before in let x = p .before .before .before .args in rw (p .bold-plan .ensures) (plan-sound (x .a) (bold (x .h)) (none (p .before)))
-
-same-length : tie.Need-same-length
-same-length c = search needs
+list-requires c κs = let p = c .before in let x = p .before .before .before .args in
+    rw (p .bold-plan .ensures) (plan-sound (x .a) (bold (x .h)) (none (p .before)))
 
 returns-2 : tie.Need-returns-2
 returns-2 c =
@@ -40,11 +37,12 @@ returns-2 c =
     let x = p .before .before .before .args in
     let z = none (p .before) in
     let d = x .lent .now in (
-      l .list .ensures .0 ∙ (ap (λ (s : Steps). listedOf s (length d)) (p .bold-plan .ensures) ∙ asked (x .a) (bold (x .h)) z (length d)),
+      l .list .ensures .0 ∙ (ap (λ (s : Steps). listedOf s (length d)) (p .bold-plan .ensures) ∙ asked (x .a) (bold (x .h)) z
+          (length d)),
       l .list .ensures .1 ∙ (ap (λ (s : Steps). after s d) (p .bold-plan .ensures) ∙ listed (x .a) (bold (x .h)) z d),
     )
 
 pub list-bold-spec : {M : Type 1} → statement M
 list-bold-spec =
     tie.close
-    (tie.spec bold-refusal-requires returns bold-plan-requires list-requires same-length returns-2)
+    (tie.spec (λ c κs. search needs) returns bold-plan-requires list-requires (λ c. search needs) returns-2)

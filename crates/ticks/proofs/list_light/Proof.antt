@@ -15,23 +15,20 @@ use Rattle.ticks.proofs.list_light.Tie as tie
 none : (c : tie.Else1) → firstNo (tickQuestions (c .before .before .args .a) (light (c .before .before .args .h))) ≡ 0
 none c = sym (c .before .light-refusal .ensures) ∙ c .if1 .left
 
-light-refusal-requires : tie.Need-light-refusal-requires
-light-refusal-requires c κs = search needs
-
 returns : tie.Need-returns
 returns c =
     let x = c .before .before .args in
-    let r = c .before .light-refusal in
-    (refused (x .a) (light (x .h)) (r .result) (r .ensures) (c .if1 .taken) (length (x .lent .now)), unwritten (x .a) (light (x .h)) (r .result) (r .ensures) (c .if1 .taken) (x .lent .now))
+    let r = c .before .light-refusal in (
+      refused (x .a) (light (x .h)) (r .result) (r .ensures) (c .if1 .taken) (length (x .lent .now)),
+      unwritten (x .a) (light (x .h)) (r .result) (r .ensures) (c .if1 .taken) (x .lent .now),
+    )
 
 light-plan-requires : tie.Need-light-plan-requires
 light-plan-requires c κs = none c
 
 list-requires : tie.Need-list-requires
-list-requires c κs = let p = c .before in let x = p .before .before .before .args in rw (p .light-plan .ensures) (plan-sound (x .a) (light (x .h)) (none (p .before)))
-
-same-length : tie.Need-same-length
-same-length c = search needs
+list-requires c κs = let p = c .before in let x = p .before .before .before .args in
+    rw (p .light-plan .ensures) (plan-sound (x .a) (light (x .h)) (none (p .before)))
 
 returns-2 : tie.Need-returns-2
 returns-2 c =
@@ -40,17 +37,12 @@ returns-2 c =
     let x = p .before .before .before .args in
     let z = none (p .before) in
     let d = x .lent .now in (
-      l .list .ensures .0 ∙ (ap (λ (s : Steps). listedOf s (length d)) (p .light-plan .ensures) ∙ asked (x .a) (light (x .h)) z (length d)),
+      l .list .ensures .0 ∙ (ap (λ (s : Steps). listedOf s (length d)) (p .light-plan .ensures) ∙ asked (x .a) (light (x .h))
+          z (length d)),
       l .list .ensures .1 ∙ (ap (λ (s : Steps). after s d) (p .light-plan .ensures) ∙ listed (x .a) (light (x .h)) z d),
     )
 
 pub list-light-spec : {M : Type 1} → statement M
 list-light-spec =
     tie.close
-    (tie.spec
-    light-refusal-requires
-    returns
-    light-plan-requires
-    list-requires
-    same-length
-    returns-2)
+    (tie.spec (λ c κs. search needs) returns light-plan-requires list-requires (λ c. search needs) returns-2)

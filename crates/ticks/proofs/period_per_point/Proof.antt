@@ -25,17 +25,18 @@ none c = sym (c .before .period-refusal .ensures) ∙ c .if1 .left
 counted : (c : tie.After-count) → c .count .result ≡ up (c .before .before .before .before .args .h .n)
 counted c = c .count .ensures ∙ ap up (toZ-ofZ (limit-fits (c .before .before .before .before)))
 
-period : (c : tie.After-period-in) → c .period-in .result ≡ periodIn (c .before .before .before .before .before .args .a) (up (c .before .before .before .before .before .args .h .n))
+period : (c : tie.After-period-in) → c .period-in .result ≡ periodIn (c .before .before .before .before .before .args .a)
+    (up (c .before .before .before .before .before .args .h .n))
 period c = c .period-in .ensures ∙ ap (periodIn (c .before .before .before .before .before .args .a)) (counted (c .before))
 
-period-refusal-requires : tie.Need-period-refusal-requires
-period-refusal-requires c κs = search needs
-
 returns : tie.Need-returns
-returns c = let x = c .before .before .args in period-refused (x .a) (x .h) (c .before .period-refusal .result) (c .before .period-refusal .ensures) (c .if1 .taken)
+returns c = let x = c .before .before .args in
+    period-refused (x .a) (x .h) (c .before .period-refusal .result) (c .before .period-refusal .ensures) (c .if1 .taken)
 
 count-requires : tie.Need-count-requires
-count-requires c κs = let e = c .before in let x = e .before .before in rw (toZ-ofZ (limit-fits x)) (is-ge (x .args .h .n) (pos 0) (omega (arith, period-accepted (x .args .a) (x .args .h) (none e) .2)))
+count-requires c κs = let e = c .before in let x = e .before .before in
+    rw (toZ-ofZ (limit-fits x))
+    (is-ge (x .args .h .n) (pos 0) (omega (arith, period-accepted (x .args .a) (x .args .h) (none e) .2)))
 
 period-in-requires : tie.Need-period-in-requires
 period-in-requires c κs =
@@ -61,10 +62,4 @@ returns-3 c =
 pub period-per-point-spec : {M : Type 1} → statement M
 period-per-point-spec =
     tie.close
-    (tie.spec
-    period-refusal-requires
-    returns
-    count-requires
-    period-in-requires
-    returns-2
-    returns-3)
+    (tie.spec (λ c κs. search needs) returns count-requires period-in-requires returns-2 returns-3)

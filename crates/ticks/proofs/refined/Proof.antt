@@ -28,32 +28,27 @@ end-head-fits c = search needs
 end-tail-fits : (c : tie.Start) → SFits w64 (c .args .a .«end_tail»)
 end-tail-fits c = search needs
 
-tests : (c : tie.After-yearly) → c .before .monthly .result || c .yearly .result ≡ monthly (c .before .before .args .a) || yearly (c .before .before .args .a)
+tests : (c : tie.After-yearly) → c .before .monthly .result || c .yearly .result ≡ monthly (c .before .before .args .a)
+    || yearly (c .before .before .args .a)
 tests c = rw (c .before .monthly .ensures, c .yearly .ensures)
 
 coarse : (c : tie.Else1) → monthly (c .before .before .before .args .a) || yearly (c .before .before .before .args .a) ≡ true
 coarse c = sym (tests (c .before)) ∙ not-false _ (c .if1 .left)
 
-monthly-requires : tie.Need-monthly-requires
-monthly-requires c κs = search needs
-
-yearly-requires : tie.Need-yearly-requires
-yearly-requires c κs = search needs
-
 returns : tie.Need-returns
-returns c = let x = c .before .before .before .args in stays-fine (x .a) (x .bold) (sym (tests (c .before)) ∙ not-true _ (c .if1 .taken))
-
-mul-if2 : tie.Need-mul-if2
-mul-if2 c = search needs
+returns c = let x = c .before .before .before .args in
+    stays-fine (x .a) (x .bold) (sym (tests (c .before)) ∙ not-true _ (c .if1 .taken))
 
 size-requires : tie.Need-size-requires
 size-requires c κs = let x = c .before .before .before in record { real = x .pre .1; days = no-duration (x .args .a) (coarse c) }
 
 returns-2 : tie.Need-returns-2
-returns-2 c = let x = c .before .before .before .before .before .args in stays-coarse (x .a) (x .bold) (omega (arith, c .before .size .ensures))
+returns-2 c = let x = c .before .before .before .before .before .args in
+    stays-coarse (x .a) (x .bold) (omega (arith, c .before .size .ensures))
 
 sub-t9 : tie.Need-sub-t9
-sub-t9 c = let x = c .before .before .before .before .before .before .before in rw (toZ-ofZ (axis-fits x)) (kind-fits (x .args .a) (coarse (c .before .before .before .before)))
+sub-t9 c = let x = c .before .before .before .before .before .before .before in
+    rw (toZ-ofZ (axis-fits x)) (kind-fits (x .args .a) (coarse (c .before .before .before .before)))
 
 returns-3 : tie.Need-returns-3
 returns-3 c =
@@ -61,7 +56,8 @@ returns-3 c =
     let t = e .before .before in
     let x = t .before .before .before in
     let a = x .args .a in
-    let k : toZ w64 (ofZ w64 (toZ w64 (ofZ w64 (a .kind)) -ℤ pos 1)) ≡ a .kind -ℤ pos 1 = rw (toZ-ofZ (axis-fits x)) (toZ-ofZ (kind-fits a (coarse t))) in
+    let k : toZ w64 (ofZ w64 (toZ w64 (ofZ w64 (a .kind)) -ℤ pos 1)) ≡ a .kind -ℤ pos 1 =
+    rw (toZ-ofZ (axis-fits x)) (toZ-ofZ (kind-fits a (coarse t))) in
     let p = toZ-ofZ (start-head-fits x) in
     let q = toZ-ofZ (start-tail-fits x) in
     let r = toZ-ofZ (end-head-fits x) in
@@ -72,12 +68,5 @@ returns-3 c =
 pub refined-spec : {M : Type 1} → statement M
 refined-spec =
     tie.close
-    (tie.spec
-    monthly-requires
-    yearly-requires
-    returns
-    mul-if2
-    size-requires
-    returns-2
-    sub-t9
-    returns-3)
+    (tie.spec (λ c κs. search needs) (λ c κs. search needs) returns (λ c. search needs) size-requires
+    returns-2 sub-t9 returns-3)

@@ -25,23 +25,12 @@ ranges c =
     let t = date-ranges (toDay (x .args .a)) (r .0) (omega arith) in
     rw (last c) (t .0 .1, t .1 .1)
 
-from-day-requires : tie.Need-from-day-requires
-from-day-requires c κs = search needs
-
 date-of-requires : tie.Need-date-of-requires
 date-of-requires c κs = let r = from-range (c .before .args .a) (c .before .pre) in rw (c .from-day .ensures) (r .0, omega arith)
 
-to-day-requires : tie.Need-to-day-requires
-to-day-requires c κs = search needs
-
 date-of-requires-2 : tie.Need-date-of-requires-2
-date-of-requires-2 c κs = let x = c .before .before .before in let r = to-range (x .args .a) (x .pre) in rw (c .to-day .ensures) (r .0, omega arith)
-
-monthly-requires : tie.Need-monthly-requires
-monthly-requires c κs = search needs
-
-less-requires : tie.Need-less-requires
-less-requires c κs = search needs
+date-of-requires-2 c κs = let x = c .before .before .before in let r = to-range (x .args .a) (x .pre) in
+    rw (c .to-day .ensures) (r .0, omega arith)
 
 mul-less : tie.Need-mul-less
 mul-less c = let d = c .before .before .before in omega (arith, c .less .ensures, ranges d)
@@ -51,9 +40,6 @@ add-less c = let d = c .before .before .before .before in omega (arith, c .befor
 
 add-less-2 : tie.Need-add-less-2
 add-less-2 c = let d = c .before .before .before .before in omega (arith, c .before .less .ensures, ranges d)
-
-less-requires-2 : tie.Need-less-requires-2
-less-requires-2 c κs = search needs
 
 returns : tie.Need-returns
 unfolding size
@@ -67,9 +53,6 @@ returns c =
 add-less-3 : tie.Need-add-less-3
 add-less-3 c = let d = c .before .before .before in omega (arith, ranges d)
 
-less-requires-3 : tie.Need-less-requires-3
-less-requires-3 c κs = search needs
-
 returns-2 : tie.Need-returns-2
 unfolding size
 returns-2 c =
@@ -81,18 +64,6 @@ returns-2 c =
 pub size-spec : {M : Type 1} → statement M
 size-spec =
     tie.close
-    (tie.spec
-    from-day-requires
-    date-of-requires
-    to-day-requires
-    date-of-requires-2
-    monthly-requires
-    less-requires
-    mul-less
-    add-less
-    add-less-2
-    less-requires-2
-    returns
-    add-less-3
-    less-requires-3
-    returns-2)
+    (tie.spec (λ c κs. search needs) date-of-requires (λ c κs. search needs) date-of-requires-2
+    (λ c κs. search needs) (λ c κs. search needs) mul-less add-less add-less-2 (λ c κs. search needs) returns
+    add-less-3 (λ c κs. search needs) returns-2)

@@ -15,24 +15,6 @@ use borrow.Author.Needs.{needs}
 use Rattle.unmapping.proofs.by_days.Statement.{statement}
 use Rattle.unmapping.proofs.by_days.Tie as tie
 
-from-i64-requires : tie.Need-from-i64-requires
-from-i64-requires c κs = search needs
-
-from-i64-requires-2 : tie.Need-from-i64-requires-2
-from-i64-requires-2 c κs = search needs
-
-from-i64-requires-3 : tie.Need-from-i64-requires-3
-from-i64-requires-3 c κs = search needs
-
-to-i64-requires : tie.Need-to-i64-requires
-to-i64-requires c κs = search needs
-
-size-of-requires : tie.Need-size-of-requires
-size-of-requires c κs = search needs
-
-days-away-requires : tie.Need-days-away-requires
-days-away-requires c κs = search needs
-
 pixels-fit : (c : tie.Start) → SFits w64 (c .args .o .pixels)
 pixels-fit c = search needs
 
@@ -40,7 +22,8 @@ width-fits : (c : tie.Start) → SFits w64 (c .args .o .width)
 width-fits c = search needs
 
 -- the days, as the code has them
-moved : (c : tie.After-to-i64) → let x = c .before .before .before .before .before .before .args in c .to-i64 .result ≡ daysBy (x .span) (x .o .width) (x .o .pixels)
+moved : (c : tie.After-to-i64) → let x = c .before .before .before .before .before .before .args in
+    c .to-i64 .result ≡ daysBy (x .span) (x .o .width) (x .o .pixels)
 moved c =
     let w = c .before in
     let n = w .before .before in
@@ -69,11 +52,5 @@ returns c =
 pub by-days-spec : {M : Type 1} → statement M
 by-days-spec =
     tie.close
-    (tie.spec
-    from-i64-requires
-    from-i64-requires-2
-    from-i64-requires-3
-    to-i64-requires
-    size-of-requires
-    days-away-requires
-    returns)
+    (tie.spec (λ c κs. search needs) (λ c κs. search needs) (λ c κs. search needs) (λ c κs. search needs)
+    (λ c κs. search needs) (λ c κs. search needs) returns)

@@ -16,12 +16,6 @@ use borrow.Author.Needs.{needs}
 use Rattle.unmapping.proofs.by_nanoseconds.Statement.{statement}
 use Rattle.unmapping.proofs.by_nanoseconds.Tie as tie
 
-size-of-requires : tie.Need-size-of-requires
-size-of-requires c κs = search needs
-
-size-of-requires-2 : tie.Need-size-of-requires-2
-size-of-requires-2 c κs = search needs
-
 pixels-fit : (c : tie.Start) → SFits w64 (c .args .o .pixels)
 pixels-fit c = search needs
 
@@ -44,12 +38,11 @@ size-moved-requires c κs =
       width-some = o .width-some;
       width-most = o .width-most;
       size-most = o .pixels-most;
-      product-fits = product-most (ltZ (x .o .width) (pos 0)) (natAbs (x .o .pixels)) (x .s / natAbs (x .o .width)) (x .s % natAbs (x .o .width)) (s .pre .3);
+      product-fits = product-most (ltZ (x .o .width) (pos 0)) (natAbs (x .o .pixels)) (x .s / natAbs (x .o .width))
+          (x .s % natAbs (x .o .width)) (s .pre .3);
     } in
-    subst (λ (w : ℕ). Moves (x .s) w (c .size-of2 .result)) (sym (wide c)) (subst (λ (n : ℕ). Moves (x .s) (natAbs (x .o .width)) n) (sym (far c)) m)
-
-nanoseconds-away-requires : tie.Need-nanoseconds-away-requires
-nanoseconds-away-requires c κs = search needs
+    subst (λ (w : ℕ). Moves (x .s) w (c .size-of2 .result)) (sym (wide c))
+    (subst (λ (n : ℕ). Moves (x .s) (natAbs (x .o .width)) n) (sym (far c)) m)
 
 returns : tie.Need-returns
 returns c =
@@ -58,19 +51,18 @@ returns c =
     let s = z .before .before .before .before in
     let x = s .args in
     let at = instant (x .day) (x .nano) in
-    let back : unlike (ltZ (toZ w64 (ofZ w64 (x .o .pixels))) (pos 0)) (ltZ (toZ w64 (ofZ w64 (x .o .width))) (pos 0)) ≡ unlike (ltZ (x .o .pixels) (pos 0)) (ltZ (x .o .width) (pos 0)) = (λ i. unlike (ltZ (toZ-ofZ (pixels-fit s) i) (pos 0)) (ltZ (toZ-ofZ (width-fits s) i) (pos 0))) in
-    let sizes : sizeMoved (x .s) (z .before .before .size-of .result) (z .size-of2 .result) ≡ sizeMoved (x .s) (natAbs (x .o .width)) (natAbs (x .o .pixels)) = (λ i. sizeMoved (x .s) (wide z i) (far z i)) in
+    let back : unlike (ltZ (toZ w64 (ofZ w64 (x .o .pixels))) (pos 0)) (ltZ (toZ w64 (ofZ w64 (x .o .width))) (pos 0))
+    ≡ unlike (ltZ (x .o .pixels) (pos 0)) (ltZ (x .o .width) (pos 0)) =
+    (λ i. unlike (ltZ (toZ-ofZ (pixels-fit s) i) (pos 0)) (ltZ (toZ-ofZ (width-fits s) i) (pos 0))) in
+    let sizes : sizeMoved (x .s) (z .before .before .size-of .result) (z .size-of2 .result) ≡ sizeMoved (x .s)
+    (natAbs (x .o .width)) (natAbs (x .o .pixels)) = (λ i. sizeMoved (x .s) (wide z i) (far z i)) in
     let size = k .size-moved .ensures ∙ sizes in
     c .nanoseconds-away .ensures
     ∙ ((λ i. dateTimeAnswer (pos at +ℤ withSign (back i) (size i)))
-    ∙ ap (λ (y : ℤ). dateTimeAnswer (pos at +ℤ y)) (sym (moved-is (x .s) (x .o .width) (x .o .pixels) (s .pre .1 .width-some) (s .pre .3))))
+    ∙ ap (λ (y : ℤ). dateTimeAnswer (pos at +ℤ y))
+    (sym (moved-is (x .s) (x .o .width) (x .o .pixels) (s .pre .1 .width-some) (s .pre .3))))
 
 pub by-nanoseconds-spec : {M : Type 1} → statement M
 by-nanoseconds-spec =
     tie.close
-    (tie.spec
-    size-of-requires
-    size-of-requires-2
-    size-moved-requires
-    nanoseconds-away-requires
-    returns)
+    (tie.spec (λ c κs. search needs) (λ c κs. search needs) size-moved-requires (λ c κs. search needs) returns)

@@ -21,9 +21,6 @@ in-days c =
 cast-t6 : tie.Need-cast-t6
 cast-t6 c = let (h, l) = in-days c in count-fits (c .before .args .day) (omega arith)
 
-cast-t7 : tie.Need-cast-t7
-cast-t7 c = search needs
-
 returns : tie.Need-returns
 returns c =
     let x = c .before .args in
@@ -36,4 +33,4 @@ returns-2 : tie.Need-returns-2
 returns-2 c = answer-none (c .before .args .day) (c .before .args .nano) (c .before .pre) (c .if1 .left)
 
 pub date-time-spec : {M : Type 1} → statement M
-date-time-spec = tie.close (tie.spec cast-t6 cast-t7 returns returns-2)
+date-time-spec = tie.close (tie.spec cast-t6 (λ c. search needs) returns returns-2)

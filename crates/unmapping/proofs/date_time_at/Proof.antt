@@ -24,15 +24,6 @@ use borrow.Author.Needs.{needs}
 use Rattle.unmapping.proofs.date_time_at.Statement.{statement}
 use Rattle.unmapping.proofs.date_time_at.Tie as tie
 
-size-of-requires : tie.Need-size-of-requires
-size-of-requires c κs = search needs
-
-size-of-requires-2 : tie.Need-size-of-requires-2
-size-of-requires-2 c κs = search needs
-
-span-requires : tie.Need-span-requires
-span-requires c κs = search needs
-
 head-fits : (c : tie.Start) → SFits w64 (c .args .a .«start_head»)
 head-fits c = search needs
 
@@ -58,13 +49,12 @@ in-day c =
       nano-most = omega (arith, nano-is c, size-up (s .args .a .«start_tail») (v .tail-dn), v .tail-most);
     }
 
-at : (c : tie.After-size-of2) → let a = c .before .before .before .before .args .a in pos (instant (c .before .before .size-of .result) (c .size-of2 .result)) ≡ nanoseconds (a .kind) (start a)
+at : (c : tie.After-size-of2) → let a = c .before .before .before .before .args .a in
+    pos (instant (c .before .before .size-of .result) (c .size-of2 .result)) ≡ nanoseconds (a .kind) (start a)
 at c =
     let s = c .before .before .before .before in
-    (λ i. pos (instant (day-is (c .before .before) i) (nano-is c i))) ∙ start-is (s .args .a .kind) (start (s .args .a)) (s .pre .0) (first s)
-
-span-days-requires : tie.Need-span-days-requires
-span-days-requires c κs = search needs
+    (λ i. pos (instant (day-is (c .before .before) i) (nano-is c i))) ∙ start-is (s .args .a .kind) (start (s .args .a))
+    (s .pre .0) (first s)
 
 by-days-requires : tie.Need-by-days-requires
 by-days-requires c κs = in-day (c .before .before .before .before)
@@ -77,13 +67,12 @@ returns c =
     let z = n .before in
     let x = z .before .before .before .before .args in
     let days = toZ-ofZ {w = w64} {z = d .span-days .result} (search needs) ∙ d .span-days .ensures in
-    let long : fitsI64 (spanOf (x .a)) ≡ false = sym (answer-fits (spanOf (x .a)) (n .span .result) (n .span .ensures)) ∙ not-true _ (t .if1 .taken) in
+    let long : fitsI64 (spanOf (x .a)) ≡ false = sym (answer-fits (spanOf (x .a)) (n .span .result) (n .span .ensures))
+    ∙ not-true _ (t .if1 .taken) in
     c .by-days .ensures
     ∙ ((λ i. dateTimeAnswer (at z i +ℤ daysBy (days i) (x .o .width) (x .o .pixels) *ℤ pos 86400000000000))
-    ∙ ap (λ (y : ℤ). dateTimeAnswer (nanoseconds (x .a .kind) (start (x .a)) +ℤ y)) (moved-long (spanOf (x .a)) (x .o .width) (x .o .pixels) long))
-
-size-of-requires-3 : tie.Need-size-of-requires-3
-size-of-requires-3 c κs = search needs
+    ∙ ap (λ (y : ℤ). dateTimeAnswer (nanoseconds (x .a .kind) (start (x .a)) +ℤ y)) (moved-long (spanOf (x .a)) (x .o .width)
+    (x .o .pixels) long))
 
 -- a span that fits is its size
 module _ (c : tie.After-size-of3) where
@@ -100,7 +89,8 @@ module _ (c : tie.After-size-of3) where
   value-fits = search needs
 
   span-value : span-at .span .result .value ≡ spanOf a
-  span-value = answer-value (spanOf a) (span-at .span .result) (span-at .span .ensures) (not-false _ (c .before .before .if1 .left))
+  span-value = answer-value (spanOf a) (span-at .span .result) (span-at .span .ensures)
+      (not-false _ (c .before .before .if1 .left))
 
   none-below : dn (spanOf a) ≡ 0
   none-below = let s = before-span .before .before .before .before in span-from-0 a (s .pre .1) (s .pre .2)
@@ -112,16 +102,24 @@ module _ (c : tie.After-size-of3) where
   span-is = ap pos size-is ∙ whole (spanOf a) none-below
 
   span-most : c .size-of3 .result ≤ 9223372036854775807
-  span-most = omega (arith, up-fits (span-at .span .result .value) value-fits, ap up span-value, size-is, size-up (spanOf a) none-below)
-
-product-fits-requires : tie.Need-product-fits-requires
-product-fits-requires c κs = search needs
+  span-most = omega (
+    arith,
+    up-fits (span-at .span .result .value) value-fits,
+    ap up span-value,
+    size-is,
+    size-up (spanOf a)
+        none-below,
+  )
 
 by-nanoseconds-requires : tie.Need-by-nanoseconds-requires
 by-nanoseconds-requires c κs =
     let p = c .before in
-    let z = p .before in
-    (in-day (before-span z), before-span z .before .before .before .before .pre .3, omega (arith, span-most z), sym (p .product-fits .ensures) ∙ c .if2 .taken)
+    let z = p .before in (
+      in-day (before-span z),
+      before-span z .before .before .before .before .pre .3,
+      omega (arith, span-most z),
+      sym (p .product-fits .ensures) ∙ c .if2 .taken,
+    )
 
 returns-2 : tie.Need-returns-2
 returns-2 c =
@@ -131,13 +129,12 @@ returns-2 c =
     let s = before-span z .before .before .before .before in
     let x = s .args in
     let n = z .size-of3 .result in
-    let yes = branch n (x .o .width) (x .o .pixels) (span-most z) (s .pre .3 .width-some) true (sym (p .product-fits .ensures) ∙ t .if2 .taken) in
+    let yes = branch n (x .o .width) (x .o .pixels) (span-most z) (s .pre .3 .width-some) true (sym (p .product-fits .ensures)
+    ∙ t .if2 .taken) in
     c .by-nanoseconds .ensures
     ∙ ((λ i. dateTimeAnswer (at (before-span z) i +ℤ sym yes i))
-    ∙ ap (λ (y : ℤ). dateTimeAnswer (nanoseconds (x .a .kind) (start (x .a)) +ℤ movedBy y (x .o .width) (x .o .pixels))) (span-is z))
-
-span-days-requires-2 : tie.Need-span-days-requires-2
-span-days-requires-2 c κs = search needs
+    ∙ ap (λ (y : ℤ). dateTimeAnswer (nanoseconds (x .a .kind) (start (x .a)) +ℤ movedBy y (x .o .width) (x .o .pixels)))
+    (span-is z))
 
 by-days-requires-2 : tie.Need-by-days-requires-2
 by-days-requires-2 c κs = in-day (before-span (c .before .before .before))
@@ -151,27 +148,19 @@ returns-3 c =
     let s = before-span z .before .before .before .before in
     let x = s .args in
     let n = z .size-of3 .result in
-    let no = branch n (x .o .width) (x .o .pixels) (span-most z) (s .pre .3 .width-some) false (sym (p .product-fits .ensures) ∙ e .if2 .left) in
-    let days = (toZ-ofZ {w = w64} {z = d .span-days2 .result} (search needs) ∙ d .span-days2 .ensures) ∙ ap wholeDays (sym (span-is z)) in
+    let no = branch n (x .o .width) (x .o .pixels) (span-most z) (s .pre .3 .width-some) false (sym (p .product-fits .ensures)
+    ∙ e .if2 .left) in
+    let days = (toZ-ofZ {w = w64} {z = d .span-days2 .result} (search needs) ∙ d .span-days2 .ensures)
+    ∙ ap wholeDays (sym (span-is z)) in
     c .by-days2 .ensures
     ∙ ((λ i. dateTimeAnswer (at (before-span z) i +ℤ daysBy (days i) (x .o .width) (x .o .pixels) *ℤ pos 86400000000000))
     ∙ ((λ i. dateTimeAnswer (nanoseconds (x .a .kind) (start (x .a)) +ℤ sym no i))
-    ∙ ap (λ (y : ℤ). dateTimeAnswer (nanoseconds (x .a .kind) (start (x .a)) +ℤ movedBy y (x .o .width) (x .o .pixels))) (span-is z)))
+    ∙ ap (λ (y : ℤ). dateTimeAnswer (nanoseconds (x .a .kind) (start (x .a)) +ℤ movedBy y (x .o .width) (x .o .pixels)))
+    (span-is z)))
 
 pub date-time-at-spec : {M : Type 1} → statement M
 date-time-at-spec =
     tie.close
-    (tie.spec
-    size-of-requires
-    size-of-requires-2
-    span-requires
-    span-days-requires
-    by-days-requires
-    returns
-    size-of-requires-3
-    product-fits-requires
-    by-nanoseconds-requires
-    returns-2
-    span-days-requires-2
-    by-days-requires-2
-    returns-3)
+    (tie.spec (λ c κs. search needs) (λ c κs. search needs) (λ c κs. search needs) (λ c κs. search needs)
+    by-days-requires returns (λ c κs. search needs) (λ c κs. search needs) by-nanoseconds-requires returns-2
+    (λ c κs. search needs) by-days-requires-2 returns-3)

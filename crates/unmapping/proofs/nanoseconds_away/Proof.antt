@@ -14,18 +14,12 @@ use Rattle.unmapping.proofs.nanoseconds_away.Tie as tie
 whole : (n : ℕ) → instant (n / 86400000000000) (n % 86400000000000) ≡ n
 whole n = omega arith
 
-before-requires : tie.Need-before-requires
-before-requires c κs = search needs
-
 returns : tie.Need-returns
 returns c =
     let x = c .before .before .args in
     c .before2 .ensures
     ∙ (ap (λ (k : ℕ). dateTimeAnswer (pos (instant (x .day) (x .nano)) -ℤ pos k)) (whole (x .n))
     ∙ sym (ap (λ (b : Bool). dateTimeAnswer (pos (instant (x .day) (x .nano)) +ℤ withSign b (x .n))) (c .before .if1 .taken)))
-
-after-requires : tie.Need-after-requires
-after-requires c κs = search needs
 
 returns-2 : tie.Need-returns-2
 returns-2 c =
@@ -35,4 +29,4 @@ returns-2 c =
     ∙ sym (ap (λ (b : Bool). dateTimeAnswer (pos (instant (x .day) (x .nano)) +ℤ withSign b (x .n))) (c .before .if1 .left)))
 
 pub nanoseconds-away-spec : {M : Type 1} → statement M
-nanoseconds-away-spec = tie.close (tie.spec before-requires returns after-requires returns-2)
+nanoseconds-away-spec = tie.close (tie.spec (λ c κs. search needs) returns (λ c κs. search needs) returns-2)

@@ -11,12 +11,6 @@ use borrow.Author.Needs.{needs}
 use Rattle.unmapping.proofs.product_fits.Statement.{statement}
 use Rattle.unmapping.proofs.product_fits.Tie as tie
 
-size-of-requires : tie.Need-size-of-requires
-size-of-requires c κs = search needs
-
-size-of-requires-2 : tie.Need-size-of-requires-2
-size-of-requires-2 c κs = search needs
-
 pixels-fit : (c : tie.Start) → SFits w64 (c .args .o .pixels)
 pixels-fit c = search needs
 
@@ -38,24 +32,17 @@ div-sizes-fit c = some (c .before .before)
 rem-sizes-fit : tie.Need-rem-sizes-fit
 rem-sizes-fit c = some (c .before .before)
 
-sizes-fit-requires : tie.Need-sizes-fit-requires
-sizes-fit-requires c κs = search needs
-
 returns : tie.Need-returns
 returns c =
     let w = c .before .before .before in
     let z = w .before .before in
     let x = z .before .before .args in
-    let below : ltZ (toZ w64 (ofZ w64 (x .o .width))) (pos 0) ≡ ltZ (x .o .width) (pos 0) = ap (λ (y : ℤ). ltZ y (pos 0)) (toZ-ofZ (width-fits (z .before .before))) in
+    let below : ltZ (toZ w64 (ofZ w64 (x .o .width))) (pos 0) ≡ ltZ (x .o .width) (pos 0) =
+    ap (λ (y : ℤ). ltZ y (pos 0)) (toZ-ofZ (width-fits (z .before .before))) in
     c .sizes-fit .ensures ∙ (λ i. sizesFit (below i) (far z i) (x .s / wide w i) (x .s % wide w i))
 
 pub product-fits-spec : {M : Type 1} → statement M
 product-fits-spec =
     tie.close
-    (tie.spec
-    size-of-requires
-    size-of-requires-2
-    div-sizes-fit
-    rem-sizes-fit
-    sizes-fit-requires
+    (tie.spec (λ c κs. search needs) (λ c κs. search needs) div-sizes-fit rem-sizes-fit (λ c κs. search needs)
     returns)

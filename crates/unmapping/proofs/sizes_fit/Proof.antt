@@ -7,11 +7,8 @@ use Rattle.unmapping.proofs.sizes_fit.Tie as tie
 returns : tie.Need-returns
 returns c = let e = eq-eqb _ _ (c .if1 .taken) in rw e
 
-div-most : tie.Need-div-most
-div-most c = search needs
-
 returns-2 : tie.Need-returns-2
 returns-2 c = let e = ne-eqb _ _ (c .if1 .left) in rw e
 
 pub sizes-fit-spec : {M : Type 1} → statement M
-sizes-fit-spec = tie.close (tie.spec returns div-most returns-2)
+sizes-fit-spec = tie.close (tie.spec returns (λ c. search needs) returns-2)

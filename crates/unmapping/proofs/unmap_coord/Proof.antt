@@ -24,7 +24,8 @@ low-fits c = search needs
 high-fits : (c : tie.Start) → SFits w64 (c .args .l .high)
 high-fits c = search needs
 
-page : (c : tie.Start) → (isPixel (c .args .l .low) ≡ true) × (isPixel (c .args .l .high) ≡ true) × (isPixel (c .args .pixel) ≡ true) × (differ (c .args .l) ≡ true)
+page : (c : tie.Start) → (isPixel (c .args .l .low) ≡ true) × (isPixel (c .args .l .high) ≡ true)
+    × (isPixel (c .args .pixel) ≡ true) × (differ (c .args .l) ≡ true)
 page c =
     let (a, p, d) = unmap-parts (c .args .l) (c .args .pixel) (c .pre .page) in
     let (l, h) = limits-are (c .args .l) a in
@@ -42,14 +43,27 @@ sub-t6 c =
     let (l, h, p, d) = page s in
     rw (toZ-ofZ (high-fits s), toZ-ofZ (low-fits s)) (between-fits (s .args .l .high) (s .args .l .low) h l)
 
-on-width : (c : tie.Start) → OnWidth (record { pixels = c .args .pixel -ℤ c .args .l .low; width = c .args .l .high -ℤ c .args .l .low })
+on-width : (c : tie.Start) → OnWidth (record {
+  pixels = c .args .pixel -ℤ c .args .l .low;
+  width =
+      c .args .l .high -ℤ c .args .l .low;
+})
 on-width c =
     let (l, h, p, d) = page c in
-    record { pixels-most = between-few (c .args .pixel) (c .args .l .low) p l; width-most = between-few (c .args .l .high) (c .args .l .low) h l; width-some = width-some (c .args .l) d }
+    record {
+      pixels-most = between-few (c .args .pixel) (c .args .l .low) p l;
+      width-most =
+          between-few (c .args .l .high) (c .args .l .low) h l;
+      width-some = width-some (c .args .l) d;
+    }
 
 offset-is : (c : tie.Start) → let x = c .args in
     _≡_ {A = Offset}
-    (record { pixels = toZ w64 (ofZ w64 (toZ w64 (ofZ w64 (x .pixel)) -ℤ toZ w64 (ofZ w64 (x .l .low)))); width = toZ w64 (ofZ w64 (toZ w64 (ofZ w64 (x .l .high)) -ℤ toZ w64 (ofZ w64 (x .l .low)))) })
+    (record {
+      pixels = toZ w64 (ofZ w64 (toZ w64 (ofZ w64 (x .pixel)) -ℤ toZ w64 (ofZ w64 (x .l .low))));
+      width =
+          toZ w64 (ofZ w64 (toZ w64 (ofZ w64 (x .l .high)) -ℤ toZ w64 (ofZ w64 (x .l .low))));
+    })
     (record { pixels = x .pixel -ℤ x .l .low; width = x .l .high -ℤ x .l .low })
 offset-is c =
     let x = c .args in
@@ -68,7 +82,9 @@ unfolding unmapCoord
 returns c =
     let s = c .before .before .before .before .before in
     let a = s .args .a in
-    c .date-time-at .ensures ∙ ap (λ (o : Offset). dateTimeAnswer (nanoseconds (a .kind) (start a) +ℤ movedBy (spanOf a) (o .width) (o .pixels))) (offset-is s)
+    c .date-time-at .ensures
+    ∙ ap (λ (o : Offset). dateTimeAnswer (nanoseconds (a .kind) (start a) +ℤ movedBy (spanOf a) (o .width) (o .pixels)))
+    (offset-is s)
 
 pub unmap-coord-spec : {M : Type 1} → statement M
 unmap-coord-spec = tie.close (tie.spec sub-t5 sub-t6 date-time-at-requires returns)

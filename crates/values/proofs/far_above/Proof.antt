@@ -9,7 +9,8 @@ use mir.Facts.{toZ-ofZ}
 use Rattle.values.specs.declared.Parts.{Parts}
 use Rattle.values.specs.Differences.{nanosecondsOf}
 use Rattle.values.proofs.Fits.{yes, too-high}
-use Rattle.values.proofs.Joining.{InRange, in-range, Above, one-less, carried, heads-high, heads-above, tails-above, above-fits, room-above, over, sum-above}
+use Rattle.values.proofs.Joining.{InRange, in-range, Above, one-less, carried, heads-high, heads-above}
+use Rattle.values.proofs.Joining.{tails-above, above-fits, room-above, over, sum-above}
 use Rattle.values.proofs.far_above.Statement.{statement}
 use Rattle.values.proofs.far_above.Tie as tie
 
@@ -54,27 +55,46 @@ returns c =
 n-above : (c : tie.Else1) → Above (n (c .before .before .before .before .before))
 n-above c =
     let s = c .before .before .before .before .before in
-    heads-above (p s .heads) (p s .unit) (p s .most) (s .pre .0 .known) (s .pre .1) (rw (m-is s, toZ-ofZ (range s .most)) at (c .if1 .left))
+    heads-above (p s .heads) (p s .unit) (p s .most) (s .pre .0 .known) (s .pre .1)
+    (rw (m-is s, toZ-ofZ (range s .most)) at (c .if1 .left))
 
-n-is : (c : tie.Else1) → toZ w64 (ofZ w64 (toZ w64 (ofZ w64 (toZ w64 (ofZ w64 (p (c .before .before .before .before .before) .heads)) -ℤ pos 1)) *ℤ toZ w64 (ofZ w64 (p (c .before .before .before .before .before) .unit)))) ≡ n (c .before .before .before .before .before)
-n-is c = let s = c .before .before .before .before .before in rw (m-is s, toZ-ofZ (range s .unit)) (toZ-ofZ (above-fits (n s) (n-above c)))
+n-is : (c : tie.Else1) →
+    toZ w64 (ofZ w64 (toZ w64 (ofZ w64 (toZ w64 (ofZ w64 (p (c .before .before .before .before .before) .heads)) -ℤ pos 1))
+    *ℤ toZ w64 (ofZ w64 (p (c .before .before .before .before .before) .unit)))) ≡ n (c .before .before .before .before .before)
+n-is c = let s = c .before .before .before .before .before in
+    rw (m-is s, toZ-ofZ (range s .unit)) (toZ-ofZ (above-fits (n s) (n-above c)))
 
 mul-n : tie.Need-mul-n
-mul-n c = let s = c .before .before .before .before .before .before .before in rw (m-is s, toZ-ofZ (range s .unit)) (above-fits (n s) (n-above (c .before .before)))
+mul-n c = let s = c .before .before .before .before .before .before .before in
+    rw (m-is s, toZ-ofZ (range s .unit)) (above-fits (n s) (n-above (c .before .before)))
 
 add-rest : tie.Need-add-rest
-add-rest c = let s = c .before .before .before .before .before .before .before .before .before in rw (toZ-ofZ (range s .tails), toZ-ofZ (range s .unit)) (above-fits (rest s) (rest-above s))
+add-rest c = let s = c .before .before .before .before .before .before .before .before .before in
+    rw (toZ-ofZ (range s .tails), toZ-ofZ (range s .unit)) (above-fits (rest s) (rest-above s))
 
 sub-if2 : tie.Need-sub-if2
-sub-if2 c = let s = c .before .before .before .before .before .before .before .before .before in rw (n-is (c .before .before .before .before)) (room-above (n s) (rest s) (n-above (c .before .before .before .before)))
+sub-if2 c = let s = c .before .before .before .before .before .before .before .before .before in
+    rw (n-is (c .before .before .before .before)) (room-above (n s) (rest s) (n-above (c .before .before .before .before)))
 
 -- the test of what is left above the product
 module _ (c : tie.After-struct-told4) where
-  room-is : toZ w64 (ofZ w64 (pos 9223372036854775807 -ℤ toZ w64 (ofZ w64 (toZ w64 (ofZ w64 (toZ w64 (ofZ w64 (p (c .before .before .before .before .before .before .before .before .before) .heads)) -ℤ pos 1)) *ℤ toZ w64 (ofZ w64 (p (c .before .before .before .before .before .before .before .before .before) .unit)))))) ≡ pos 9223372036854775807 -ℤ n (c .before .before .before .before .before .before .before .before .before)
-  room-is = let s = c .before .before .before .before .before .before .before .before .before in rw (n-is (c .before .before .before .before)) (toZ-ofZ (room-above (n s) (rest s) (n-above (c .before .before .before .before))))
+  room-is : toZ w64 (ofZ w64
+      (pos 9223372036854775807 -ℤ toZ w64
+      (ofZ w64 (toZ w64 (ofZ w64
+      (toZ w64 (ofZ w64 (p (c .before .before .before .before .before .before .before .before .before) .heads)) -ℤ pos 1))
+      *ℤ toZ w64 (ofZ w64 (p (c .before .before .before .before .before .before .before .before .before) .unit))))))
+      ≡ pos 9223372036854775807 -ℤ n (c .before .before .before .before .before .before .before .before .before)
+  room-is = let s = c .before .before .before .before .before .before .before .before .before in
+      rw (n-is (c .before .before .before .before))
+      (toZ-ofZ (room-above (n s) (rest s) (n-above (c .before .before .before .before))))
 
-  same-sum : n (c .before .before .before .before .before .before .before .before .before) +ℤ rest (c .before .before .before .before .before .before .before .before .before) ≡ p (c .before .before .before .before .before .before .before .before .before) .heads *ℤ p (c .before .before .before .before .before .before .before .before .before) .unit +ℤ p (c .before .before .before .before .before .before .before .before .before) .tails
-  same-sum = let s = c .before .before .before .before .before .before .before .before .before in carried (p s .heads) (p s .tails) (p s .unit) (p s .most) (s .pre .0 .known)
+  same-sum : n (c .before .before .before .before .before .before .before .before .before) +ℤ rest
+      (c .before .before .before .before .before .before .before .before .before)
+      ≡ p (c .before .before .before .before .before .before .before .before .before) .heads *ℤ p
+      (c .before .before .before .before .before .before .before .before .before) .unit +ℤ p
+      (c .before .before .before .before .before .before .before .before .before) .tails
+  same-sum = let s = c .before .before .before .before .before .before .before .before .before in
+      carried (p s .heads) (p s .tails) (p s .unit) (p s .most) (s .pre .0 .known)
 
 returns-2 : tie.Need-returns-2
 returns-2 c =
@@ -82,18 +102,22 @@ returns-2 c =
     let e : ltZ (pos 9223372036854775807 -ℤ n s) (rest s) ≡ true = rw (room-is (c .before), rest-is s) at (c .if2 .taken) in
     too-high (n s +ℤ rest s) (over (n s) (rest s) e) ∙ ap nanosecondsOf (same-sum (c .before))
 
-sum-fits : (c : tie.Else2) → SFits w64 (n (c .before .before .before .before .before .before .before .before .before .before) +ℤ rest (c .before .before .before .before .before .before .before .before .before .before))
+sum-fits : (c : tie.Else2) → SFits w64 (n (c .before .before .before .before .before .before .before .before .before .before)
+    +ℤ rest (c .before .before .before .before .before .before .before .before .before .before))
 sum-fits c =
     let s = c .before .before .before .before .before .before .before .before .before .before in
-    sum-above (n s) (rest s) (n-above (c .before .before .before .before .before)) (rest-above s) (rw (room-is (c .before), rest-is s) at (c .if2 .left))
+    sum-above (n s) (rest s) (n-above (c .before .before .before .before .before)) (rest-above s)
+    (rw (room-is (c .before), rest-is s) at (c .if2 .left))
 
 add-t6 : tie.Need-add-t6
-add-t6 c = let s = c .before .before .before .before .before .before .before .before .before .before in rw (n-is (c .before .before .before .before .before), rest-is s) (sum-fits c)
+add-t6 c = let s = c .before .before .before .before .before .before .before .before .before .before in
+    rw (n-is (c .before .before .before .before .before), rest-is s) (sum-fits c)
 
 returns-3 : tie.Need-returns-3
 returns-3 c =
     let s = c .before .before .before .before .before .before .before .before .before .before in
-    rw (n-is (c .before .before .before .before .before), rest-is s, toZ-ofZ (sum-fits c)) (yes (n s +ℤ rest s) (sum-fits c) ∙ ap nanosecondsOf (same-sum (c .before)))
+    rw (n-is (c .before .before .before .before .before), rest-is s, toZ-ofZ (sum-fits c)) (yes (n s +ℤ rest s) (sum-fits c)
+    ∙ ap nanosecondsOf (same-sum (c .before)))
 
 pub far-above-spec : {M : Type 1} → statement M
 far-above-spec =

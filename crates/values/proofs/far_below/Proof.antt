@@ -9,7 +9,8 @@ use mir.Facts.{toZ-ofZ}
 use Rattle.values.specs.declared.Parts.{Parts}
 use Rattle.values.specs.Differences.{nanosecondsOf}
 use Rattle.values.proofs.Fits.{yes, too-low}
-use Rattle.values.proofs.Joining.{InRange, in-range, Below, one-more, borrowed, heads-low, heads-below, tails-below, below-fits, room-below, under, sum-below, least, least-fits}
+use Rattle.values.proofs.Joining.{InRange, in-range, Below, one-more, borrowed, heads-low, heads-below}
+use Rattle.values.proofs.Joining.{tails-below, below-fits, room-below, under, sum-below, least, least-fits}
 use Rattle.values.proofs.far_below.Statement.{statement}
 use Rattle.values.proofs.far_below.Tie as tie
 
@@ -52,7 +53,8 @@ add-heads : tie.Need-add-heads
 add-heads c = let s = c .before .before in rw (toZ-ofZ (range s .heads)) (m-fits s)
 
 sub-if1 : tie.Need-sub-if1
-sub-if1 c = let s = c .before .before .before .before in rw (toZ-ofZ (range s .most), least (p s .unit) (p s .most) (s .pre .0 .known)) (least-of s)
+sub-if1 c = let s = c .before .before .before .before in
+    rw (toZ-ofZ (range s .most), least (p s .unit) (p s .most) (s .pre .0 .known)) (least-of s)
 
 returns : tie.Need-returns
 returns c =
@@ -65,25 +67,43 @@ n-below c =
     let s = c .before .before .before .before .before in
     heads-below (p s .heads) (p s .unit) (p s .most) (s .pre .0 .known) (s .pre .1) (rw (m-is s, least-is s) at (c .if1 .left))
 
-n-is : (c : tie.Else1) → toZ w64 (ofZ w64 (toZ w64 (ofZ w64 (toZ w64 (ofZ w64 (p (c .before .before .before .before .before) .heads)) +ℤ pos 1)) *ℤ toZ w64 (ofZ w64 (p (c .before .before .before .before .before) .unit)))) ≡ n (c .before .before .before .before .before)
-n-is c = let s = c .before .before .before .before .before in rw (m-is s, toZ-ofZ (range s .unit)) (toZ-ofZ (below-fits (n s) (n-below c)))
+n-is : (c : tie.Else1) →
+    toZ w64 (ofZ w64 (toZ w64 (ofZ w64 (toZ w64 (ofZ w64 (p (c .before .before .before .before .before) .heads)) +ℤ pos 1))
+    *ℤ toZ w64 (ofZ w64 (p (c .before .before .before .before .before) .unit)))) ≡ n (c .before .before .before .before .before)
+n-is c = let s = c .before .before .before .before .before in
+    rw (m-is s, toZ-ofZ (range s .unit)) (toZ-ofZ (below-fits (n s) (n-below c)))
 
 mul-n : tie.Need-mul-n
-mul-n c = let s = c .before .before .before .before .before .before .before in rw (m-is s, toZ-ofZ (range s .unit)) (below-fits (n s) (n-below (c .before .before)))
+mul-n c = let s = c .before .before .before .before .before .before .before in
+    rw (m-is s, toZ-ofZ (range s .unit)) (below-fits (n s) (n-below (c .before .before)))
 
 sub-rest : tie.Need-sub-rest
-sub-rest c = let s = c .before .before .before .before .before .before .before .before .before in rw (toZ-ofZ (range s .tails), toZ-ofZ (range s .unit)) (below-fits (rest s) (rest-below s))
+sub-rest c = let s = c .before .before .before .before .before .before .before .before .before in
+    rw (toZ-ofZ (range s .tails), toZ-ofZ (range s .unit)) (below-fits (rest s) (rest-below s))
 
 sub-if2 : tie.Need-sub-if2
-sub-if2 c = let s = c .before .before .before .before .before .before .before .before .before in rw (n-is (c .before .before .before .before)) (room-below (n s) (rest s) (n-below (c .before .before .before .before)))
+sub-if2 c = let s = c .before .before .before .before .before .before .before .before .before in
+    rw (n-is (c .before .before .before .before)) (room-below (n s) (rest s) (n-below (c .before .before .before .before)))
 
 -- the test of what is left below the product
 module _ (c : tie.After-struct-told4) where
-  room-is : toZ w64 (ofZ w64 (negsuc 9223372036854775807 -ℤ toZ w64 (ofZ w64 (toZ w64 (ofZ w64 (toZ w64 (ofZ w64 (p (c .before .before .before .before .before .before .before .before .before) .heads)) +ℤ pos 1)) *ℤ toZ w64 (ofZ w64 (p (c .before .before .before .before .before .before .before .before .before) .unit)))))) ≡ negsuc 9223372036854775807 -ℤ n (c .before .before .before .before .before .before .before .before .before)
-  room-is = let s = c .before .before .before .before .before .before .before .before .before in rw (n-is (c .before .before .before .before)) (toZ-ofZ (room-below (n s) (rest s) (n-below (c .before .before .before .before))))
+  room-is : toZ w64 (ofZ w64
+      (negsuc 9223372036854775807 -ℤ toZ w64
+      (ofZ w64 (toZ w64 (ofZ w64
+      (toZ w64 (ofZ w64 (p (c .before .before .before .before .before .before .before .before .before) .heads)) +ℤ pos 1))
+      *ℤ toZ w64 (ofZ w64 (p (c .before .before .before .before .before .before .before .before .before) .unit))))))
+      ≡ negsuc 9223372036854775807 -ℤ n (c .before .before .before .before .before .before .before .before .before)
+  room-is = let s = c .before .before .before .before .before .before .before .before .before in
+      rw (n-is (c .before .before .before .before))
+      (toZ-ofZ (room-below (n s) (rest s) (n-below (c .before .before .before .before))))
 
-  same-sum : n (c .before .before .before .before .before .before .before .before .before) +ℤ rest (c .before .before .before .before .before .before .before .before .before) ≡ p (c .before .before .before .before .before .before .before .before .before) .heads *ℤ p (c .before .before .before .before .before .before .before .before .before) .unit +ℤ p (c .before .before .before .before .before .before .before .before .before) .tails
-  same-sum = let s = c .before .before .before .before .before .before .before .before .before in borrowed (p s .heads) (p s .tails) (p s .unit) (p s .most) (s .pre .0 .known)
+  same-sum : n (c .before .before .before .before .before .before .before .before .before) +ℤ rest
+      (c .before .before .before .before .before .before .before .before .before)
+      ≡ p (c .before .before .before .before .before .before .before .before .before) .heads *ℤ p
+      (c .before .before .before .before .before .before .before .before .before) .unit +ℤ p
+      (c .before .before .before .before .before .before .before .before .before) .tails
+  same-sum = let s = c .before .before .before .before .before .before .before .before .before in
+      borrowed (p s .heads) (p s .tails) (p s .unit) (p s .most) (s .pre .0 .known)
 
 returns-2 : tie.Need-returns-2
 returns-2 c =
@@ -91,18 +111,22 @@ returns-2 c =
     let e : ltZ (rest s) (negsuc 9223372036854775807 -ℤ n s) ≡ true = rw (room-is (c .before), rest-is s) at (c .if2 .taken) in
     too-low (n s +ℤ rest s) (under (n s) (rest s) e) ∙ ap nanosecondsOf (same-sum (c .before))
 
-sum-fits : (c : tie.Else2) → SFits w64 (n (c .before .before .before .before .before .before .before .before .before .before) +ℤ rest (c .before .before .before .before .before .before .before .before .before .before))
+sum-fits : (c : tie.Else2) → SFits w64 (n (c .before .before .before .before .before .before .before .before .before .before)
+    +ℤ rest (c .before .before .before .before .before .before .before .before .before .before))
 sum-fits c =
     let s = c .before .before .before .before .before .before .before .before .before .before in
-    sum-below (n s) (rest s) (n-below (c .before .before .before .before .before)) (rest-below s) (rw (room-is (c .before), rest-is s) at (c .if2 .left))
+    sum-below (n s) (rest s) (n-below (c .before .before .before .before .before)) (rest-below s)
+    (rw (room-is (c .before), rest-is s) at (c .if2 .left))
 
 add-t5 : tie.Need-add-t5
-add-t5 c = let s = c .before .before .before .before .before .before .before .before .before .before in rw (n-is (c .before .before .before .before .before), rest-is s) (sum-fits c)
+add-t5 c = let s = c .before .before .before .before .before .before .before .before .before .before in
+    rw (n-is (c .before .before .before .before .before), rest-is s) (sum-fits c)
 
 returns-3 : tie.Need-returns-3
 returns-3 c =
     let s = c .before .before .before .before .before .before .before .before .before .before in
-    rw (n-is (c .before .before .before .before .before), rest-is s, toZ-ofZ (sum-fits c)) (yes (n s +ℤ rest s) (sum-fits c) ∙ ap nanosecondsOf (same-sum (c .before)))
+    rw (n-is (c .before .before .before .before .before), rest-is s, toZ-ofZ (sum-fits c)) (yes (n s +ℤ rest s) (sum-fits c)
+    ∙ ap nanosecondsOf (same-sum (c .before)))
 
 pub far-below-spec : {M : Type 1} → statement M
 far-below-spec =

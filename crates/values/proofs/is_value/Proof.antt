@@ -16,23 +16,28 @@ returns : tie.Need-returns
 returns c =
     let s = c .before .before .before .before .before .before .before .before .before in
     let k = toZ-ofZ (s .fits .kind) in
-    let e : leZ (s .args .kind) (pos 3) ≡ true = rw k at (c .before .before .before .before .before .before .before .before .if1 .taken) in
+    let e : leZ (s .args .kind) (pos 3) ≡ true =
+    rw k at (c .before .before .before .before .before .before .before .before .if1 .taken) in
     rw (k, toZ-ofZ (in-range s .head), toZ-ofZ (in-range s .tail)) (sym (of-dates (s .args .kind) (s .args .v) e))
 
 returns-2 : tie.Need-returns-2
 returns-2 c =
     let s = c .before .before .before .before .before .before .before .before .before .before in
     let k = toZ-ofZ (s .fits .kind) in
-    let e : leZ (s .args .kind) (pos 3) ≡ false = rw k at (c .before .before .before .before .before .before .before .before .before .if1 .left) in
-    let f : leZ (s .args .kind) (pos 6) ≡ true = rw k at (c .before .before .before .before .before .before .before .before .if2 .taken) in
+    let e : leZ (s .args .kind) (pos 3) ≡ false =
+    rw k at (c .before .before .before .before .before .before .before .before .before .if1 .left) in
+    let f : leZ (s .args .kind) (pos 6) ≡ true =
+    rw k at (c .before .before .before .before .before .before .before .before .if2 .taken) in
     rw (toZ-ofZ (in-range s .head), toZ-ofZ (in-range s .tail)) (sym (of-date-times (s .args .kind) (s .args .v) e f))
 
 returns-3 : tie.Need-returns-3
 returns-3 c =
     let s = c .before .before .before .before .before .before .before .before .before .before in
     let k = toZ-ofZ (s .fits .kind) in
-    let e : leZ (s .args .kind) (pos 3) ≡ false = rw k at (c .before .before .before .before .before .before .before .before .before .if1 .left) in
-    let f : leZ (s .args .kind) (pos 6) ≡ false = rw k at (c .before .before .before .before .before .before .before .before .if2 .left) in
+    let e : leZ (s .args .kind) (pos 3) ≡ false =
+    rw k at (c .before .before .before .before .before .before .before .before .before .if1 .left) in
+    let f : leZ (s .args .kind) (pos 6) ≡ false =
+    rw k at (c .before .before .before .before .before .before .before .before .if2 .left) in
     rw (k, toZ-ofZ (in-range s .head), toZ-ofZ (in-range s .tail)) (sym (of-durations (s .args .kind) (s .args .v) e f))
 
 pub is-value-spec : {M : Type 1} → statement M

@@ -18,36 +18,39 @@ range : (c : tie.Start) → InRange (c .args .p)
 range c = in-range (c .args .p) (c .pre)
 
 far-above-requires : tie.Need-far-above-requires
-far-above-requires c κs = let s = c .before .before .before in (s .pre, rw (toZ-ofZ (range s .most), toZ-ofZ (range s .heads)) at (c .if1 .taken))
-
-returns : tie.Need-returns
-returns c = search needs
+far-above-requires c κs = let s = c .before .before .before in
+    (s .pre, rw (toZ-ofZ (range s .most), toZ-ofZ (range s .heads)) at (c .if1 .taken))
 
 module _ (c : tie.Start) where
   abbrev p : Parts
   p = c .args .p
 
   least-is : toZ w64 (ofZ w64 (pos 0 -ℤ toZ w64 (ofZ w64 (p .most)))) ≡ negℤ (p .most)
-  least-is = rw (toZ-ofZ (range c .most), least (p .unit) (p .most) (c .pre .known)) (toZ-ofZ (least-fits (p .unit) (p .most) (c .pre .known)))
+  least-is = rw (toZ-ofZ (range c .most), least (p .unit) (p .most) (c .pre .known))
+      (toZ-ofZ (least-fits (p .unit) (p .most) (c .pre .known)))
 
 sub-if2 : tie.Need-sub-if2
-sub-if2 c = let s = c .before .before .before .before .before in rw (toZ-ofZ (range s .most), least (p s .unit) (p s .most) (s .pre .known)) (least-fits (p s .unit) (p s .most) (s .pre .known))
+sub-if2 c = let s = c .before .before .before .before .before in
+    rw (toZ-ofZ (range s .most), least (p s .unit) (p s .most) (s .pre .known))
+    (least-fits (p s .unit) (p s .most) (s .pre .known))
 
 far-below-requires : tie.Need-far-below-requires
-far-below-requires c κs = let s = c .before .before .before .before .before .before .before .before in (s .pre, rw (least-is s, toZ-ofZ (range s .heads)) at (c .if2 .taken))
+far-below-requires c κs = let s = c .before .before .before .before .before .before .before .before in
+    (s .pre, rw (least-is s, toZ-ofZ (range s .heads)) at (c .if2 .taken))
 
-returns-2 : tie.Need-returns-2
-returns-2 c = search needs
-
-both-fit : (c : tie.Else2) → SFits w64 (p (c .before .before .before .before .before .before .before .before) .heads *ℤ p (c .before .before .before .before .before .before .before .before) .unit) × SFits w64 (sum (p (c .before .before .before .before .before .before .before .before)))
+both-fit : (c : tie.Else2) → SFits w64 (p (c .before .before .before .before .before .before .before .before) .heads *ℤ p
+    (c .before .before .before .before .before .before .before .before) .unit)
+    × SFits w64 (sum (p (c .before .before .before .before .before .before .before .before)))
 both-fit c =
     let s = c .before .before .before .before .before .before .before .before in
-    let e : leZ (p s .most) (p s .heads) ≡ false = rw (toZ-ofZ (range s .most), toZ-ofZ (range s .heads)) at (c .before .before .before .before .before .if1 .left) in
+    let e : leZ (p s .most) (p s .heads) ≡ false =
+    rw (toZ-ofZ (range s .most), toZ-ofZ (range s .heads)) at (c .before .before .before .before .before .if1 .left) in
     let f : leZ (p s .heads) (negℤ (p s .most)) ≡ false = rw (least-is s, toZ-ofZ (range s .heads)) at (c .if2 .left) in
     near (p s .heads) (p s .tails) (p s .unit) (p s .most) (s .pre .known) (s .pre .tails-up) (s .pre .tails-dn) e f
 
 mul-t3 : tie.Need-mul-t3
-mul-t3 c = let s = c .before .before .before .before .before .before .before .before .before .before in rw (toZ-ofZ (range s .heads), toZ-ofZ (range s .unit)) (both-fit (c .before .before) .0)
+mul-t3 c = let s = c .before .before .before .before .before .before .before .before .before .before in
+    rw (toZ-ofZ (range s .heads), toZ-ofZ (range s .unit)) (both-fit (c .before .before) .0)
 
 add-t4 : tie.Need-add-t4
 add-t4 c =
@@ -64,12 +67,5 @@ returns-3 c =
 pub joined-spec : {M : Type 1} → statement M
 joined-spec =
     tie.close
-    (tie.spec
-    far-above-requires
-    returns
-    sub-if2
-    far-below-requires
-    returns-2
-    mul-t3
-    add-t4
-    returns-3)
+    (tie.spec far-above-requires (λ c. search needs) sub-if2 far-below-requires (λ c. search needs) mul-t3
+    add-t4 returns-3)

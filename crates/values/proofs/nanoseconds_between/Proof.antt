@@ -7,17 +7,12 @@ use Rattle.values.specs.Parts.{Of}
 use Rattle.values.proofs.nanoseconds_between.Statement.{statement}
 use Rattle.values.proofs.nanoseconds_between.Tie as tie
 
-split-requires : tie.Need-split-requires
-split-requires c κs = search needs
-
-joined-requires : tie.Need-joined-requires
-joined-requires c κs = search needs
-
 returns : tie.Need-returns
 returns c =
     let s = c .before .before in
-    let p : Of (s .args .kind) (s .args .a) (s .args .b) (c .before .split .result) = rw (toZ-ofZ (s .fits .kind)) at (c .before .split .ensures) in
+    let p : Of (s .args .kind) (s .args .a) (s .args .b) (c .before .split .result) =
+    rw (toZ-ofZ (s .fits .kind)) at (c .before .split .ensures) in
     c .joined .ensures ∙ ap nanosecondsOf (p .sum-is)
 
 pub nanoseconds-between-spec : {M : Type 1} → statement M
-nanoseconds-between-spec = tie.close (tie.spec split-requires joined-requires returns)
+nanoseconds-between-spec = tie.close (tie.spec (λ c κs. search needs) (λ c κs. search needs) returns)

@@ -15,12 +15,6 @@ use Rattle.values.proofs.Differences.{by-seconds}
 use Rattle.values.proofs.whole_days_between.Statement.{statement}
 use Rattle.values.proofs.whole_days_between.Tie as tie
 
-split-requires : tie.Need-split-requires
-split-requires c κs = search needs
-
-whole-requires : tie.Need-whole-requires
-whole-requires c κs = search needs
-
 module _ (c : tie.After-whole) where
   abbrev exact : ℤ
   exact = difference (c .before .before .args .kind) (c .before .before .args .a) (c .before .before .args .b)
@@ -35,11 +29,9 @@ module _ (c : tie.After-whole) where
   heads-is : c .whole .result ≡ quotZ exact (unit (c .before .before .args .kind))
   heads-is =
       let s = c .before .before in
-      let p : Of (s .args .kind) (s .args .a) (s .args .b) (c .before .split .result) = rw (toZ-ofZ (s .fits .kind)) at (c .before .split .ensures) in
+      let p : Of (s .args .kind) (s .args .a) (s .args .b) (c .before .split .result) =
+      rw (toZ-ofZ (s .fits .kind)) at (c .before .split .ensures) in
       c .whole .ensures ∙ (ap (λ (x : ℤ). quotZ x (c .before .split .result .unit)) (p .sum-is) ∙ ap (quotZ exact) (p .unit-is))
-
-is-duration-requires : tie.Need-is-duration-requires
-is-duration-requires c κs = search needs
 
 asked : (c : tie.After-is-duration) → c .is-duration .result ≡ isDuration (c .before .before .before .args .kind)
 asked c = rw (toZ-ofZ (c .before .before .before .fits .kind)) at (c .is-duration .ensures)
@@ -50,8 +42,10 @@ div-result c = (omega arith, rw (toZ-ofZ (heads-fit (c .before .before))) (days-
 returns : tie.Need-returns
 returns c =
     let e = sym (asked (c .before)) ∙ c .if1 .taken in
-    let h : c .before .before .whole .result ≡ quotZ (exact (c .before .before)) (pos 1000000000) = rw e at (heads-is (c .before .before)) in
-    rw (toZ-ofZ (heads-fit (c .before .before)), toZ-ofZ (days-fit (c .before .before))) (ap (λ (x : ℤ). quotZ x (pos 86400)) h ∙ by-seconds (exact (c .before .before)))
+    let h : c .before .before .whole .result ≡ quotZ (exact (c .before .before)) (pos 1000000000) =
+    rw e at (heads-is (c .before .before)) in
+    rw (toZ-ofZ (heads-fit (c .before .before)), toZ-ofZ (days-fit (c .before .before)))
+    (ap (λ (x : ℤ). quotZ x (pos 86400)) h ∙ by-seconds (exact (c .before .before)))
 
 returns-2 : tie.Need-returns-2
 returns-2 c =
@@ -61,4 +55,5 @@ returns-2 c =
 pub whole-days-between-spec : {M : Type 1} → statement M
 whole-days-between-spec =
     tie.close
-    (tie.spec split-requires whole-requires is-duration-requires div-result returns returns-2)
+    (tie.spec (λ c κs. search needs) (λ c κs. search needs) (λ c κs. search needs) div-result returns
+    returns-2)
