@@ -6,7 +6,7 @@ use Prim.Native.Nat.{_≤_}
 use native.Mathlib.Omega.{arith}
 use lib.IntN.{pos}
 use borrow.Author.Tests.{not-true}
-use Rattle.laws.specs.Numbers.{within, up, dn}
+use Rattle.laws.specs.Numbers.{within, posPart, negPart}
 use Rattle.laws.proofs.Signed.{same}
 use Rattle.laws.proofs.Tests.{both-true}
 use Rattle.values.specs.declared.Value.{Value}
@@ -31,12 +31,12 @@ module _ (a : Axis) (e : ends a ≡ true) where
   with-value v f = record { first = both-ends .first; second = f }
 
   -- and question 4: the span is not below 0
-  pub span-from-0 : inOrder a ≡ true → dn (spanOf a) ≡ 0
+  pub span-from-0 : inOrder a ≡ true → negPart (spanOf a) ≡ 0
   unfolding inOrder spanOf
   span-from-0 o = no-earlier-apart (a .kind) (start a) (end a) both-ends (not-true (earlier (end a) (start a)) o)
 
   -- and start before end: it is above 0
-  pub span-above-0 : earlier (start a) (end a) ≡ true → 1 ≤ up (spanOf a)
+  span-above-0 : earlier (start a) (end a) ≡ true → 1 ≤ posPart (spanOf a)
   unfolding spanOf
   span-above-0 o = later-apart (a .kind) (start a) (end a) both-ends o .1
 
@@ -49,12 +49,3 @@ equal v w e =
     let p : v .head ≡ w .head = same (v .head) (w .head) (omega arith) in
     let q : v .tail ≡ w .tail = same (v .tail) (w .tail) (omega arith) in
     λ i. record { head = p i; tail = q i }
-
--- question 9: the span is above 0, or the offset is 0
-pub mappable-cases : (a : Axis) (v : Value) → ends a ≡ true → mappable a v ≡ true → (1 ≤ up (spanOf a)) ⊎ (offsetOf a v ≡ pos 0)
-unfolding mappable offsetOf
-mappable-cases a v e m =
-    elim (either-true (earlier (start a) (end a)) (equals v (start a)) m) [
-      | inl o ↦ inl (span-above-0 a e o)
-      | inr o ↦ inr (ap (difference (a .kind) (start a)) (equal v (start a) o) ∙ none-apart (a .kind) (start a))
-    ]

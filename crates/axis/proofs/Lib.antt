@@ -1,4 +1,5 @@
 -- What the crate's proofs share, and its callers' may cite.
 pub mod Axes
 pub mod Questions
+pub mod Checked
 pub mod PixelRanges

@@ -7,7 +7,7 @@ use native.Mathlib.Omega.{arith}
 use lib.IntN.{ℤ, pos, negsuc, natAbs, _-ℤ_}
 use mir.Syntax.{w64}
 use mir.Val.{SFits}
-use Rattle.laws.specs.Numbers.{up, dn}
+use Rattle.laws.specs.Numbers.{posPart, negPart}
 use Rattle.laws.proofs.Signed.{sub, fits, same}
 use Rattle.laws.proofs.Tests.{both-true}
 use Rattle.axis.specs.declared.Limits.{Limits}
@@ -18,7 +18,7 @@ pub limits-are : (l : Limits) → pixels l ≡ true → (isPixel (l .low) ≡ tr
 unfolding pixels
 limits-are l e = both-true (isPixel (l .low)) (isPixel (l .high)) e
 
-few : (z : ℤ) → up z ≤ 65534 + dn z → dn z ≤ 65534 + up z → natAbs z ≤ 65534
+few : (z : ℤ) → posPart z ≤ 65534 + negPart z → negPart z ≤ 65534 + posPart z → natAbs z ≤ 65534
 few (pos k) a b = omega arith
 few (negsuc k) a b = omega arith
 
@@ -27,7 +27,7 @@ module _ (x y : ℤ) (p : isPixel x ≡ true) (q : isPixel y ≡ true) where
   between-fits =
       let (a, b) = pixel-range x p in
       let (c, d) = pixel-range y q in
-      fits (x -ℤ y) (up x + dn y) (dn x + up y) (omega (arith, sub x y)) (omega arith) (omega arith)
+      fits (x -ℤ y) (posPart x + negPart y) (negPart x + posPart y) (omega (arith, sub x y)) (omega arith) (omega arith)
 
   pub between-few : natAbs (x -ℤ y) ≤ 65534
   between-few =
@@ -35,7 +35,7 @@ module _ (x y : ℤ) (p : isPixel x ≡ true) (q : isPixel y ≡ true) where
       let (c, d) = pixel-range y q in
       few (x -ℤ y) (omega (arith, sub x y)) (omega (arith, sub x y))
 
-some : (z : ℤ) → (up z ≡ dn z → ⊥) → 0 < natAbs z
+some : (z : ℤ) → (posPart z ≡ negPart z → ⊥) → 0 < natAbs z
 some (pos zero) h = absurd (h refl)
 some (pos (suc n)) h = omega arith
 some (negsuc n) h = omega arith

@@ -6,7 +6,7 @@ use Prim.Native.Nat.{_+_, _≤_}
 use native.Mathlib.Omega.{arith}
 use lib.IntN.{ℤ, pos, negsuc}
 use lib.Signed.{ltZ, leZ}
-use Rattle.laws.specs.Numbers.{within, up, dn}
+use Rattle.laws.specs.Numbers.{within, posPart, negPart}
 use Rattle.laws.proofs.Signed.{lt-true, lt-false, le-true, le-false, is-lt, is-ge, same}
 use Rattle.laws.proofs.Tests.{both-true, either-false}
 use Rattle.values.specs.declared.Value.{Value}
@@ -70,7 +70,7 @@ module _ (v : Value) (value : isValue (pos 7) v ≡ true) where
   near-by-seconds = rw (from-below, from-above)
 
 -- a span that is not below 0 is above 2^63 - 1 where it does not fit
-long : (d : ℤ) → dn d ≡ 0 → not (fitsI64 d) ≡ ltZ (pos 9223372036854775807) d
+long : (d : ℤ) → negPart d ≡ 0 → not (fitsI64 d) ≡ ltZ (pos 9223372036854775807) d
 long d z = rw (is-le (negsuc 9223372036854775807) d (omega arith)) (go (leZ d (pos 9223372036854775807)) refl)
   where
     go : (b : Bool) → leZ d (pos 9223372036854775807) ≡ b → not b ≡ ltZ (pos 9223372036854775807) d
@@ -113,8 +113,8 @@ near-where-fits a e q f =
     let r : (nearZero (start a) && nearZero (end a)) || false ≡ true = rw (e, n) at q in
     both-true (nearZero (start a)) (nearZero (end a)) (sym (or-false (nearZero (start a) && nearZero (end a))) ∙ r)
 
-pub near-range : (v : Value) → nearZero v ≡ true → (dn (nanoseconds (pos 7) v) ≤ 4000000000000000000)
-    × (up (nanoseconds (pos 7) v) ≤ 4000000000000000000)
+pub near-range : (v : Value) → nearZero v ≡ true → (negPart (nanoseconds (pos 7) v) ≤ 4000000000000000000)
+    × (posPart (nanoseconds (pos 7) v) ≤ 4000000000000000000)
 unfolding nearZero
 near-range v e =
     let n = nanoseconds (pos 7) v in
@@ -122,28 +122,29 @@ near-range v e =
     bounded n 4000000000000000000 4000000000000000000 (omega arith) (omega arith)
 
 -- 6: counts, and N
-count-range : (n : ℤ) → isCount n ≡ true → (dn n ≡ 0) × (up n ≤ 4096)
+count-range : (n : ℤ) → isCount n ≡ true → (negPart n ≡ 0) × (posPart n ≤ 4096)
 count-range n e =
     let (a, b) = within-true (pos 0) n (pos 4096) e in
-    let z : dn n ≡ 0 = not-below n (omega arith) in
+    let z : negPart n ≡ 0 = not-below n (omega arith) in
     (z, omega arith)
 
 pub record Hint (a : Axis) (n : ℤ) : Type 0 where
-  pub none-below : dn n ≡ 0
-  pub most : up n ≤ 4096
-  pub some : within (pos 4) (a .kind) (pos 7) ≡ true → 1 ≤ up n
+  pub none-below : negPart n ≡ 0
+  pub most : posPart n ≤ 4096
+  pub some : within (pos 4) (a .kind) (pos 7) ≡ true → 1 ≤ posPart n
 
 hint : (a : Axis) (n : ℤ) → isCount n ≡ true → enough a n ≡ true → Hint a n
 hint a n c e = let (z, m) = count-range n c in record { none-below = z; most = m; some = λ k. some k (rw k at e) }
   where
-    some : within (pos 4) (a .kind) (pos 7) ≡ true → leZ (pos 1) n ≡ true → 1 ≤ up n
+    some : within (pos 4) (a .kind) (pos 7) ≡ true → leZ (pos 1) n ≡ true → 1 ≤ posPart n
     some k l = omega (arith, le-true (pos 1) n l)
 
 pub bold-range : (a : Axis) (h : BoldPoints) → boldHint a h ≡ true → Hint a (h .n)
 unfolding boldHint
 bold-range a h e = let (c, k) = both-true (isCount (h .n)) (enough a (h .n)) e in hint a (h .n) c k
 
-pub light-range : (a : Axis) (h : LightPoints) → lightHint a h ≡ true → Hint a (h .n) × (dn (h .bold) ≡ 0) × (up (h .bold) ≤ 4096)
+pub light-range : (a : Axis) (h : LightPoints) → lightHint a h ≡ true → Hint a (h .n) × (negPart (h .bold) ≡ 0)
+    × (posPart (h .bold) ≤ 4096)
 unfolding lightHint
 light-range a h e =
     let (b, r) = both-true (isCount (h .bold)) (isCount (h .n) && enough a (h .n)) e in
@@ -152,7 +153,7 @@ light-range a h e =
     (hint a (h .n) c k, z, m)
 
 -- 7: limits, a pixel, and different limits
-pub pixel-range : (p : ℤ) → isPixel p ≡ true → (dn p ≤ 32767) × (up p ≤ 32767)
+pub pixel-range : (p : ℤ) → isPixel p ≡ true → (negPart p ≤ 32767) × (posPart p ≤ 32767)
 pixel-range p e = let (a, b) = within-true (negsuc 32766) p (pos 32767) e in bounded p 32767 32767 (omega arith) (omega arith)
 
 pub unmap-parts : (l : Limits) (p : ℤ) → unmapPixels l p ≡ true → (pixels l ≡ true) × (isPixel p ≡ true) × (differ l ≡ true)
@@ -166,18 +167,18 @@ pub differ-apart : (l : Limits) → differ l ≡ true → l .low ≡ l .high →
 unfolding differ
 differ-apart l e s =
     elim (either-true (ltZ (l .low) (l .high)) (ltZ (l .high) (l .low)) e) [
-      | inl x ↦ omega (arith, lt-true (l .low) (l .high) x, ap up s, ap dn s)
-      | inr x ↦ omega (arith, lt-true (l .high) (l .low) x, ap up s, ap dn s)
+      | inl x ↦ omega (arith, lt-true (l .low) (l .high) x, ap posPart s, ap negPart s)
+      | inr x ↦ omega (arith, lt-true (l .high) (l .low) x, ap posPart s, ap negPart s)
     ]
 
 -- 8: an index
-pub index-range : (i : ℤ) → isIndex i ≡ true → (dn i ≡ 0) × (up i ≤ 3652059)
+pub index-range : (i : ℤ) → isIndex i ≡ true → (negPart i ≡ 0) × (posPart i ≤ 3652059)
 index-range i e =
     let (a, b) = within-true (pos 0) i (pos 3652059) e in
-    let z : dn i ≡ 0 = not-below i (omega arith) in
+    let z : negPart i ≡ 0 = not-below i (omega arith) in
     (z, omega arith)
 
 -- 10: a number that fits i32
-pub i32-range : (n : ℤ) → fitsI32 n ≡ true → (dn n ≤ 2147483648) × (up n ≤ 2147483647)
+pub i32-range : (n : ℤ) → fitsI32 n ≡ true → (negPart n ≤ 2147483648) × (posPart n ≤ 2147483647)
 i32-range n e = let (a, b) = within-true (negsuc 2147483647) n (pos 2147483647) e in
     bounded n 2147483648 2147483647 (omega arith) (omega arith)

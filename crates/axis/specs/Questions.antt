@@ -1,11 +1,13 @@
 -- The questions before an answer, by document 01's numbers: a test for each, and the rows that operations on an axis
 -- begin with. An operation's own row stands in its crate. Definitions only.
-use mathlib.Core.Bool.{Bool, not, _&&_, _||_}
+use mathlib.Core.Bool.{Bool, true, not, cond, _&&_, _||_}
 use mathlib.Core.List.{List, [], _∷_, _++_}
-use lib.IntN.{ℤ, pos, negsuc}
+use lib.IntN.{ℤ, pos}
 use lib.Signed.{ltZ, leZ}
-use Rattle.laws.specs.Asking.{Question, ask}
-use Rattle.laws.specs.Numbers.{within}
+use Prim.Native.Nat.{ℕ}
+use Rattle.laws.specs.Asking.{Question, ask, unless, asked}
+use Rattle.laws.specs.Numbers.{minus, within, isNumber}
+use Rattle.calendar.specs.Questions.{lastDay, isDay}
 use Rattle.values.specs.declared.Value.{Value}
 use Rattle.values.specs.Values.{isDuration, isValue, earlier}
 use Rattle.values.specs.Differences.{nanoseconds}
@@ -13,7 +15,15 @@ use Rattle.axis.specs.declared.Axis.{Axis}
 use Rattle.axis.specs.declared.Limits.{Limits}
 use Rattle.axis.specs.declared.BoldPoints.{BoldPoints}
 use Rattle.axis.specs.declared.LightPoints.{LightPoints}
+use Rattle.axis.specs.declared.Hint.{Hint}
+use Rattle.axis.specs.declared.Hint.the-variants.{Bold, Light}
+use Rattle.axis.specs.declared.ValueAnswer.{ValueAnswer}
+use Rattle.axis.specs.declared.ValueAnswer.the-variants.{Refused, None, At}
 use Rattle.axis.specs.Axes.{start, end, spanOf}
+
+-- the kind's number
+abbrev pub isKind : ℕ → Axis → Bool
+isKind k a = isNumber (a .kind) k
 
 -- 1. Is the kind 1 to 7?
 unfoldable pub known : Axis → Bool
@@ -29,7 +39,7 @@ hasIndex a = within (pos 1) (a .kind) (pos 3) || within (pos 5) (a .kind) (pos 6
 
 -- a period in nanoseconds
 unfoldable pub hasPeriod : Axis → Bool
-hasPeriod a = within (pos 4) (a .kind) (pos 4) || within (pos 7) (a .kind) (pos 7)
+hasPeriod a = isKind 4 a || isKind 7 a
 
 -- 3. Are start and end values of the kind?
 unfoldable pub ends : Axis → Bool
@@ -41,8 +51,9 @@ inOrder a = not (earlier (end a) (start a))
 
 -- 5. Kind 7: are both ends within 4 × 10^18 ns of zero, or is the span above 2^63 - 1 ns?
 unfoldable pub nearZero : Value → Bool
-nearZero v = within (negsuc 3999999999999999999) (nanoseconds (pos 7) v) (pos 4000000000000000000)
+nearZero v = within (minus 4000000000000000000) (nanoseconds (pos 7) v) (pos 4000000000000000000)
 
+-- of an axis: durations alone are asked
 unfoldable pub nearOrLong : Axis → Bool
 nearOrLong a =
     not (isDuration (a .kind))
@@ -53,25 +64,36 @@ nearOrLong a =
 abbrev pub isCount : ℤ → Bool
 isCount n = within (pos 0) n (pos 4096)
 
+-- N, by the kind
 abbrev pub enough : Axis → ℤ → Bool
 enough a n = not (within (pos 4) (a .kind) (pos 7)) || leZ (pos 1) n
 
+-- of a bold hint
 unfoldable pub boldHint : Axis → BoldPoints → Bool
 boldHint a h = isCount (h .n) && enough a (h .n)
 
+-- of a light hint, whose N is its limit
 unfoldable pub lightHint : Axis → LightPoints → Bool
 lightHint a h = isCount (h .bold) && (isCount (h .n) && enough a (h .n))
 
+-- of either
+abbrev pub hintOn : Axis → Hint → Bool
+hintOn a (Bold h) = boldHint a h
+hintOn a (Light h) = lightHint a h
+
 -- 7. Are limits and pixel each -32,767 to 32,767, and, to unmap, the limits different?
 abbrev pub isPixel : ℤ → Bool
-isPixel p = within (negsuc 32766) p (pos 32767)
+isPixel p = within (minus 32767) p (pos 32767)
 
+-- both limits
 unfoldable pub pixels : Limits → Bool
 pixels l = isPixel (l .low) && isPixel (l .high)
 
+-- the limits are different
 unfoldable pub differ : Limits → Bool
 differ l = ltZ (l .low) (l .high) || ltZ (l .high) (l .low)
 
+-- to unmap: limits and pixel together
 unfoldable pub unmapPixels : Limits → ℤ → Bool
 unmapPixels l p = pixels l && (isPixel p && differ l)
 
@@ -79,19 +101,35 @@ unmapPixels l p = pixels l && (isPixel p && differ l)
 unfoldable pub valueOn : Axis → Value → Bool
 valueOn a v = isValue (a .kind) v
 
+-- an index
 abbrev pub isIndex : ℤ → Bool
-isIndex i = within (pos 0) i (pos 3652059)
+isIndex i = within (pos 0) i (pos lastDay)
 
 -- 9. To map: is start before end, or the value equal to start?
 abbrev pub equals : Value → Value → Bool
 equals v w = within (w .head) (v .head) (w .head) && within (w .tail) (v .tail) (w .tail)
 
+-- of an axis and a value
 unfoldable pub mappable : Axis → Value → Bool
 mappable a v = earlier (start a) (end a) || equals v (start a)
 
 -- 10. Does the answer fit i32?
 abbrev pub fitsI32 : ℤ → Bool
-fitsI32 n = within (negsuc 2147483647) n (pos 2147483647)
+fitsI32 n = within (minus 2147483648) n (pos 2147483647)
+
+-- 10, of a date that is answered: is it one of the days of question 3?
+abbrev pub inCalendar : ValueAnswer → Bool
+inCalendar (Refused q) = true
+inCalendar None = true
+inCalendar (At v) = isDay (v .head)
+
+-- question 10 alone, where no question before it refuses
+unfoldable pub checked : ValueAnswer → ValueAnswer
+checked v = unless (cond (inCalendar v) 0 10) Refused v
+
+-- a row of questions, and then question 10
+unfoldable pub answered : List Question → ValueAnswer → ValueAnswer
+answered row v = asked (row ++ (ask 10 (inCalendar v) ∷ [])) Refused v
 
 -- 11 is asked where a list's length is known: `hasRoom` in steps/specs/Listing.antt
 
@@ -104,5 +142,6 @@ plainQuestions has a =
     ∷ (ask 4 (inOrder a)
     ∷ [])))
 
+-- and of those that kind 7 has: question 5 comes last
 abbrev pub axisQuestions : Bool → Axis → List Question
 axisQuestions has a = plainQuestions has a ++ (ask 5 (nearOrLong a) ∷ [])

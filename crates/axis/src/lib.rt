@@ -1,18 +1,18 @@
 // An axis, its limits and its hints by value, and the questions that come before an answer: one test for each, and the
 // first rows of them. Also the span of an axis and a value's offset on it.
+use calendar::LAST_DAY;
 use values::Nanoseconds;
 use values::Value;
 ghost use mathlib.Core.Path.{_≡_};
 ghost use mathlib.Core.Bool.{true};
 ghost use lib.IntN.{pos};
-ghost use Rattle.laws.specs.Asking.{next, firstNo};
+ghost use Rattle.laws.specs.Asking.{thenAsk, firstNo};
 ghost use Rattle.values.specs.Values.{isValue};
 ghost use Rattle.values.specs.Differences.{nanosecondsOf, wholeDays};
-ghost use Rattle.axis.specs.Axes.{start, end, spanOf, offsetOf};
+ghost use Rattle.axis.specs.Axes.{axisOf, start, end, spanOf, offsetOf};
 ghost use Rattle.axis.specs.Questions.{known, hasUnmap, hasIndex, hasPeriod, ends, inOrder, nearZero, nearOrLong};
-ghost use Rattle.axis.specs.Questions.{boldHint, lightHint, isPixel, pixels, differ, unmapPixels};
-ghost use Rattle.axis.specs.Questions.{valueOn, isIndex, mappable, fitsI32};
-ghost use Rattle.axis.specs.Questions.{plainQuestions, axisQuestions};
+ghost use Rattle.axis.specs.Questions.{boldHint, lightHint, hintOn, isPixel, pixels, differ, unmapPixels};
+ghost use Rattle.axis.specs.Questions.{valueOn, isIndex, mappable, fitsI32, plainQuestions, axisQuestions};
 
 pub struct Axis {
     pub kind: i64,
@@ -39,6 +39,31 @@ pub struct LightPoints {
     pub n: i64,
 }
 
+// Either hint.
+pub enum Hint {
+    Bold(BoldPoints),
+    Light(LightPoints),
+}
+
+// What an operation answers that gives a value.
+pub enum ValueAnswer {
+    Refused(u8),
+    None,
+    At(Value),
+}
+
+pub fn axis_of(kind: i64, start_head: i64, start_tail: i64, end_head: i64, end_tail: i64) -> Axis
+    ensures { λ r. ⌜ r ≡ axisOf kind «start_head» «start_tail» «end_head» «end_tail» ⌝ }
+{
+    Axis {
+        kind: kind,
+        start_head: start_head,
+        start_tail: start_tail,
+        end_head: end_head,
+        end_tail: end_tail,
+    }
+}
+
 pub fn start(a: Axis) -> Value
     ensures { λ r. ⌜ r ≡ start a ⌝ }
 {
@@ -58,8 +83,8 @@ pub fn end(a: Axis) -> Value
 }
 
 // One more question, where q is the refusal so far.
-pub fn ask(q: u8, number: u8, yes: bool) -> u8
-    ensures { λ r. ⌜ r ≡ next q number yes ⌝ }
+pub fn then_ask(q: u8, number: u8, yes: bool) -> u8
+    ensures { λ r. ⌜ r ≡ thenAsk q number yes ⌝ }
 {
     if q != 0 {
         return q;
@@ -170,18 +195,28 @@ pub fn near_or_long(a: Axis) -> bool
 }
 
 // Question 6 of a bold hint.
-pub fn bold_hint(a: Axis, h: BoldPoints) -> bool
+fn bold_hint(a: Axis, h: BoldPoints) -> bool
     ensures { λ r. ⌜ r ≡ boldHint a h ⌝ }
 {
     ((0 <= h.n) & (h.n <= 4096)) & (!((4 <= a.kind) & (a.kind <= 7)) | (1 <= h.n))
 }
 
 // Question 6 of a light hint.
-pub fn light_hint(a: Axis, h: LightPoints) -> bool
+fn light_hint(a: Axis, h: LightPoints) -> bool
     ensures { λ r. ⌜ r ≡ lightHint a h ⌝ }
 {
     ((0 <= h.bold) & (h.bold <= 4096))
         & (((0 <= h.n) & (h.n <= 4096)) & (!((4 <= a.kind) & (a.kind <= 7)) | (1 <= h.n)))
+}
+
+// Question 6.
+pub fn hint_on(a: Axis, h: Hint) -> bool
+    ensures { λ r. ⌜ r ≡ hintOn a h ⌝ }
+{
+    match h {
+        Hint::Bold(b) => bold_hint(a, b),
+        Hint::Light(l) => light_hint(a, l),
+    }
 }
 
 // Question 7 of limits.
@@ -223,7 +258,7 @@ pub fn value_on(a: Axis, v: Value) -> bool
 pub fn is_index(i: i64) -> bool
     ensures { λ r. ⌜ r ≡ isIndex i ⌝ }
 {
-    (0 <= i) & (i <= 3652059)
+    (0 <= i) & (i <= LAST_DAY)
 }
 
 // Question 9: is start before end, or v equal to start?
@@ -246,10 +281,10 @@ pub fn fits_i32(n: i64) -> bool
 pub fn plain_refusal(a: Axis, has: bool) -> u8
     ensures { λ r. ⌜ r ≡ firstNo (plainQuestions has a) ⌝ }
 {
-    let q = ask(0, 1, known(a));
-    let q = ask(q, 2, has);
-    let q = ask(q, 3, ends(a));
-    ask(q, 4, in_order(a))
+    let q = then_ask(0, 1, known(a));
+    let q = then_ask(q, 2, has);
+    let q = then_ask(q, 3, ends(a));
+    then_ask(q, 4, in_order(a))
 }
 
 // The same, for operations that kind 7 has. Question 5 is asked of real values in order.
@@ -260,5 +295,5 @@ pub fn axis_refusal(a: Axis, has: bool) -> u8
     if q != 0 {
         return q;
     }
-    ask(q, 5, near_or_long(a))
+    then_ask(q, 5, near_or_long(a))
 }

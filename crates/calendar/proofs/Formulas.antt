@@ -62,7 +62,7 @@ leap-again y =
     let by400 : (y + 400) % 400 ≡ y % 400 = omega arith in
     rw (by4, by100, by400)
 
-pub yearLength-is : (y : ℕ) → yearLength y ≡ 365 + leapDay y
+yearLength-is : (y : ℕ) → yearLength y ≡ 365 + leapDay y
 unfolding yearLength
 yearLength-is y = omega arith
 
@@ -233,7 +233,7 @@ unfolding small
 lengths-le k h = leb→le _ _ (at small 12 smalls k h)
 
 -- ---- the days from 1 March to the month m, and 92 more; January and February are the months 13 and 14 of the year before
-abbrev pub since-march : ℕ → ℕ
+abbrev since-march : ℕ → ℕ
 since-march m = (979 * (m + 12 * boolByte (ltb m 3)) + 25) / 32
 
 right-number : ℕ → ℕ → Bool
@@ -272,7 +272,7 @@ pub flag-le : (b : Bool) → boolByte b ≤ 1
 flag-le true = omega arith
 flag-le false = omega arith
 
-abbrev pub march-year : ℕ → ℕ → ℕ
+abbrev march-year : ℕ → ℕ → ℕ
 march-year y m = y - boolByte (ltb m 3)
 
 pub number-is : (y m d : ℕ) → Real y m d → y ≤ 10000
@@ -348,7 +348,7 @@ module _ (n : ℕ) (n-le : n ≤ 3652425) where
       (4 * (n + 305) + 3 + 4 * (centuries n - centuries n / 4) ≡ 1461 * (v / 1461) + v % 1461) × (v % 1461 < 1461)
   cut1461 v p = omega arith
 
-  pub year-law : (years (year-at n) + day-at n ≡ n + 305) × (day-at n < 365 + leapDay (suc (year-at n)))
+  year-law : (years (year-at n) + day-at n ≡ n + 305) × (day-at n < 365 + leapDay (suc (year-at n)))
   year-law =
       let (p, q) = product-law (quarters n) quarters-le in
       let (c4, c3) = cut4 (centuries n) in

@@ -8,34 +8,33 @@ use lib.IntN.{ℤ, pos, negsuc}
 use lib.Dec.{eqb, leb}
 use borrow.Author.Tests.{leb-true, le-leb, not-true}
 use lib.Signed.{ltZ, leZ}
-use Rattle.laws.specs.Numbers.{within, up}
+use Rattle.laws.specs.Asking.{unless}
+use Rattle.laws.specs.Numbers.{within, posPart}
 use Rattle.laws.proofs.Tests.{both-true}
 use Rattle.laws.proofs.Signed.{le-true, is-ge}
 use Rattle.calendar.specs.declared.Ymd.{Ymd}
 use Rattle.calendar.specs.declared.Date.{Date}
 use Rattle.calendar.specs.declared.DayAnswer.the-variants as day
-use Rattle.calendar.specs.declared.DateAnswer.the-variants as dated
+use Rattle.calendar.specs.declared.DateAnswer.the-variants as date
 use Rattle.calendar.specs.Gregorian.{monthLength, dayNumber, dateOf, Real}
-use Rattle.calendar.specs.Questions.{isDate, isDay, inRanges, dayAnswer, dateAnswer, numberOf, dateAt}
+use Rattle.calendar.specs.Questions.{isDate, isDay, inRanges, numberOf, dateAt}
 use Rattle.calendar.proofs.Formulas.{monthLength-range, monthLength-long}
 use Rattle.calendar.proofs.Dates.{number-most, year-most, date-number}
 
 -- ---- a number that is at least 1
-least : (z : ℤ) → leZ (pos 1) z ≡ true → (ltZ z (pos 0) ≡ false) × ((pos (up z) ≡ z) × (1 ≤ up z))
+least : (z : ℤ) → leZ (pos 1) z ≡ true → (ltZ z (pos 0) ≡ false) × ((pos (posPart z) ≡ z) × (1 ≤ posPart z))
 least (pos n) e = (is-ge (pos n) (pos 0) (omega arith), (refl, omega (arith, le-true (pos 1) (pos n) e)))
 least (negsuc n) e = absurd (let w : ⊥ = omega (arith, le-true (pos 1) (negsuc n) e) in w)
 
-most : (z : ℤ) (n : ℕ) → leZ (pos 1) z ≡ true → leZ z (pos n) ≡ true → up z ≤ n
+most : (z : ℤ) (n : ℕ) → leZ (pos 1) z ≡ true → leZ z (pos n) ≡ true → posPart z ≤ n
 most (pos k) n p q = omega (arith, le-true (pos k) (pos n) q)
 most (negsuc k) n p q = omega arith
 
 -- a day number that question 8 lets pass
 pub day-count : (n : ℤ) → isDay n ≡ true → ltZ n (pos 0) ≡ false
-unfolding isDay
 day-count n e = least n (both-true (leZ (pos 1) n) (leZ n (pos 3652059)) e .0) .0
 
-pub day-range : (n : ℤ) → isDay n ≡ true → (1 ≤ up n) × (up n ≤ 3652059)
-unfolding isDay
+pub day-range : (n : ℤ) → isDay n ≡ true → (1 ≤ posPart n) × (posPart n ≤ 3652059)
 day-range n e = let (p, q) = both-true (leZ (pos 1) n) (leZ n (pos 3652059)) e in (least n p .1 .1, most n 3652059 p q)
 
 -- ---- three numbers in their ranges
@@ -50,7 +49,7 @@ out-of-ranges t e = go (within (pos 1) (t .year) (pos 9999)) (within (pos 1) (t 
 
 -- only the month's length is left to ask
 pub in-month : (t : Ymd) → inRanges t ≡ true → isDate (t .year) (t .month) (t .day)
-    ≡ leZ (t .day) (pos (monthLength (up (t .year)) (up (t .month))))
+    ≡ leZ (t .day) (pos (monthLength (posPart (t .year)) (posPart (t .month))))
 unfolding isDate inRanges
 in-month t e =
     let (ab, c) = both-true (within (pos 1) (t .year) (pos 9999) && within (pos 1) (t .month) (pos 12)) (leZ (pos 1) (t .day))
@@ -66,14 +65,14 @@ pub record Ranges (t : Ymd) : Type 0 where
   pub year-count : ltZ (t .year) (pos 0) ≡ false
   pub month-count : ltZ (t .month) (pos 0) ≡ false
   pub day-count : ltZ (t .day) (pos 0) ≡ false
-  pub year-is : pos (up (t .year)) ≡ t .year
-  pub month-is : pos (up (t .month)) ≡ t .month
-  pub day-is : pos (up (t .day)) ≡ t .day
-  pub year-first : 1 ≤ up (t .year)
-  pub year-last : up (t .year) ≤ 9999
-  pub month-first : 1 ≤ up (t .month)
-  pub month-last : up (t .month) ≤ 12
-  pub day-first : 1 ≤ up (t .day)
+  pub year-is : pos (posPart (t .year)) ≡ t .year
+  pub month-is : pos (posPart (t .month)) ≡ t .month
+  pub day-is : pos (posPart (t .day)) ≡ t .day
+  pub year-first : 1 ≤ posPart (t .year)
+  pub year-last : posPart (t .year) ≤ 9999
+  pub month-first : 1 ≤ posPart (t .month)
+  pub month-last : posPart (t .month) ≤ 12
+  pub day-first : 1 ≤ posPart (t .day)
 
 pub ranges : (t : Ymd) → inRanges t ≡ true → Ranges t
 unfolding inRanges
@@ -98,7 +97,7 @@ ranges t e =
     }
 
 -- three numbers with a yes are a real date
-real-in-month : (y m d : ℕ) (t : Ymd) → Ranges t → y ≡ up (t .year) → m ≡ up (t .month) → d ≡ up (t .day) →
+real-in-month : (y m d : ℕ) (t : Ymd) → Ranges t → y ≡ posPart (t .year) → m ≡ posPart (t .month) → d ≡ posPart (t .day) →
     d ≤ monthLength y m → Real y m d
 real-in-month y m d t k p q r h =
     record {
@@ -110,8 +109,9 @@ real-in-month y m d t k p q r h =
       within = h;
     }
 
-pub is-real : (t : Ymd) → inRanges t ≡ true → leb (up (t .day)) (monthLength (up (t .year)) (up (t .month))) ≡ true →
-    Real (up (t .year)) (up (t .month)) (up (t .day))
+pub is-real : (t : Ymd) → inRanges t ≡ true → leb (posPart (t .day)) (monthLength (posPart (t .year)) (posPart (t .month)))
+    ≡ true →
+    Real (posPart (t .year)) (posPart (t .month)) (posPart (t .day))
 is-real t e f = real-in-month _ _ _ t (ranges t e) refl refl refl (leb-true _ _ f)
 
 -- ---- the code's order: a day that every month has, or every month but February, then the month's length
@@ -133,24 +133,27 @@ module _ (y m d : ℕ) where
   early-day h e = sym (le-leb d (monthLength y m) (early-most h e))
 
 -- ---- what an answer holds
-answered : (b : Bool) (k n : ℕ) → (b ≡ true → k ≤ 3652059) → dayAnswer (cond b 0 8) k ≡ day.Answered n → n ≤ 3652059
+answered : (b : Bool) (k n : ℕ) → (b ≡ true → k ≤ 3652059) → unless (cond b 0 8) day.Refused (day.Answered k) ≡ day.Answered n
+    → n ≤ 3652059
 answered true k n h e = let same : k ≡ n = cc in omega (arith, h refl)
 answered false k n h e = let z : _≡_ {A = ℕ} 0 1 = cc in absurd (let w : ⊥ = omega arith in w)
 
-date-most : (t : Ymd) → isDate (t .year) (t .month) (t .day) ≡ true → dayNumber (up (t .year)) (up (t .month)) (up (t .day))
+date-most : (t : Ymd) → isDate (t .year) (t .month) (t .day) ≡ true → dayNumber (posPart (t .year)) (posPart (t .month))
+    (posPart (t .day))
     ≤ 3652059
 date-most t f = go (inRanges t) refl
   where
-    go : (b : Bool) → inRanges t ≡ b → dayNumber (up (t .year)) (up (t .month)) (up (t .day)) ≤ 3652059
+    go : (b : Bool) → inRanges t ≡ b → dayNumber (posPart (t .year)) (posPart (t .month)) (posPart (t .day)) ≤ 3652059
     go true g =
         let k = ranges t g in
-        let h = most (t .day) (monthLength (up (t .year)) (up (t .month))) (least-of t g) (sym (in-month t g) ∙ f) in
+        let h = most (t .day) (monthLength (posPart (t .year)) (posPart (t .month))) (least-of t g) (sym (in-month t g) ∙ f) in
         number-most _ _ _ (real-in-month _ _ _ t k refl refl refl h) (k .year-last)
     go false g = let z : _≡_ {A = ℕ} 0 1 = cc (out-of-ranges t g) in absurd (let w : ⊥ = omega arith in w)
 
 pub number-range : (t : Ymd) (n : ℕ) → numberOf t ≡ day.Answered n → n ≤ 3652059
 unfolding numberOf
-number-range t n e = answered (isDate (t .year) (t .month) (t .day)) (dayNumber (up (t .year)) (up (t .month)) (up (t .day)))
+number-range t n e = answered (isDate (t .year) (t .month) (t .day)) (dayNumber (posPart (t .year)) (posPart (t .month))
+    (posPart (t .day)))
     n (date-most t) e
 
 pub record InRange (t : Date) : Type 0 where
@@ -158,20 +161,21 @@ pub record InRange (t : Date) : Type 0 where
   pub month : t .month ≤ 12
   pub day : t .day ≤ 31
 
-in-range : (n : ℤ) → isDay n ≡ true → InRange (dateOf (up n))
+in-range : (n : ℤ) → isDay n ≡ true → InRange (dateOf (posPart n))
 in-range n e =
     let (h, l) = day-range n e in
-    let (r, p) = date-number (up n) h in
+    let (r, p) = date-number (posPart n) h in
     record {
       year = year-most _ _ _ r (omega (arith, p));
       month = r .last;
-      day = omega (arith, r .within, monthLength-range (dateOf (up n) .year) (dateOf (up n) .month) (r .last));
+      day = omega (arith, r .within, monthLength-range (dateOf (posPart n) .year) (dateOf (posPart n) .month) (r .last));
     }
 
-dated-one : (b : Bool) (s t : Date) → (b ≡ true → InRange s) → dateAnswer (cond b 0 8) s ≡ dated.Answered t → InRange t
+dated-one : (b : Bool) (s t : Date) → (b ≡ true → InRange s) → unless (cond b 0 8) date.Refused (date.Answered s)
+    ≡ date.Answered t → InRange t
 dated-one true s t h e = let same : s ≡ t = cc in subst (λ (x : Date). InRange x) same (h refl)
 dated-one false s t h e = let z : _≡_ {A = ℕ} 0 1 = cc in absurd (let w : ⊥ = omega arith in w)
 
-pub date-range : (n : ℤ) (t : Date) → dateAt n ≡ dated.Answered t → InRange t
+pub date-range : (n : ℤ) (t : Date) → dateAt n ≡ date.Answered t → InRange t
 unfolding dateAt
-date-range n t e = dated-one (isDay n) (dateOf (up n)) t (in-range n) e
+date-range n t e = dated-one (isDay n) (dateOf (posPart n)) t (in-range n) e

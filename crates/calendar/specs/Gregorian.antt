@@ -31,6 +31,7 @@ unfolding monthLength
 months y zero = 0
 months y (suc k) = months y k + monthLength y (suc k)
 
+-- all twelve months
 unfoldable pub yearLength : ℕ → ℕ
 unfolding months
 yearLength y = months y 12
@@ -54,6 +55,7 @@ pub record Real (y m d : ℕ) : Type 0 where
   pub day : 1 ≤ d
   pub within : d ≤ monthLength y m
 
+-- a year, a month and a day as one
 abbrev pub date : ℕ → ℕ → ℕ → Date
 date y m d = record { year = y; month = m; day = d }
 

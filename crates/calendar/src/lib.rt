@@ -6,10 +6,10 @@ ghost use mathlib.Core.Bool.{true, false};
 ghost use lib.Dec.{leb};
 ghost use lib.IntN.{pos};
 ghost use lib.Signed.{ltZ};
-ghost use Rattle.laws.specs.Numbers.{up};
+ghost use Rattle.laws.specs.Numbers.{posPart};
 ghost use Rattle.calendar.specs.Gregorian.{leapDay, monthLength, dayNumber, dateOf, Real};
 ghost use Rattle.calendar.specs.DateTimes.{dateFloor, dateCeil};
-ghost use Rattle.calendar.specs.Questions.{inRanges, isDay, numberOf, dateAt};
+ghost use Rattle.calendar.specs.Questions.{lastDay, inRanges, isDay, numberOf, dateAt};
 
 pub struct Date {
     pub year: u64,
@@ -39,6 +39,9 @@ pub struct DateTime {
     pub day: u64,
     pub nano: u64,
 }
+
+// 9999-12-31.
+pub const LAST_DAY: i64 = 3652059;
 
 const LENGTHS: [u8; 12] = [31, 28, 31, 30, 31, 30, 31, 31, 30, 31, 30, 31];
 
@@ -106,7 +109,7 @@ pub fn date_floor(t: DateTime) -> u64
 // The first date whose midnight is not before a date-time, as plotters has it: by whole seconds, so that 00:00:00.5
 // stays on its date.
 pub fn date_ceil(t: DateTime) -> u64
-    requires { ⌜ t .day ≤ 3652059 ⌝ }
+    requires { ⌜ t .day ≤ lastDay ⌝ }
     ensures { λ r. ⌜ r ≡ dateCeil t ⌝ }
 {
     if t.nano / 1000000000 > 0 {
@@ -116,9 +119,9 @@ pub fn date_ceil(t: DateTime) -> u64
 }
 
 // A number that is not below 0, as a count.
-pub fn count(n: i64) -> u64
+pub fn as_count(n: i64) -> u64
     requires { ⌜ ltZ n (pos 0) ≡ false ⌝ }
-    ensures { λ r. ⌜ r ≡ up n ⌝ }
+    ensures { λ r. ⌜ r ≡ posPart n ⌝ }
 {
     n as u64
 }
@@ -138,7 +141,7 @@ fn has_day(y: u64, m: u64, d: u64) -> bool
 pub fn is_day(n: i64) -> bool
     ensures { λ r. ⌜ r ≡ isDay n ⌝ }
 {
-    (1 <= n) & (n <= 3652059)
+    (1 <= n) & (n <= LAST_DAY)
 }
 
 // Question 8 of three numbers, but for the month's length.
@@ -165,7 +168,7 @@ pub fn number_of(t: Ymd) -> DayAnswer
     if !in_ranges(t) {
         return DayAnswer::Refused(8);
     }
-    number_in_ranges(count(t.year), count(t.month), count(t.day))
+    number_in_ranges(as_count(t.year), as_count(t.month), as_count(t.day))
 }
 
 // The date of any number.
@@ -175,5 +178,5 @@ pub fn date_at(n: i64) -> DateAnswer
     if !is_day(n) {
         return DateAnswer::Refused(8);
     }
-    DateAnswer::Answered(date_of(count(n)))
+    DateAnswer::Answered(date_of(as_count(n)))
 }

@@ -1,8 +1,6 @@
 -- Laws of counting and of the answers, and what users lean on: indices, neighbours, and the walk of the cursor.
-pub mod Dates
-pub mod Counting
+pub mod Indices
 pub mod Answers
 pub mod Unmapping
-pub mod Places
+pub mod AtIndex
 pub mod Laws
-pub mod DateTimes

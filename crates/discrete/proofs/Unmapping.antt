@@ -15,7 +15,7 @@ use Rattle.axis.specs.declared.Limits.{Limits}
 use Rattle.axis.specs.Questions.{unmapPixels}
 use Rattle.axis.proofs.Questions.{unmap-parts}
 use Rattle.axis.proofs.PixelRanges.{limits-are, between-few, between-fits, width-some}
-use Rattle.discrete.specs.Counting.{indexAt}
+use Rattle.discrete.specs.Indices.{indexAt}
 
 product : (y n : ℕ) → y ≤ 65534 → n ≤ 3652059 → y * n ≤ 65534 * 3652059
 product y n Y N = mul-le-mul Y N

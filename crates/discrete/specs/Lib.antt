@@ -1,4 +1,4 @@
 -- What the crate's contracts and laws cite.
-pub mod Counting
+pub mod Indices
 pub mod Answers
 pub mod Walking

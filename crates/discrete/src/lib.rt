@@ -2,35 +2,30 @@
 // previous, the values cursor, and the value under a pixel. Whole-number work, with no float.
 use axis::Axis;
 use axis::Limits;
-use calendar::Date;
-use calendar::DateTime;
-use unmapping::Unmapped;
+use axis::ValueAnswer;
 use values::Value;
 ghost use mathlib.Core.Path.{_≡_};
 ghost use mathlib.Core.Bool.{true, false};
-ghost use Prim.Native.Nat.{_+_, _*_, _-_, _≤_, _<_, max};
-ghost use lib.IntN.{natAbs};
+ghost use Prim.Native.Nat.{_≤_, _<_};
+ghost use lib.IntN.{pos, natAbs};
 ghost use Rattle.laws.specs.Asking.{firstNo};
-ghost use Rattle.laws.specs.Numbers.{up};
 ghost use Rattle.calendar.specs.Gregorian.{dayNumber};
-ghost use Rattle.values.specs.Values.{isDay};
-ghost use Rattle.axis.specs.Questions.{valueOn, isIndex, unmapPixels};
-ghost use Rattle.discrete.specs.Counting.{Counted, monthly, yearly, firstDay, firstDate, dateOn, origin, position};
-ghost use Rattle.discrete.specs.Counting.{sizeOf, midnight, monthAt, january, yearAt, valueAt, indexAt, placeUnder};
-ghost use Rattle.discrete.specs.Answers.{sizeQuestions, valueQuestions, placeQuestions, unmapQuestions, underQuestions, checked, asked};
+ghost use Rattle.calendar.specs.Questions.{lastDay};
+ghost use Rattle.values.specs.Values.{midnight};
+ghost use Rattle.axis.specs.Questions.{valueOn, isIndex, unmapPixels, checked};
+ghost use Rattle.counting.specs.Counting.{Dated, monthly, yearly};
+ghost use Rattle.discrete.specs.Indices.{monthAt, january, yearAt, valueAt, indexAt, indexUnder};
+ghost use Rattle.discrete.specs.Answers.{sizeQuestions, valueQuestions, indexQuestions, unmapQuestions};
 ghost use Rattle.discrete.specs.Answers.{indexIn, nextIn, previousIn, valueIn, sizeAnswer, indexAnswer};
-ghost use Rattle.discrete.specs.Answers.{fromIndexAnswer, nextAnswer, previousAnswer, stepped, valuesAnswer, unmapIn, dateTimeUnder, unmapAnswer};
+ghost use Rattle.discrete.specs.Answers.{fromIndexAnswer, nextAnswer, previousAnswer, stepped, valuesAnswer, unmapAnswer};
+
+// The last day's number, which is also the largest index of question 8.
+const LAST: u64 = 3652059;
 
 pub enum NumberAnswer {
     Refused(u8),
     None,
     Is(u64),
-}
-
-pub enum ValueAnswer {
-    Refused(u8),
-    None,
-    At(Value),
 }
 
 // The place of the value that comes next.
@@ -45,123 +40,12 @@ pub enum StepAnswer {
     At(Value, Cursor),
 }
 
-// Where an axis begins and where a value stands, in days, months or years.
-pub struct Place {
-    pub from: u64,
-    pub at: u64,
-}
-
-// Kinds 2 and 5.
-fn monthly(a: Axis) -> bool
-    ensures { λ r. ⌜ r ≡ monthly a ⌝ }
-{
-    ((2 <= a.kind) & (a.kind <= 2)) | ((5 <= a.kind) & (a.kind <= 5))
-}
-
-// Kinds 3 and 6.
-fn yearly(a: Axis) -> bool
-    ensures { λ r. ⌜ r ≡ yearly a ⌝ }
-{
-    ((3 <= a.kind) & (a.kind <= 3)) | ((6 <= a.kind) & (a.kind <= 6))
-}
-
-// The day of a value, whatever its time is.
-fn day_of(v: Value) -> u64
-    requires { ⌜ isDay (v .head) ≡ true ⌝ }
-    ensures { λ r. ⌜ r ≡ up (v .head) ⌝ }
-{
-    calendar::count(v.head)
-}
-
-// The date of that day.
-fn date_on(v: Value) -> Date
-    requires { ⌜ isDay (v .head) ≡ true ⌝ }
-    ensures { λ r. ⌜ r ≡ dateOn v ⌝ }
-{
-    calendar::date_of(day_of(v))
-}
-
-// date_ceil of the start.
-fn first_day(a: Axis) -> u64
-    requires { ⌜ Counted a ⌝ }
-    ensures { λ r. ⌜ r ≡ firstDay a ⌝ }
-{
-    let v = axis::start(a);
-    calendar::date_ceil(DateTime {
-        day: day_of(v),
-        nano: calendar::count(v.tail),
-    })
-}
-
-// The date from which months and years are counted.
-fn first_date(a: Axis) -> Date
-    requires { ⌜ Counted a ⌝ }
-    ensures { λ r. ⌜ r ≡ firstDate a ⌝ }
-{
-    calendar::date_of(first_day(a))
-}
-
-// How much x exceeds y, or 0.
-fn excess(x: u64, y: u64) -> u64
-    ensures { λ r. ⌜ r ≡ x - y ⌝ }
-{
-    if x < y {
-        return 0;
-    }
-    x - y
-}
-
-fn larger(x: u64, y: u64) -> u64
-    ensures { λ r. ⌜ r ≡ max x y ⌝ }
-{
-    if x < y {
-        return y;
-    }
-    x
-}
-
-// Months count from the first date's year on, and an earlier year counts as that year.
-fn place_of(a: Axis, v: Value) -> Place
-    requires { ⌜ Counted a × (valueOn a v ≡ true) ⌝ }
-    ensures { λ r. ⌜ r ≡ record { from = origin a; at = position a v } ⌝ }
-{
-    if monthly(a) {
-        let first = first_date(a);
-        let date = date_on(v);
-        return Place {
-            from: first.month,
-            at: 12 * (larger(date.year, first.year) - first.year) + date.month,
-        };
-    }
-    if yearly(a) {
-        let first = first_date(a);
-        let date = date_on(v);
-        return Place {
-            from: first.year,
-            at: date.year,
-        };
-    }
-    Place {
-        from: day_of(axis::start(a)),
-        at: day_of(v),
-    }
-}
-
-// Both ends are counted. On kinds 5 and 6 the first date may lie behind the end; then the size may be 0.
-pub fn size_of(a: Axis) -> u64
-    requires { ⌜ Counted a ⌝ }
-    ensures { λ r. ⌜ r ≡ sizeOf a ⌝ }
-{
-    let p = place_of(a, axis::end(a));
-    excess(p.at + 1, p.from)
-}
-
 // The index of a value; none before the start.
 pub fn index_in(a: Axis, v: Value) -> NumberAnswer
-    requires { ⌜ Counted a × (valueOn a v ≡ true) ⌝ }
+    requires { ⌜ Dated a × (valueOn a v ≡ true) ⌝ }
     ensures { λ r. ⌜ r ≡ indexIn a v ⌝ }
 {
-    let p = place_of(a, v);
+    let p = counting::position_of(a, v);
     if p.from <= p.at {
         return NumberAnswer::Is(p.at - p.from);
     }
@@ -171,9 +55,9 @@ pub fn index_in(a: Axis, v: Value) -> NumberAnswer
 // Question 10 of a midnight.
 fn at_midnight(day: u64) -> ValueAnswer
     requires { ⌜ 1 ≤ day ⌝ }
-    ensures { λ r. ⌜ r ≡ checked (ValueAnswer.At (midnight day)) ⌝ }
+    ensures { λ r. ⌜ r ≡ checked (ValueAnswer.At (midnight (pos day))) ⌝ }
 {
-    if day <= 3652059 {
+    if day <= LAST {
         return ValueAnswer::At(Value {
             head: day as i64,
             tail: 0,
@@ -185,7 +69,7 @@ fn at_midnight(day: u64) -> ValueAnswer
 // The first of a month, and question 10 of it.
 fn month_start(year: u64, month: u64) -> ValueAnswer
     requires { ⌜ (1 ≤ year) × (1 ≤ month) × (month ≤ 12) ⌝ }
-    ensures { λ r. ⌜ r ≡ checked (ValueAnswer.At (midnight (dayNumber year month 1))) ⌝ }
+    ensures { λ r. ⌜ r ≡ checked (ValueAnswer.At (midnight (pos (dayNumber year month 1)))) ⌝ }
 {
     if 9999 < year {
         return ValueAnswer::Refused(10);
@@ -195,73 +79,65 @@ fn month_start(year: u64, month: u64) -> ValueAnswer
 
 // The first day itself, and then firsts of months.
 fn month_at(a: Axis, i: u64) -> ValueAnswer
-    requires { ⌜ Counted a × (i ≤ 3652059) ⌝ }
+    requires { ⌜ Dated a × (i ≤ lastDay) ⌝ }
     ensures { λ r. ⌜ r ≡ checked (ValueAnswer.At (monthAt a i)) ⌝ }
 {
     if i == 0 {
-        return at_midnight(first_day(a));
+        return at_midnight(counting::from_day(a));
     }
-    let first = first_date(a);
+    let first = counting::first_date(a);
     let k = i + (first.month - 1);
     month_start(first.year + k / 12, k % 12 + 1)
 }
 
 // January 1 of a year, or the start with its time where that is no earlier.
 fn january(a: Axis, year: u64) -> ValueAnswer
-    requires { ⌜ Counted a × (1 ≤ year) ⌝ }
+    requires { ⌜ Dated a × (1 ≤ year) ⌝ }
     ensures { λ r. ⌜ r ≡ checked (ValueAnswer.At (january a year)) ⌝ }
 {
     if 9999 < year {
         return ValueAnswer::Refused(10);
     }
     let day = calendar::day_number(year, 1, 1);
-    if day <= day_of(axis::start(a)) {
+    if day <= counting::day_of(axis::start(a)) {
         return ValueAnswer::At(axis::start(a));
     }
     at_midnight(day)
 }
 
 fn year_at(a: Axis, i: u64) -> ValueAnswer
-    requires { ⌜ Counted a × (i ≤ 3652059) ⌝ }
+    requires { ⌜ Dated a × (i ≤ lastDay) ⌝ }
     ensures { λ r. ⌜ r ≡ checked (ValueAnswer.At (yearAt a i)) ⌝ }
 {
-    let first = first_date(a);
+    let first = counting::first_date(a);
     january(a, first.year + i)
 }
 
 // The value of an index, and question 10 of it.
 pub fn value_at(a: Axis, i: u64) -> ValueAnswer
-    requires { ⌜ Counted a × (i ≤ 3652059) ⌝ }
+    requires { ⌜ Dated a × (i ≤ lastDay) ⌝ }
     ensures { λ r. ⌜ r ≡ checked (ValueAnswer.At (valueAt a i)) ⌝ }
 {
-    if monthly(a) {
+    if counting::monthly(a) {
         return month_at(a, i);
     }
-    if yearly(a) {
+    if counting::yearly(a) {
         return year_at(a, i);
     }
-    at_midnight(day_of(axis::start(a)) + i)
-}
-
-// The months to a date from before January of the first date's year on.
-fn months_from(first: Date, date: Date) -> u64
-    requires { ⌜ (date .year ≤ 9999) × (date .month ≤ 12) ⌝ }
-    ensures { λ r. ⌜ r ≡ 12 * (date .year - first .year) + date .month ⌝ }
-{
-    12 * excess(date.year, first.year) + date.month
+    at_midnight(counting::day_of(axis::start(a)) + i)
 }
 
 // The next month's first, up to the end's month. The first date is asked for once.
 fn next_month(a: Axis, v: Value) -> ValueAnswer
-    requires { ⌜ Counted a × (valueOn a v ≡ true) × (monthly a ≡ true) ⌝ }
+    requires { ⌜ Dated a × (valueOn a v ≡ true) × (monthly a ≡ true) ⌝ }
     ensures { λ r. ⌜ r ≡ checked (nextIn a v) ⌝ }
 {
-    let first = first_date(a);
-    let at = months_from(first, date_on(v));
+    let first = counting::first_date(a);
+    let at = counting::months_from(first, counting::date_on(v));
     if at < first.month {
         return ValueAnswer::None;
     }
-    if months_from(first, date_on(axis::end(a))) <= at {
+    if counting::months_from(first, counting::date_on(axis::end(a))) <= at {
         return ValueAnswer::None;
     }
     month_start(first.year + at / 12, at % 12 + 1)
@@ -269,15 +145,15 @@ fn next_month(a: Axis, v: Value) -> ValueAnswer
 
 // The next January 1, up to the end's year.
 fn next_year(a: Axis, v: Value) -> ValueAnswer
-    requires { ⌜ Counted a × (valueOn a v ≡ true) × (monthly a ≡ false) × (yearly a ≡ true) ⌝ }
+    requires { ⌜ Dated a × (valueOn a v ≡ true) × (monthly a ≡ false) × (yearly a ≡ true) ⌝ }
     ensures { λ r. ⌜ r ≡ checked (nextIn a v) ⌝ }
 {
-    let first = first_date(a);
-    let date = date_on(v);
+    let first = counting::first_date(a);
+    let date = counting::date_on(v);
     if date.year < first.year {
         return ValueAnswer::None;
     }
-    let last = date_on(axis::end(a));
+    let last = counting::date_on(axis::end(a));
     if last.year <= date.year {
         return ValueAnswer::None;
     }
@@ -286,14 +162,14 @@ fn next_year(a: Axis, v: Value) -> ValueAnswer
 
 // The next day, up to the end.
 fn next_day(a: Axis, v: Value) -> ValueAnswer
-    requires { ⌜ Counted a × (valueOn a v ≡ true) × (monthly a ≡ false) × (yearly a ≡ false) ⌝ }
+    requires { ⌜ Dated a × (valueOn a v ≡ true) × (monthly a ≡ false) × (yearly a ≡ false) ⌝ }
     ensures { λ r. ⌜ r ≡ checked (nextIn a v) ⌝ }
 {
-    let at = day_of(v);
-    if at < day_of(axis::start(a)) {
+    let at = counting::day_of(v);
+    if at < counting::day_of(axis::start(a)) {
         return ValueAnswer::None;
     }
-    if day_of(axis::end(a)) <= at {
+    if counting::day_of(axis::end(a)) <= at {
         return ValueAnswer::None;
     }
     at_midnight(at + 1)
@@ -301,13 +177,13 @@ fn next_day(a: Axis, v: Value) -> ValueAnswer
 
 // The value of the next index, where that is below the size.
 pub fn next_in(a: Axis, v: Value) -> ValueAnswer
-    requires { ⌜ Counted a × (valueOn a v ≡ true) ⌝ }
+    requires { ⌜ Dated a × (valueOn a v ≡ true) ⌝ }
     ensures { λ r. ⌜ r ≡ checked (nextIn a v) ⌝ }
 {
-    if monthly(a) {
+    if counting::monthly(a) {
         return next_month(a, v);
     }
-    if yearly(a) {
+    if counting::yearly(a) {
         return next_year(a, v);
     }
     next_day(a, v)
@@ -315,10 +191,10 @@ pub fn next_in(a: Axis, v: Value) -> ValueAnswer
 
 // The value of the index before.
 fn previous_in(a: Axis, v: Value) -> ValueAnswer
-    requires { ⌜ Counted a × (valueOn a v ≡ true) ⌝ }
+    requires { ⌜ Dated a × (valueOn a v ≡ true) ⌝ }
     ensures { λ r. ⌜ r ≡ checked (previousIn a v) ⌝ }
 {
-    let p = place_of(a, v);
+    let p = counting::position_of(a, v);
     if p.at <= p.from {
         return ValueAnswer::None;
     }
@@ -327,41 +203,44 @@ fn previous_in(a: Axis, v: Value) -> ValueAnswer
 
 // The value at the cursor's place; none at or past the size.
 fn value_in(a: Axis, i: u64) -> ValueAnswer
-    requires { ⌜ Counted a × (i ≤ 3652059) ⌝ }
+    requires { ⌜ Dated a × (i ≤ lastDay) ⌝ }
     ensures { λ r. ⌜ r ≡ checked (valueIn a i) ⌝ }
 {
-    if i < size_of(a) {
+    if i < counting::size_of(a) {
         return value_at(a, i);
     }
     ValueAnswer::None
 }
 
-// The floor of offset × size ÷ width, and 0 below 0. The product is below 2^53, so no float step moves the quotient
-// across a whole number.
+// (offset as f64 * size as f64 / width as f64).floor() as usize, and 0 below 0. The product is below 2^53, so no float
+// step moves the quotient across a whole number.
 fn index_at(offset: i64, size: u64, width: i64) -> u64
-    requires { ⌜ (natAbs offset ≤ 65534) × (size ≤ 3652059) × (natAbs width ≤ 65534) × (0 < natAbs width) ⌝ }
+    requires { ⌜ (natAbs offset ≤ 65534) × (size ≤ lastDay) × (natAbs width ≤ 65534) × (0 < natAbs width) ⌝ }
     ensures { λ r. ⌜ r ≡ indexAt offset size width ⌝ }
 {
     if (offset < 0) != (width < 0) {
         return 0;
     }
-    floats::size_of(offset) * size / floats::size_of(width)
+    floats::floor_quotient(
+        floats::unsigned_abs(offset) * size,
+        floats::unsigned_abs(width),
+    )
 }
 
-fn place_under(a: Axis, l: Limits, p: i64) -> u64
-    requires { ⌜ Counted a × (unmapPixels l p ≡ true) ⌝ }
-    ensures { λ r. ⌜ r ≡ placeUnder a l p ⌝ }
+fn index_under(a: Axis, l: Limits, p: i64) -> u64
+    requires { ⌜ Dated a × (unmapPixels l p ≡ true) ⌝ }
+    ensures { λ r. ⌜ r ≡ indexUnder a l p ⌝ }
 {
-    index_at(p - l.low, size_of(a), l.high - l.low)
+    index_at(p - l.low, counting::size_of(a), l.high - l.low)
 }
 
-// The value under a pixel on a kind that counts.
+// The value under a pixel on a kind that counts. An index above the last day's number has no value of the calendar.
 fn unmap_in(a: Axis, l: Limits, p: i64) -> ValueAnswer
-    requires { ⌜ Counted a × (unmapPixels l p ≡ true) ⌝ }
-    ensures { λ r. ⌜ r ≡ asked (underQuestions a l p) (unmapIn a l p) ⌝ }
+    requires { ⌜ Dated a × (unmapPixels l p ≡ true) ⌝ }
+    ensures { λ r. ⌜ r ≡ checked (ValueAnswer.At (valueAt a (indexUnder a l p))) ⌝ }
 {
-    let i = place_under(a, l, p);
-    if 3652059 < i {
+    let i = index_under(a, l, p);
+    if LAST < i {
         return ValueAnswer::Refused(10);
     }
     value_at(a, i)
@@ -378,21 +257,21 @@ fn value_refusal(a: Axis, v: Value) -> u8
     ensures { λ r. ⌜ r ≡ firstNo (valueQuestions a v) ⌝ }
 {
     let q = axis::plain_refusal(a, axis::has_index(a));
-    axis::ask(q, 8, axis::value_on(a, v))
+    axis::then_ask(q, 8, axis::value_on(a, v))
 }
 
-pub fn place_refusal(a: Axis, i: i64) -> u8
-    ensures { λ r. ⌜ r ≡ firstNo (placeQuestions a i) ⌝ }
+pub fn index_refusal(a: Axis, i: i64) -> u8
+    ensures { λ r. ⌜ r ≡ firstNo (indexQuestions a i) ⌝ }
 {
     let q = axis::plain_refusal(a, axis::has_index(a));
-    axis::ask(q, 8, axis::is_index(i))
+    axis::then_ask(q, 8, axis::is_index(i))
 }
 
 fn unmap_refusal(a: Axis, l: Limits, p: i64) -> u8
     ensures { λ r. ⌜ r ≡ firstNo (unmapQuestions a l p) ⌝ }
 {
     let q = axis::plain_refusal(a, axis::has_unmap(a));
-    axis::ask(q, 7, axis::unmap_pixels(l, p))
+    axis::then_ask(q, 7, axis::unmap_pixels(l, p))
 }
 
 // The size of any axis.
@@ -403,7 +282,7 @@ pub fn size(a: Axis) -> NumberAnswer
     if q != 0 {
         return NumberAnswer::Refused(q);
     }
-    NumberAnswer::Is(size_of(a))
+    NumberAnswer::Is(counting::size_of(a))
 }
 
 // The index of any numbers.
@@ -421,11 +300,11 @@ pub fn index_of(a: Axis, v: Value) -> NumberAnswer
 pub fn from_index(a: Axis, i: i64) -> ValueAnswer
     ensures { λ r. ⌜ r ≡ fromIndexAnswer a i ⌝ }
 {
-    let q = place_refusal(a, i);
+    let q = index_refusal(a, i);
     if q != 0 {
         return ValueAnswer::Refused(q);
     }
-    value_at(a, calendar::count(i))
+    value_at(a, calendar::as_count(i))
 }
 
 // The value after a value.
@@ -466,20 +345,11 @@ fn stepped(c: Cursor, v: ValueAnswer) -> StepAnswer
 pub fn values(a: Axis, c: Cursor) -> StepAnswer
     ensures { λ r. ⌜ r ≡ valuesAnswer a c ⌝ }
 {
-    let q = place_refusal(a, c.place);
+    let q = index_refusal(a, c.place);
     if q != 0 {
         return StepAnswer::Refused(q);
     }
-    stepped(c, value_in(a, calendar::count(c.place)))
-}
-
-fn date_time_under(u: Unmapped) -> ValueAnswer
-    ensures { λ r. ⌜ r ≡ dateTimeUnder u ⌝ }
-{
-    match u {
-        Unmapped::Refused(q) => ValueAnswer::Refused(q),
-        Unmapped::At(v) => ValueAnswer::At(v),
-    }
+    stepped(c, value_in(a, calendar::as_count(c.place)))
 }
 
 // The value under any pixel. Kind 4 counts nothing and goes by unmap_coord.
@@ -491,7 +361,7 @@ pub fn unmap(a: Axis, l: Limits, p: i64) -> ValueAnswer
         return ValueAnswer::Refused(q);
     }
     if (4 <= a.kind) & (a.kind <= 4) {
-        return date_time_under(unmapping::unmap_coord(a, l, p));
+        return unmapping::unmap_coord(a, l, p);
     }
     unmap_in(a, l, p)
 }

@@ -5,6 +5,7 @@ use mathlib.Core.List.{List, _++_}
 use Prim.Native.Nat.{ℕ, _+_, _≤_}
 use lib.Dec.{ltb}
 use lib.ListN.{length, take}
+use Rattle.text_read.specs.Bytes.{lineFeed}
 use Rattle.text_read.specs.Fields.{untilOf}
 use Rattle.feed.specs.declared.Fed.{Fed}
 
@@ -22,6 +23,6 @@ pub record Kept (begun part : List ℕ) (r : ℕ) (after : List ℕ) : Type 0 wh
 pub record Ate (begun chunk : List ℕ) (r : Fed) (after : List ℕ) : Type 0 where
   pub most : r .len ≤ 121
   pub same-size : length after ≡ 121
-  pub line : take (r .len) after ≡ lineOf begun (take (untilOf 10 chunk) chunk)
-  pub ended : r .ended ≡ ltb (untilOf 10 chunk) (length chunk)
-  pub used : r .used ≡ cond (ltb (untilOf 10 chunk) (length chunk)) (untilOf 10 chunk + 1) (untilOf 10 chunk)
+  pub line : take (r .len) after ≡ lineOf begun (take (untilOf lineFeed chunk) chunk)
+  pub ended : r .ended ≡ ltb (untilOf lineFeed chunk) (length chunk)
+  pub used : r .used ≡ cond (ltb (untilOf lineFeed chunk) (length chunk)) (untilOf lineFeed chunk + 1) (untilOf lineFeed chunk)

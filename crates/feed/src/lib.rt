@@ -1,9 +1,7 @@
 // Lines out of chunks of any size. `kept` holds the bytes of the line that was begun: at most 121, which tell that the line
 // is too long.
 ghost use mathlib.Core.Path.{_≡_};
-ghost use mathlib.Core.List.{_++_};
-ghost use Prim.Native.Nat.{_+_, _≤_};
-ghost use lib.Dec.{ltb};
+ghost use Prim.Native.Nat.{_≤_};
 ghost use lib.ListN.{length, take};
 ghost use Rattle.feed.specs.Feed.{Kept, Ate};
 
@@ -38,7 +36,7 @@ pub fn feed(kept: &mut [u8], n: usize, chunk: &[u8]) -> Fed
     requires { ⌜ (n ≤ 121) × (length (now kept) ≡ 121) ⌝ }
     ensures { λ r. ⌜ Ate (take n (now (kept .entry))) (now (chunk .entry)) r (now (kept .exit)) ⌝ }
 {
-    let k = text_read::until(chunk, 10);
+    let k = text_read::until(chunk, b'\n');
     let m = keep(kept, n, &chunk[..k]);
     if k < chunk.len() {
         return Fed {

@@ -11,24 +11,25 @@ use native.Mathlib.Omega.{arith}
 use lib.Dec.{T, eqb, ltb, lit<, lit≤}
 use lib.IntN.{ℤ, pos, negℤ}
 use lib.Pow.{pow-add, pow-pos, pow-mono, shl-lt}
-use lib.Ieee.{Float, nan, inf, fin, binary64, up, down, lt, ne, eq, isNan, ofFields, ofBits, toSigned, toUnsigned}
+use lib.Ieee.{Float, nan, inf, fin, Format, binary32, binary64, prec, low, hid, ones, up, down, lt, ne, eq, isNan}
+use lib.Ieee.{ofFields, ofBits, toSigned, toUnsigned, toBits, nanBits, fits}
+use lib.Ieee.Bits.{ofBits-toBits, nanBits-is}
 use lib.Ieee.Exact.{HasValue, odd-sign}
 use lib.Ieee.Nearest.{div-same}
 use lib.Ieee.Compare.{differs-from-itself}
-use lib.Ieee.Fits.{down-pos}
 use borrow.Author.Tests.{ne-eqb, le-ltb, ltb-false}
 use Rattle.floats.specs.Rounding.{absF}
 use Rattle.floats.proofs.Values.{unsigned-val}
 
 -- ---- the pattern's number
-digits-val : (s : Bool) (e t : ℕ) → 0 < e → e < 2047 → HasValue (ofFields binary64 s e t) s ((t + 2 ^ 52) * 2 ^ (e - 1))
-    (2 ^ 1074)
+pub digits-val : (f : Format) (s : Bool) (e t : ℕ) → 0 < e → e < ones f →
+    HasValue (ofFields f s e t) s ((t + hid f) * 2 ^ (e - 1)) (2 ^ low f)
 unfolding ofFields
-digits-val s zero t p l = absurd (not-suc-le-zero p)
-digits-val s (suc k) t p l =
-    let d : eqb (suc k) 2047 ≡ false = ne-eqb (suc k) 2047 (λ (h : suc k ≡ 2047). omega arith) in
+digits-val f s zero t p l = absurd (not-suc-le-zero p)
+digits-val f s (suc k) t p l =
+    let d : eqb (suc k) (ones f) ≡ false = ne-eqb (suc k) (ones f) (λ (h : suc k ≡ ones f). omega arith) in
     let b : suc k - 1 ≡ k = omega arith in
-    rw (d, b, add-comm t (2 ^ 52)) (odd-sign 53 s (2 ^ 52 + t) k 1074)
+    rw (d, b, add-comm t (hid f)) (odd-sign (prec f) s (hid f + t) k (low f))
 
 abs-val : (x : Float) (s : Bool) (a c : ℕ) → HasValue x s a c → HasValue (absF x) false a c
 unfolding absF
@@ -36,7 +37,7 @@ abs-val nan s a c h = h
 abs-val (inf t) s a c h = h
 abs-val (fin t m e) s a c h = (refl, h .1)
 
-whole-val : (x : Float) (s : Bool) (a c : ℕ) → 0 < c → HasValue x s a c → toUnsigned 64 (absF x) ≡ min (a / c) (2 ^ 64 - 1)
+pub whole-val : (x : Float) (s : Bool) (a c : ℕ) → 0 < c → HasValue x s a c → toUnsigned 64 (absF x) ≡ min (a / c) (2 ^ 64 - 1)
 whole-val x s a c C h = unsigned-val 64 (absF x) false a c C (abs-val x s a c h)
 
 -- without a leading digit it is below 1, and with all of the exponent's digits set it is infinite
@@ -46,17 +47,29 @@ no-field s t h =
     whole-val (ofFields binary64 s 0 t) s (t * 1) (2 ^ 1074) (pow-pos 1074) (odd-sign 53 s t 0 1074)
     ∙ ap (λ (x : ℕ). min x (2 ^ 64 - 1)) (div-eq-of-lt (lt-of-le-of-lt (le-of-eq (mul-one t)) (lt-of-lt-of-le h (lit≤ tt))))
 
+pub infinite : (f : Format) (s : Bool) (t : ℕ) → T (not (isNan (ofFields f s (ones f) t))) → ofFields f s (ones f) t ≡ inf s
+unfolding ofFields isNan
+infinite f s t = go f
+  where
+    set : (b : Bool) → T (not (isNan (cond b (inf s) nan))) → cond b (inf s) nan ≡ inf s
+    set true u = refl
+    set false u = absurd u
+
+    go : (f : Format) → T (not (isNan (ofFields f s (ones f) t))) → ofFields f s (ones f) t ≡ inf s
+    go binary32 = set (eqb t 0)
+    go binary64 = set (eqb t 0)
+
 all-set : (s : Bool) (t : ℕ) → T (not (isNan (ofFields binary64 s 2047 t))) →
     toUnsigned 64 (absF (ofFields binary64 s 2047 t)) ≡ 2 ^ 64 - 1
-unfolding ofFields toUnsigned absF isNan
-all-set s t = go (eqb t 0)
-  where
-    go : (b : Bool) → T (not (isNan (cond b (inf s) nan))) → toUnsigned 64 (absF (cond b (inf s) nan)) ≡ 2 ^ 64 - 1
-    go true u = refl
-    go false u = absurd u
+unfolding toUnsigned absF
+all-set s t n = rw (infinite binary64 s t n) refl
 
-least : (q : ℕ) → q < 2 ^ 64 → min q (2 ^ 64 - 1) ≡ q
+-- what fits stays, and what does not is brought to the end
+pub least : (q : ℕ) → q < 2 ^ 64 → min q (2 ^ 64 - 1) ≡ q
 least q h = omega arith
+
+pub most : (q : ℕ) → 2 ^ 64 ≤ q → min q (2 ^ 64 - 1) ≡ 2 ^ 64 - 1
+most q h = omega arith
 
 module _ (s : Bool) (e t : ℕ) (T52 : t < 2 ^ 52) where
   abbrev d : ℕ
@@ -68,7 +81,7 @@ module _ (s : Bool) (e t : ℕ) (T52 : t < 2 ^ 52) where
   whole-is : (q : ℕ) → 0 < e → e < 2047 → d * 2 ^ (e - 1) / 2 ^ 1074 ≡ q → q < 2 ^ 64 →
       toUnsigned 64 (absF (ofFields binary64 s e t)) ≡ q
   whole-is q p l h r = whole-val (ofFields binary64 s e t) s (d * 2 ^ (e - 1)) (2 ^ 1074) (pow-pos 1074)
-      (digits-val s e t p l) ∙ ap (λ (x : ℕ). min x (2 ^ 64 - 1)) h ∙ least q r
+      (digits-val binary64 s e t p l) ∙ ap (λ (x : ℕ). min x (2 ^ 64 - 1)) h ∙ least q r
 
   -- below 1
   pub small : e < 1023 → toUnsigned 64 (absF (ofFields binary64 s e t)) ≡ 0
@@ -119,15 +132,13 @@ module _ (s : Bool) (e t : ℕ) (T52 : t < 2 ^ 52) where
       room : 1086 ≤ e - 1
       room = omega arith
 
-      most : (q : ℕ) → 2 ^ 64 ≤ q → min q (2 ^ 64 - 1) ≡ 2 ^ 64 - 1
-      most q h = omega arith
-
       up52 : 2 ^ 52 ≤ d
       up52 = omega arith
 
       finite : e < 2047 → toUnsigned 64 (absF (ofFields binary64 s e t)) ≡ 2 ^ 64 - 1
       finite l =
-          whole-val (ofFields binary64 s e t) s (d * 2 ^ (e - 1)) (2 ^ 1074) (pow-pos 1074) (digits-val s e t (omega arith) l)
+          whole-val (ofFields binary64 s e t) s (d * 2 ^ (e - 1)) (2 ^ 1074) (pow-pos 1074)
+          (digits-val binary64 s e t (omega arith) l)
           ∙ most (d * 2 ^ (e - 1) / 2 ^ 1074)
           (le-div-iff-mul-le (pow-pos 1074) .1 (le-trans (le-of-eq (sym (pow-add 2 52 1086)))
           (mul-le-mul up52 (pow-mono room))))
@@ -158,14 +169,46 @@ ends-most q k h = omega arith
 ends-least : (q k : ℕ) → 0 < k → k ≤ 2 ^ 63 → min q k ≡ min (min q (2 ^ 64 - 1)) (suc (k - 1))
 ends-least q k p h = omega arith
 
+-- an infinity or a finite number with this sign
+abbrev pub HasSign : Float → Bool → Type 0
+HasSign nan s = ⊥
+HasSign (inf t) s = t ≡ s
+HasSign (fin t m e) s = t ≡ s
+
+-- by the sign that is written, -0's too
+by-sign : (k : ℕ) (x : Float) (s : Bool) → 0 < 2 ^ k → 2 ^ k ≤ 2 ^ 63 → HasSign x s → toSigned k x ≡ limitedTo (2 ^ k - 1) s
+    (toUnsigned 64 (absF x))
+unfolding toSigned toUnsigned absF
+by-sign k nan s K h v = absurd v
+by-sign k (inf t) s K h v = rw (← v) (go t)
+  where
+    most : (m : ℕ) → m ≤ 2 ^ 63 → m - 1 ≡ min (2 ^ 64 - 1) (m - 1)
+    most m g = omega arith
+
+    least-of : (m : ℕ) → 0 < m → m ≤ 2 ^ 63 → m ≡ min (2 ^ 64 - 1) (suc (m - 1))
+    least-of m p g = omega arith
+
+    go : (t : Bool) → toSigned k (inf t) ≡ limitedTo (2 ^ k - 1) t (2 ^ 64 - 1)
+    go true = ap (λ (n : ℕ). negℤ (pos n)) (least-of (2 ^ k) K h)
+    go false = ap pos (most (2 ^ k) h)
+by-sign k (fin t m e) s K h v = rw (← v) (go t)
+  where
+    go : (t : Bool) → toSigned k (fin t m e) ≡ limitedTo (2 ^ k - 1) t (min (m * up e / down e) (2 ^ 64 - 1))
+    go true = ap (λ (n : ℕ). negℤ (pos n)) (ends-least (m * up e / down e) (2 ^ k) K h)
+    go false = ap pos (ends-most (m * up e / down e) (2 ^ k) h)
+
+pub sign-cast : (k : ℕ) → k ≤ 63 → (x : Float) (s : Bool) → HasSign x s → toSigned k x ≡ limitedTo (2 ^ k - 1) s
+    (toUnsigned 64 (absF x))
+sign-cast k K x s v = by-sign k x s (pow-pos k) (pow-mono K) v
+
 -- -0 and what is cut to it
-minus-part : (a d k : ℕ) (b : Bool) → ltb 0 a ≡ b → 0 < d → 0 < k → k ≤ 2 ^ 63 → negℤ (pos (min (a / d) k))
+minus-part : (a d k : ℕ) (b : Bool) → ltb 0 a ≡ b → limitedTo (k - 1) true (min (a / d) (2 ^ 64 - 1))
     ≡ limitedTo (k - 1) b (min (a / d) (2 ^ 64 - 1))
-minus-part a d k true t D K h = ap (λ (n : ℕ). negℤ (pos n)) (ends-least (a / d) k K h)
-minus-part a d k false t D K h =
+minus-part a d k true t = refl
+minus-part a d k false t =
     let z : a ≡ 0 = omega (arith, ltb-false 0 a t) in
     let q : a / d ≡ 0 = ap (λ (n : ℕ). n / d) z ∙ zero-div d in
-    let u : min (a / d) k ≡ 0 = omega arith in
+    let u : min (min (a / d) (2 ^ 64 - 1)) (suc (k - 1)) ≡ 0 = omega arith in
     let v : min (min (a / d) (2 ^ 64 - 1)) (k - 1) ≡ 0 = omega arith in
     rw (u, v) refl
 
@@ -176,18 +219,11 @@ signed-by k nan K h = ap pos (go (2 ^ k))
   where
     go : (m : ℕ) → 0 ≡ min 0 (m - 1)
     go m = omega arith
-signed-by k (inf true) K h = ap (λ (n : ℕ). negℤ (pos n)) (go (2 ^ k) K h)
-  where
-    go : (m : ℕ) → 0 < m → m ≤ 2 ^ 63 → m ≡ min (2 ^ 64 - 1) (suc (m - 1))
-    go m p g = omega arith
-signed-by k (inf false) K h = ap pos (go (2 ^ k) h)
-  where
-    go : (m : ℕ) → m ≤ 2 ^ 63 → m - 1 ≡ min (2 ^ 64 - 1) (m - 1)
-    go m g = omega arith
-signed-by k (fin false m e) K h =
-    rw (below-no m e) (ap pos (ends-most (m * up e / down e) (2 ^ k) h))
+signed-by k (inf s) K h = by-sign k (inf s) s K h refl
+signed-by k (fin false m e) K h = rw (below-no m e) (by-sign k (fin false m e) false K h refl)
 signed-by k (fin true m e) K h =
-    rw (below-yes m e) (minus-part (m * up e) (down e) (2 ^ k) (ltb 0 (m * up e)) refl (down-pos e) K h)
+    by-sign k (fin true m e) true K h refl
+    ∙ rw (below-yes m e) (minus-part (m * up e) (down e) (2 ^ k) (ltb 0 (m * up e)) refl)
 
 -- THE LAW of the signed casts, of each width up to 64 bits
 pub signed-cast : (k : ℕ) → k ≤ 63 → (x : Float) → toSigned k x ≡ cond (lt x (ofBits binary64 0))
@@ -215,9 +251,12 @@ unfolding ofBits
 unsigned-cast x = unsigned-by x
 
 -- ---- a NaN, and what has the bits of x
+pub is-nan : (x : Float) → ne x x ≡ true → x ≡ nan
+is-nan x h = differs-from-itself x (subst T (sym h) tt)
+
 pub at-nan : (x : Float) → ne x x ≡ true → toUnsigned 64 (absF x) ≡ 0
 unfolding toUnsigned absF
-at-nan x h = rw (differs-from-itself x (subst T (sym h) tt)) refl
+at-nan x h = rw (is-nan x h) refl
 
 not-nan : (x : Float) → T (not (ne x x)) → T (not (isNan x))
 unfolding isNan ne eq
@@ -227,3 +266,6 @@ not-nan (fin s m e) t = tt
 
 pub no-nan : (x : Float) → ne x x ≡ false → T (not (isNan x))
 no-nan x h = not-nan x (subst (λ (b : Bool). T (not b)) (sym h) tt)
+
+pub no-nan-bits : (f : Format) (x : Float) → T (fits f x) → T (not (isNan x)) → T (not (nanBits f (toBits f x)))
+no-nan-bits f x h n = subst (λ (b : Bool). T (not b)) (sym (nanBits-is f (toBits f x) ∙ ap isNan (ofBits-toBits f x h))) n

@@ -19,8 +19,9 @@ use lib.Ieee.{Float, binary64, round, ofInt, mul, div, toSigned}
 use lib.Ieee.Back.{round-whole}
 use lib.Ieee.Exact.{HasValue, round-exact}
 use lib.Ieee.Scale.{grid, overflow}
-use Rattle.floats.specs.Rounding.{withSign, cutQuotient}
+use Rattle.floats.specs.Rounding.{withSign, quotientOf}
 use Rattle.floats.proofs.Values.{signed-val, cut-within, unlike-false}
+use Rattle.floats.proofs.Quotients.{cutQuotient}
 use Rattle.floats.proofs.Error.{Near, Large, round-near, round-zero, round-under, near-twice, product-near, quotient-near}
 
 -- ---- two roundings, each within one part in K = J + 1, and a cut: of whole numbers alone
@@ -136,7 +137,7 @@ product-units w o = grid binary64 (w * (o * day)) 1
 abbrev quotient-units : ℕ → ℕ → ℕ → ℕ
 quotient-units w o D = grid binary64 (product-units w o * 1) (D * day * 2 ^ 1074)
 
-abbrev pub cutOf : ℕ → ℕ → ℕ → ℕ
+abbrev cutOf : ℕ → ℕ → ℕ → ℕ
 cutOf w o D = quotient-units w o D / 2 ^ 1074
 
 module _ (s : Bool) (w o D : ℕ) (Dp : 0 < D) (O : o ≤ D) (Dw : D < w) (W : w ≤ 65534) where
@@ -224,14 +225,14 @@ module _ (s : Bool) (w o D : ℕ) (Dp : 0 < D) (O : o ≤ D) (Dw : D < w) (W : w
       (lt-of-le-of-lt W (lit< tt)))
 
 -- ---- the pixel, and that it grows with each day
-pub pixel-is : (s : Bool) (w o D : ℕ) → 0 < D → o ≤ D → D < w → w ≤ 65534 → cutQuotient (withSign s w) (pos (o * day))
+pixel-is : (s : Bool) (w o D : ℕ) → 0 < D → o ≤ D → D < w → w ≤ 65534 → cutQuotient (withSign s w) (pos (o * day))
     (pos (D * day)) ≡ withSign s (cutOf w o D)
-unfolding cutQuotient ofInt
+unfolding quotientOf ofInt
 pixel-is false w o D Dp O Dw W = F-is false w o D Dp O Dw W
 pixel-is true zero o D Dp O Dw W = absurd (not-suc-le-zero Dw)
 pixel-is true (suc w) o D Dp O Dw W = F-is true (suc w) o D Dp O Dw W
 
-pub cut-between : (w o D : ℕ) → 0 < D → o ≤ D → D < w → w ≤ 65534 → (cutOf w o D * D ≤ w * o) × (w * o ≤ suc (cutOf w o D) * D)
+cut-between : (w o D : ℕ) → 0 < D → o ≤ D → D < w → w ≤ 65534 → (cutOf w o D * D ≤ w * o) × (w * o ≤ suc (cutOf w o D) * D)
 cut-between w o D Dp O Dw W = (F-le false w o D Dp O Dw W, F-ge false w o D Dp O Dw W)
 
 -- the two cases of that
@@ -252,7 +253,7 @@ between-grows w o o' D F F' Dw l a b =
     clash : F' * D ≤ F * D → w * suc o ≤ w * o' → ⊥
     clash c d = omega arith
 
-pub cut-grows : (w o o' D : ℕ) → 0 < D → o < o' → o' ≤ D → D < w → w ≤ 65534 → cutOf w o D < cutOf w o' D
+cut-grows : (w o o' D : ℕ) → 0 < D → o < o' → o' ≤ D → D < w → w ≤ 65534 → cutOf w o D < cutOf w o' D
 cut-grows w o o' D Dp l O' Dw W =
     between-grows w o o' D (cutOf w o D) (cutOf w o' D) Dw l (cut-between w o D Dp (omega arith) Dw W .0)
     (cut-between w o' D Dp O' Dw W .1)

@@ -6,4 +6,5 @@ pub mod Bits
 pub mod Casts
 pub mod Order
 pub mod Quotients
+pub mod Rounds
 pub mod Growth

@@ -18,7 +18,7 @@ use lib.Ieee.Fits.{down-pos, two}
 use lib.Ieee.Exact.{HasValue}
 use lib.Ieee.Scale.{grid}
 use Rattle.laws.proofs.Quotients.{quotient-is}
-use Rattle.floats.specs.Rounding.{withSign, upward, halfUp, floorF, ceilF, roundF, cutQuotient}
+use Rattle.floats.specs.Rounding.{withSign, upward, halfUp, floorF, ceilF, roundF, quotientOf, cut}
 use Rattle.floats.proofs.Values.{signed-val, unsigned-val, cutSigned, cut-within, below-zero, mul-ints}
 use Rattle.floats.proofs.Values.{div-by-int, div-ints, div-zero, unlike-false}
 use Rattle.floats.proofs.Order.{quotient-val, below, equal, above}
@@ -120,7 +120,7 @@ module _ (f : Format) (s : Bool) (a b g L : ℕ) (B : 0 < b) (Lp : 0 < L) where
       ∙ ap (λ (n : ℕ). round f s (cond s (m * up e / down e) n) 1) (same-upward a b (m * up e) (down e) B (down-pos e) k)
       ∙ ap (λ (n : ℕ). round f s (cond s n (upward a b)) 1) (same-floor a b (m * up e) (down e) B (down-pos e) k)
 
-  round-of : (x : Float) → HasValue x s g L → Like 2 a b g L → roundF f x ≡ round f s (halfUp a b) 1
+  pub round-of : (x : Float) → HasValue x s g L → Like 2 a b g L → roundF f x ≡ round f s (halfUp a b) 1
   unfolding roundF
   round-of nan h l = absurd h
   round-of (inf t) h l = absurd h
@@ -160,7 +160,7 @@ module _ (f : Format) (s : Bool) (a b : ℕ) (B : 0 < b) (b-small : b ≤ 2 ^ 10
   pub cut-exact : (h : ℕ) → toSigned h (round f s a b) ≡ cutSigned h s (a / b)
   cut-exact h = signed-val h (round f s a b) s (grid f a b) (2 ^ low f) (pow-pos (low f)) value ∙ ap (cutSigned h s) same-cut
 
-  pub unsigned-exact : (w : ℕ) → toUnsigned w (round f s a b) ≡ cond s 0 (min (a / b) (2 ^ w - 1))
+  unsigned-exact : (w : ℕ) → toUnsigned w (round f s a b) ≡ cond s 0 (min (a / b) (2 ^ w - 1))
   unsigned-exact w = unsigned-val w (round f s a b) s (grid f a b) (2 ^ low f) (pow-pos (low f)) value
       ∙ ap (λ (q : ℕ). cond s 0 (min q (2 ^ w - 1))) same-cut
 
@@ -198,7 +198,7 @@ halfUp-le a b B = le-of-suc-le-suc (div-lt-iff-lt-mul (mul-pos (lit< tt) B) .1 (
 
 -- ---- floor and ceil as usize
 module _ (f : Format) (s : Bool) (a b : ℕ) (B : 0 < b) (b-small : b ≤ 2 ^ 100) (small : a < 2 ^ prec f) where
-  pub floor-cut : toUnsigned 64 (floorF f (round f s a b)) ≡ cond s 0 (a / b)
+  floor-cut : toUnsigned 64 (floorF f (round f s a b)) ≡ cond s 0 (a / b)
   floor-cut = ap (toUnsigned 64) (floor-exact f s a b B b-small small) ∙ whole-unsigned f s (cond s (upward a b) (a / b))
       (lt-of-le-of-lt (most s) small) ∙ drop s
     where
@@ -210,7 +210,7 @@ module _ (f : Format) (s : Bool) (a b : ℕ) (B : 0 < b) (b-small : b ≤ 2 ^ 10
       drop true = refl
       drop false = refl
 
-  pub ceil-cut : toUnsigned 64 (ceilF f (round f s a b)) ≡ cond s 0 (upward a b)
+  ceil-cut : toUnsigned 64 (ceilF f (round f s a b)) ≡ cond s 0 (upward a b)
   ceil-cut = ap (toUnsigned 64) (ceil-exact f s a b B b-small small) ∙ whole-unsigned f s (cond s (a / b) (upward a b))
       (lt-of-le-of-lt (most s) small) ∙ drop s
     where
@@ -222,7 +222,7 @@ module _ (f : Format) (s : Bool) (a b : ℕ) (B : 0 < b) (b-small : b ≤ 2 ^ 10
       drop true = refl
       drop false = refl
 
-  -- round, cut to usize and to a signed type
+  -- round, cut to a signed type
   module _ (half : a * 2 < 2 ^ prec f) where
     fewer : halfUp a b < 2 ^ prec f
     fewer = go (2 ^ prec f) (halfUp a b) (pow-mono (two f)) (halfUp-le a b B) half
@@ -230,10 +230,7 @@ module _ (f : Format) (s : Bool) (a b : ℕ) (B : 0 < b) (b-small : b ≤ 2 ^ 10
         go : (P k : ℕ) → 4 ≤ P → k ≤ a → a * 2 < P → k < P
         go P k p q r = omega arith
 
-    pub round-cut : toUnsigned 64 (roundF f (round f s a b)) ≡ cond s 0 (halfUp a b)
-    round-cut = ap (toUnsigned 64) (round-half-exact f s a b B b-small small half) ∙ whole-unsigned f s (halfUp a b) fewer
-
-    pub round-signed : (h : ℕ) → halfUp a b < 2 ^ h → toSigned h (roundF f (round f s a b)) ≡ withSign s (halfUp a b)
+    round-signed : (h : ℕ) → halfUp a b < 2 ^ h → toSigned h (roundF f (round f s a b)) ≡ withSign s (halfUp a b)
     round-signed h l = ap (toSigned h) (round-half-exact f s a b B b-small small half) ∙ whole-signed f s (halfUp a b) h fewer l
 
 -- ---- signed numbers y * z / w
@@ -258,18 +255,9 @@ module _ (f : Format) (y z w : ℤ) (Y : natAbs y ≤ 2 ^ prec f) (Z : natAbs z 
       ∙ floor-cut f (unlike (unlike (below-zero y) (below-zero z)) (below-zero w)) (natAbs y * natAbs z) (natAbs w)
       Wp w-small small
 
-  -- the cut to a signed type of h digits
-  pub scaled-cut : (h : ℕ) → toSigned h (div f (mul f (ofInt f y) (ofInt f z)) (ofInt f w))
-      ≡ cutSigned h (unlike (unlike (below-zero y) (below-zero z)) (below-zero w)) (natAbs y * natAbs z / natAbs w)
-  scaled-cut h = ap (toSigned h) one-round ∙ cut-exact f (unlike (unlike (below-zero y) (below-zero z)) (below-zero w))
-      (natAbs y * natAbs z) (natAbs w) Wp w-small small h
-
-pub cutQuotient-exact : (y z w : ℤ) → natAbs y ≤ 2 ^ 53 → natAbs z ≤ 2 ^ 53 → natAbs y * natAbs z < 2 ^ 53 → natAbs w ≤ 2 ^ 53
-    → 0 < natAbs w
-    → cutQuotient y z w ≡ cutSigned 31 (unlike (unlike (below-zero y) (below-zero z)) (below-zero w))
-    (natAbs y * natAbs z / natAbs w)
-unfolding cutQuotient
-cutQuotient-exact y z w Y Z small W Wp = scaled-cut binary64 y z w Y Z small W Wp 31
+-- the quotient of whole numbers, cut
+abbrev pub cutQuotient : ℤ → ℤ → ℤ → ℤ
+cutQuotient y z w = cut (quotientOf (ofInt binary64 y) z (ofInt binary64 w))
 
 -- ---- a signed y by a count d, rounded to the nearest and cut to a signed type
 pub ratio-round : (f : Format) (y : ℤ) (d h : ℕ) → natAbs y * 2 < 2 ^ prec f → 0 < d → d ≤ 2 ^ prec f →
@@ -293,10 +281,6 @@ module _ (f : Format) (n d : ℕ) (small : n < 2 ^ prec f) (D : 0 < d) (d-small 
   pub ratio-ceil : toUnsigned 64 (ceilF f (div f (ofInt f (pos n)) (ofInt f (pos d)))) ≡ upward n d
   ratio-ceil = ap (λ (x : Float). toUnsigned 64 (ceilF f x)) one-ratio ∙ ceil-cut f false n d D
       (le-trans d-small (pow-mono (few f))) small
-
-  pub ratio-half : n * 2 < 2 ^ prec f → toUnsigned 64 (roundF f (div f (ofInt f (pos n)) (ofInt f (pos d)))) ≡ halfUp n d
-  ratio-half h = ap (λ (x : Float). toUnsigned 64 (roundF f x)) one-ratio ∙ round-cut f false n d D
-      (le-trans d-small (pow-mono (few f))) small h
 
 -- by 0 the quotient is an infinity, and its cast the largest number
 pub ceil-by-zero : (f : Format) (n : ℕ) → 0 < n → n ≤ 2 ^ prec f →

@@ -6,10 +6,10 @@ use Prim.Native.Nat.{ℕ, zero, suc, _-_, _*_, _/_, _^_, _≤_, _<_, min}
 use native.Mathlib.Nat.{lt-irrefl, mul-one, mul-comm, mul-assoc, mul-left-comm, mul-right-comm, mul-pos}
 use native.Mathlib.Nat.{mul-mul-mul-comm, eq-of-mul-eq-mul-right}
 use native.Mathlib.Omega.{arith}
-use lib.Dec.{T, eqb, eqb·suc-zero, lit<}
+use lib.Dec.{T, eqb, eqb·suc-zero, lit<, le→leb, lt→ltb}
 use lib.IntN.{ℤ, pos, negsuc, negℤ, natAbs}
 use lib.Ieee.{Float, nan, inf, fin, Format, binary32, binary64, prec, low, up, down, unlike, round, ofInt, mul, div}
-use lib.Ieee.{toSigned, toUnsigned}
+use lib.Ieee.{toSigned, toUnsigned, inFloat}
 use lib.Ieee.Fits.{round-is, down-pos, up-pos}
 use lib.Ieee.Exact.{HasValue, units-val}
 use lib.Ieee.Back.{round-whole}
@@ -111,14 +111,20 @@ abbrev pub below-zero : ℤ → Bool
 below-zero (pos n) = false
 below-zero (negsuc n) = true
 
-pub int-is : (f : Format) (z : ℤ) → ofInt f z ≡ round f (below-zero z) (natAbs z) 1
+int-is : (f : Format) (z : ℤ) → ofInt f z ≡ round f (below-zero z) (natAbs z) 1
 unfolding ofInt
 int-is f (pos n) = refl
 int-is f (negsuc n) = refl
 
-pub int-val : (f : Format) (z : ℤ) → natAbs z ≤ 2 ^ prec f → HasValue (ofInt f z) (below-zero z) (natAbs z) 1
+int-val : (f : Format) (z : ℤ) → natAbs z ≤ 2 ^ prec f → HasValue (ofInt f z) (below-zero z) (natAbs z) 1
 int-val f z h = subst (λ (x : Float). HasValue x (below-zero z) (natAbs z) 1) (sym (int-is f z))
     (round-whole f (below-zero z) (natAbs z) h)
+
+-- a cast to a float loses nothing
+pub in-float : (f : Format) (z : ℤ) → natAbs z ≤ 2 ^ prec f → T (inFloat f z)
+unfolding inFloat
+in-float f (pos n) h = le→leb n (2 ^ prec f) h
+in-float f (negsuc n) h = lt→ltb n (2 ^ prec f) h
 
 pub mul-ints : (f : Format) (y z : ℤ) → natAbs y ≤ 2 ^ prec f → natAbs z ≤ 2 ^ prec f → mul f (ofInt f y) (ofInt f z)
     ≡ round f (unlike (below-zero y) (below-zero z)) (natAbs y * natAbs z) 1

@@ -19,6 +19,7 @@ absF (fin s m e) = fin false m e
 abbrev pub upward : ℕ → ℕ → ℕ
 upward n d = (n + (d - 1)) / d
 
+-- and to the nearest whole number, a half up
 abbrev pub halfUp : ℕ → ℕ → ℕ
 halfUp n d = (2 * n + d) / (2 * d)
 
@@ -43,7 +44,10 @@ roundF f nan = nan
 roundF f (inf s) = inf s
 roundF f (fin s m e) = round f s (halfUp (m * up e) (down e)) 1
 
--- (width as f64 * offset as f64 / total as f64) as i32: both operations round, and the quotient is cut toward zero
-unfoldable pub cutQuotient : ℤ → ℤ → ℤ → ℤ
-cutQuotient width offset total =
-    toSigned 31 (div binary64 (mul binary64 (ofInt binary64 width) (ofInt binary64 offset)) (ofInt binary64 total))
+-- width × offset ÷ total, both steps rounded
+unfoldable pub quotientOf : Float → ℤ → Float → Float
+quotientOf width offset total = div binary64 (mul binary64 width (ofInt binary64 offset)) total
+
+-- cut toward zero, as Rust's `as i32`
+abbrev pub cut : Float → ℤ
+cut x = toSigned 31 x

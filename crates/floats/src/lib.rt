@@ -1,4 +1,5 @@
-// Rust's casts between floats and whole numbers, on bits, and floor, ceil and round of a quotient in whole numbers.
+// Rust's casts between floats and whole numbers and the rounding of an f32, on bits, and floor and ceil of a quotient in
+// whole numbers.
 // Each statement is an equation with what IEEE 754 says (lib.Ieee).
 ghost use mathlib.Core.Path.{_≡_};
 ghost use mathlib.Core.Bool.{cond, not};
@@ -15,8 +16,13 @@ const LEAD: u64 = 4503599627370496;
 // The weight of the sign: 2^63.
 const SIGN: u64 = 9223372036854775808;
 
+// The same two of an f32: 2^23, and 2^31.
+const LEAD32: u64 = 8388608;
+
+const SIGN32: u64 = 2147483648;
+
 // How far x is from 0. The smallest i64 has no opposite, so the 1 comes back after the cast.
-pub fn size_of(x: i64) -> u64
+pub fn unsigned_abs(x: i64) -> u64
     ensures { λ r. ⌜ r ≡ natAbs x ⌝ }
 {
     if x < 0 {
@@ -26,7 +32,7 @@ pub fn size_of(x: i64) -> u64
 }
 
 // n, or -n.
-pub fn signed(below: bool, n: u64) -> i64
+fn with_sign(below: bool, n: u64) -> i64
     requires { ⌜ n < 2 ^ 63 ⌝ }
     ensures { λ r. ⌜ r ≡ withSign below n ⌝ }
 {
@@ -68,7 +74,7 @@ pub fn from_i64(n: i64) -> f64
     ensures { λ r. ⌜ r ≡ ofInt binary64 n ⌝ }
 {
     if n < 0 {
-        return -from_u64(size_of(n));
+        return -from_u64(unsigned_abs(n));
     }
     from_u64(n as u64)
 }
@@ -106,7 +112,7 @@ fn limited(below: bool, n: u64, most: u64) -> i64
     ensures { λ r. ⌜ r ≡ cond below (negℤ (pos (min n (suc most)))) (pos (min n most)) ⌝ }
 {
     if n <= most {
-        return signed(below, n);
+        return with_sign(below, n);
     }
     if below {
         return -1 - (most as i64);
@@ -138,6 +144,38 @@ pub fn to_usize(x: f64) -> u64
     magnitude(x)
 }
 
+// The whole number nearest to the f32 that has these bits, a half up, without its sign; the largest u64 from 2^64 on.
+// The bits are a sign, an exponent e and 23 digits; with a leading 1 these are d, and the float is d * 2^(e - 150). One
+// digit below 1 is kept, 1 is added there, and it is dropped.
+fn round_of(bits: u64) -> u64
+    requires { ⌜ T (not (nanBits binary32 bits)) ⌝ }
+    ensures { λ r. ⌜ r ≡ toUnsigned 64 (absF (roundF binary32 (ofBits binary32 bits))) ⌝ }
+{
+    let e = bits % SIGN32 / LEAD32;
+    let d = bits % LEAD32 + LEAD32;
+    if e < 126 {
+        return 0;
+    }
+    if e < 150 {
+        return ((d >> (149 - e)) + 1) / 2;
+    }
+    if e < 191 {
+        return d << (e - 150);
+    }
+    18446744073709551615
+}
+
+// x.round() as i32: to the nearest whole number, a half away from zero, an end of the range beyond it, and 0 for a NaN.
+pub fn round_to_i32(x: f32) -> i32
+    ensures { λ r. ⌜ r ≡ toSigned 31 (roundF binary32 x) ⌝ }
+{
+    if x != x {
+        return 0;
+    }
+    let bits = f32::to_bits(x) as u64;
+    limited(SIGN32 <= bits, round_of(bits), 2147483647) as i32
+}
+
 // (n as f64 / d as f64).floor() as usize.
 pub fn floor_quotient(n: u64, d: u64) -> u64
     requires { ⌜ (n < 2 ^ 53) × (0 < d) × (d ≤ 2 ^ 53) ⌝ }
@@ -152,12 +190,4 @@ pub fn ceil_quotient(n: u64, d: u64) -> u64
     ensures { λ r. ⌜ r ≡ toUnsigned 64 (ceilF binary64 (div binary64 (ofInt binary64 (pos n)) (ofInt binary64 (pos d)))) ⌝ }
 {
     (n + (d - 1)) / d
-}
-
-// (n as f32 / d as f32).round() as usize: a half goes up.
-pub fn half_up(n: u64, d: u64) -> u64
-    requires { ⌜ (n < 2 ^ 23) × (0 < d) × (d ≤ 2 ^ 24) ⌝ }
-    ensures { λ r. ⌜ r ≡ toUnsigned 64 (roundF binary32 (div binary32 (ofInt binary32 (pos n)) (ofInt binary32 (pos d)))) ⌝ }
-{
-    (2 * n + d) / (2 * d)
 }

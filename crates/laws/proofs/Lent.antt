@@ -10,7 +10,7 @@ use lib.ListN.{length, getD, set, drop, length-append}
 use lib.Seq.{drop-cons, set-at, append-snoc}
 
 module _ {A : Type 0} where
-  pub push : (p d : List A) (k : ℕ) (v : A) → length p ≡ k → k < length d → set (p ++ drop k d) k v ≡ (p ++ (v ∷ []))
+  push : (p d : List A) (k : ℕ) (v : A) → length p ≡ k → k < length d → set (p ++ drop k d) k v ≡ (p ++ (v ∷ []))
       ++ drop (k + 1) d
   push p d k v e h = rw (add-one k, drop-cons d k v h) (set-at p (getD d k v) (drop (suc k) d) v k e
       ∙ sym (append-snoc p v (drop (suc k) d)))

@@ -13,42 +13,42 @@ use mir.Syntax.{w64}
 use mir.Val.{SFits, ofZ, toZ}
 use mir.Facts.{toZ-ofZ}
 use mir.ValLaws.{sfits-le, toZ-pos}
-use Rattle.laws.specs.Numbers.{up, dn}
+use Rattle.laws.specs.Numbers.{posPart, negPart}
 use borrow.Author.Tests.{ltb-true, ltb-false, leb-true, leb-false, lt-ltb, le-ltb}
 
 -- ---- tests
-pub lt-true : (a b : ℤ) → ltZ a b ≡ true → up a + dn b < up b + dn a
+pub lt-true : (a b : ℤ) → ltZ a b ≡ true → posPart a + negPart b < posPart b + negPart a
 lt-true (pos a) (pos b) e = omega (arith, ltb-true a b e)
 lt-true (pos a) (negsuc b) e = let z : _≡_ {A = ℕ} 0 1 = cc in omega arith
 lt-true (negsuc a) (pos b) e = omega arith
 lt-true (negsuc a) (negsuc b) e = omega (arith, ltb-true b a e)
 
-pub lt-false : (a b : ℤ) → ltZ a b ≡ false → up b + dn a ≤ up a + dn b
+pub lt-false : (a b : ℤ) → ltZ a b ≡ false → posPart b + negPart a ≤ posPart a + negPart b
 lt-false (pos a) (pos b) e = omega (arith, ltb-false a b e)
 lt-false (pos a) (negsuc b) e = omega arith
 lt-false (negsuc a) (pos b) e = let z : _≡_ {A = ℕ} 0 1 = cc in omega arith
 lt-false (negsuc a) (negsuc b) e = omega (arith, ltb-false b a e)
 
-pub le-true : (a b : ℤ) → leZ a b ≡ true → up a + dn b ≤ up b + dn a
+pub le-true : (a b : ℤ) → leZ a b ≡ true → posPart a + negPart b ≤ posPart b + negPart a
 le-true (pos a) (pos b) e = omega (arith, leb-true a b e)
 le-true (pos a) (negsuc b) e = let z : _≡_ {A = ℕ} 0 1 = cc in omega arith
 le-true (negsuc a) (pos b) e = omega arith
 le-true (negsuc a) (negsuc b) e = omega (arith, leb-true b a e)
 
-pub le-false : (a b : ℤ) → leZ a b ≡ false → up b + dn a < up a + dn b
+pub le-false : (a b : ℤ) → leZ a b ≡ false → posPart b + negPart a < posPart a + negPart b
 le-false (pos a) (pos b) e = omega (arith, leb-false a b e)
 le-false (pos a) (negsuc b) e = omega arith
 le-false (negsuc a) (pos b) e = let z : _≡_ {A = ℕ} 0 1 = cc in omega arith
 le-false (negsuc a) (negsuc b) e = omega (arith, leb-false b a e)
 
 -- the other way: a test's value from the numbers
-pub is-lt : (a b : ℤ) → up a + dn b < up b + dn a → ltZ a b ≡ true
+pub is-lt : (a b : ℤ) → posPart a + negPart b < posPart b + negPart a → ltZ a b ≡ true
 is-lt (pos a) (pos b) h = lt-ltb a b (omega arith)
 is-lt (pos a) (negsuc b) h = absurd (let z : ⊥ = omega arith in z)
 is-lt (negsuc a) (pos b) h = refl
 is-lt (negsuc a) (negsuc b) h = lt-ltb b a (omega arith)
 
-pub is-ge : (a b : ℤ) → up b + dn a ≤ up a + dn b → ltZ a b ≡ false
+pub is-ge : (a b : ℤ) → posPart b + negPart a ≤ posPart a + negPart b → ltZ a b ≡ false
 is-ge (pos a) (pos b) h = le-ltb a b (omega arith)
 is-ge (pos a) (negsuc b) h = refl
 is-ge (negsuc a) (pos b) h = absurd (let z : ⊥ = omega arith in z)
@@ -56,77 +56,69 @@ is-ge (negsuc a) (negsuc b) h = le-ltb b a (omega arith)
 
 -- ---- operations
 sub-nat : (a b : ℕ) (t : Bool) → ltb a b ≡ t →
-    (up (cond t (negsuc (b - suc a)) (pos (a - b))) + b ≡ a + dn (cond t (negsuc (b - suc a)) (pos (a - b))))
+    (posPart (cond t (negsuc (b - suc a)) (pos (a - b))) + b ≡ a + negPart (cond t (negsuc (b - suc a)) (pos (a - b))))
 sub-nat a b true e = omega (arith, ltb-true a b e)
 sub-nat a b false e = omega (arith, ltb-false a b e)
 
-pub add : (a b : ℤ) → up (a +ℤ b) + (dn a + dn b) ≡ (up a + up b) + dn (a +ℤ b)
+pub add : (a b : ℤ) → posPart (a +ℤ b) + (negPart a + negPart b) ≡ (posPart a + posPart b) + negPart (a +ℤ b)
 add (pos a) (pos b) = omega arith
 add (pos a) (negsuc b) = omega (arith, sub-nat a (suc b) (ltb a (suc b)) refl)
 add (negsuc a) (pos b) = omega (arith, sub-nat b (suc a) (ltb b (suc a)) refl)
 add (negsuc a) (negsuc b) = omega arith
 
-pub neg-up : (a : ℤ) → up (negℤ a) ≡ dn a
+pub neg-up : (a : ℤ) → posPart (negℤ a) ≡ negPart a
 neg-up (pos zero) = refl
 neg-up (pos (suc n)) = refl
 neg-up (negsuc n) = refl
 
-pub neg-dn : (a : ℤ) → dn (negℤ a) ≡ up a
+pub neg-dn : (a : ℤ) → negPart (negℤ a) ≡ posPart a
 neg-dn (pos zero) = refl
 neg-dn (pos (suc n)) = refl
 neg-dn (negsuc n) = refl
 
-pub sub : (a b : ℤ) → up (a -ℤ b) + (dn a + up b) ≡ (up a + dn b) + dn (a -ℤ b)
+pub sub : (a b : ℤ) → posPart (a -ℤ b) + (negPart a + posPart b) ≡ (posPart a + negPart b) + negPart (a -ℤ b)
 sub a b = omega (arith, add a (negℤ b), neg-up b, neg-dn b)
 
-pub mul-up : (a : ℤ) (k : ℕ) → up (a *ℤ pos k) ≡ up a * k
+pub mul-up : (a : ℤ) (k : ℕ) → posPart (a *ℤ pos k) ≡ posPart a * k
 mul-up (pos a) k = refl
 mul-up (negsuc a) k = neg-up (pos (suc a * k)) ∙ sym (zero-mul k)
 
-pub mul-dn : (a : ℤ) (k : ℕ) → dn (a *ℤ pos k) ≡ dn a * k
+pub mul-dn : (a : ℤ) (k : ℕ) → negPart (a *ℤ pos k) ≡ negPart a * k
 mul-dn (pos a) k = sym (zero-mul k)
 mul-dn (negsuc a) k = neg-dn (pos (suc a * k))
 
 -- division by a positive number goes toward zero, and the remainder has the dividend's sign: each side by itself
-pub quot-up : (a : ℤ) (k : ℕ) → up (quotZ a (pos k)) ≡ up a / k
+pub quot-up : (a : ℤ) (k : ℕ) → posPart (quotZ a (pos k)) ≡ posPart a / k
 quot-up (pos a) k = refl
 quot-up (negsuc a) k = neg-up (pos (suc a / k)) ∙ sym (zero-div k)
 
-pub quot-dn : (a : ℤ) (k : ℕ) → dn (quotZ a (pos k)) ≡ dn a / k
+pub quot-dn : (a : ℤ) (k : ℕ) → negPart (quotZ a (pos k)) ≡ negPart a / k
 quot-dn (pos a) k = sym (zero-div k)
 quot-dn (negsuc a) k = neg-dn (pos (suc a / k))
 
-pub rem-up : (a : ℤ) (k : ℕ) → up (remZ a (pos k)) ≡ up a % k
-rem-up (pos a) k = refl
-rem-up (negsuc a) k = neg-up (pos (suc a % k)) ∙ sym (zero-mod k)
-
-pub rem-dn : (a : ℤ) (k : ℕ) → dn (remZ a (pos k)) ≡ dn a % k
-rem-dn (pos a) k = sym (zero-mod k)
-rem-dn (negsuc a) k = neg-dn (pos (suc a % k))
-
 -- ---- ranges, and equality
-pub one-is-zero : (z : ℤ) → (up z ≡ 0) ⊎ (dn z ≡ 0)
+pub one-is-zero : (z : ℤ) → (posPart z ≡ 0) ⊎ (negPart z ≡ 0)
 one-is-zero (pos n) = inr refl
 one-is-zero (negsuc n) = inl refl
 
-pub up-fits : (z : ℤ) → SFits w64 z → up z < 2 ^ 63
+pub up-fits : (z : ℤ) → SFits w64 z → posPart z < 2 ^ 63
 up-fits (pos n) f = f .sfits
 up-fits (negsuc n) f = omega arith
 
-pub dn-fits : (z : ℤ) → SFits w64 z → dn z ≤ 2 ^ 63
+pub dn-fits : (z : ℤ) → SFits w64 z → negPart z ≤ 2 ^ 63
 dn-fits (pos n) f = omega arith
 dn-fits (negsuc n) f = omega (arith, f .sfits)
 
-mag-by : (z : ℤ) → up z < 2 ^ 63 → dn z ≤ 2 ^ 63 → mag z < 2 ^ 63
+mag-by : (z : ℤ) → posPart z < 2 ^ 63 → negPart z ≤ 2 ^ 63 → mag z < 2 ^ 63
 mag-by (pos n) h k = h
 mag-by (negsuc n) h k = omega arith
 
 -- z is p - n, and that lies in the range of an i64
-pub fits : (z : ℤ) (p n : ℕ) → up z + n ≡ p + dn z → p < 2 ^ 63 + n → n ≤ 2 ^ 63 + p → SFits w64 z
+pub fits : (z : ℤ) (p n : ℕ) → posPart z + n ≡ p + negPart z → p < 2 ^ 63 + n → n ≤ 2 ^ 63 + p → SFits w64 z
 fits (pos k) p n e h l = record { sfits = mag-by (pos k) (omega arith) (omega arith) }
 fits (negsuc k) p n e h l = record { sfits = mag-by (negsuc k) (omega arith) (omega arith) }
 
-pub same : (a b : ℤ) → up a + dn b ≡ up b + dn a → a ≡ b
+pub same : (a b : ℤ) → posPart a + negPart b ≡ posPart b + negPart a → a ≡ b
 same (pos a) (pos b) e = ap pos (omega arith)
 same (pos a) (negsuc b) e = absurd (let z : ⊥ = omega arith in z)
 same (negsuc a) (pos b) e = absurd (let z : ⊥ = omega arith in z)
@@ -136,20 +128,16 @@ same (negsuc a) (negsuc b) e = ap negsuc (omega arith)
 -- a quotient by a positive number lies in the range, and so does a remainder
 pub quot-fits : (x d : ℤ) → SFits w64 x → ltZ d (pos 1) ≡ false → SFits w64 (quotZ x d)
 quot-fits x (pos k) f e =
-    fits (quotZ x (pos k)) (up x / k) (dn x / k) (ap (λ (n : ℕ). n + dn x / k) (quot-up x k) ∙ ap (λ (n : ℕ). up x / k + n)
+    fits (quotZ x (pos k)) (posPart x / k) (negPart x / k) (ap (λ (n : ℕ). n + negPart x / k) (quot-up x k)
+    ∙ ap (λ (n : ℕ). posPart x / k + n)
     (sym (quot-dn x k)))
-    (omega (arith, up-fits x f, div-le-self (up x) k)) (omega (arith, dn-fits x f, div-le-self (dn x) k))
+    (omega (arith, up-fits x f, div-le-self (posPart x) k)) (omega (arith, dn-fits x f, div-le-self (negPart x) k))
 quot-fits x (negsuc k) f e = let z : _≡_ {A = ℕ} 0 1 = cc in absurd (let w : ⊥ = omega arith in w)
 
 pub rem-fits : (x d : ℤ) → SFits w64 x → SFits w64 (remZ x d)
 rem-fits x d f = sfits-le (mag-rem x d) f
 
--- the bits of a number that is not below 1 are not 0
-pub bits-pos : (d : ℤ) → ltZ d (pos 1) ≡ false → 0 < ofZ w64 d
-bits-pos (pos n) e = ltb-false n 1 e
-bits-pos (negsuc n) e = let z : _≡_ {A = ℕ} 0 1 = cc in omega arith
-
--- a number that is not below 0 is `pos` of its `up`
+-- a number that is not below 0 is `pos` of its `posPart`
 pub not-neg : (x : ℤ) → ltZ x (pos 0) ≡ false → T (nonNeg x)
 not-neg (pos n) e = tt
 not-neg (negsuc n) e = let z : _≡_ {A = ℕ} 0 1 = cc in absurd (let w : ⊥ = omega arith in w)
@@ -163,11 +151,11 @@ read-count n h = toZ-pos w64 n h
 
 -- A signed local is read back from its bits: the same number. By their bare names in `omega`'s list these serve every
 -- local whose `SFits` is in reach
-pub read-up : {z : ℤ} → SFits w64 z → up (toZ w64 (ofZ w64 z)) ≡ up z
-read-up f = ap up (toZ-ofZ f)
+pub read-up : {z : ℤ} → SFits w64 z → posPart (toZ w64 (ofZ w64 z)) ≡ posPart z
+read-up f = ap posPart (toZ-ofZ f)
 
-pub read-dn : {z : ℤ} → SFits w64 z → dn (toZ w64 (ofZ w64 z)) ≡ dn z
-read-dn f = ap dn (toZ-ofZ f)
+pub read-dn : {z : ℤ} → SFits w64 z → negPart (toZ w64 (ofZ w64 z)) ≡ negPart z
+read-dn f = ap negPart (toZ-ofZ f)
 
 -- a difference of two numbers, as the code reads it back
 pub read-sub : (x y : ℤ) → SFits w64 x → SFits w64 y → SFits w64 (x -ℤ y) →

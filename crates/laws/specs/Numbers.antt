@@ -2,19 +2,27 @@
 -- A z is `up z` less `dn z`.
 use mathlib.Core.Bool.{Bool, _&&_}
 use Prim.Native.Nat.{ℕ, suc}
-use lib.IntN.{ℤ, pos, negsuc}
+use lib.IntN.{ℤ, pos, negsuc, negℤ}
 use lib.Signed.{leZ}
+
+-- n below 0
+abbrev pub minus : ℕ → ℤ
+minus n = negℤ (pos n)
 
 -- both ends are included
 abbrev pub within : ℤ → ℤ → ℤ → Bool
 within low x high = leZ low x && leZ x high
 
+-- the number itself where it is equal
+abbrev pub isNumber : ℤ → ℕ → Bool
+isNumber x n = within (pos n) x (pos n)
+
 -- how far above 0
-abbrev pub up : ℤ → ℕ
-up (pos n) = n
-up (negsuc n) = 0
+abbrev pub posPart : ℤ → ℕ
+posPart (pos n) = n
+posPart (negsuc n) = 0
 
 -- how far below 0
-abbrev pub dn : ℤ → ℕ
-dn (pos n) = 0
-dn (negsuc n) = suc n
+abbrev pub negPart : ℤ → ℕ
+negPart (pos n) = 0
+negPart (negsuc n) = suc n

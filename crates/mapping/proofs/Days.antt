@@ -7,14 +7,15 @@ use native.Mathlib.Decide.{decLe}
 use native.Mathlib.Omega.{arith}
 use lib.IntN.{ℤ, pos, negsuc, natAbs, _+ℤ_, _-ℤ_, _*ℤ_}
 use lib.Signed.{leZ, ltZ, _<ℤ_}
-use Rattle.laws.specs.Numbers.{within, up, dn}
+use Rattle.laws.specs.Numbers.{within, posPart, negPart}
 use Rattle.laws.proofs.Signed.{add, sub, mul-up, mul-dn, same, lt-true}
 use Rattle.laws.proofs.Asked.{told}
 use Rattle.laws.proofs.Tests.{both-true, holds}
-use Rattle.floats.specs.Rounding.{cutQuotient}
+use Rattle.floats.specs.Rounding.{quotientOf}
+use Rattle.floats.proofs.Quotients.{cutQuotient}
 use Rattle.floats.proofs.Growth.{pixels-grow, pixels-fall}
 use Rattle.values.specs.declared.Value.{Value}
-use Rattle.values.specs.Values.{isDuration}
+use Rattle.values.specs.Values.{midnight, isDuration}
 use Rattle.values.specs.Differences.{nanoseconds, difference, fitsI64, nanosecondsOf}
 use Rattle.values.proofs.Numbers.{is-gt, within-true, not-below}
 use Rattle.values.proofs.Values.{DateValue, date-value}
@@ -25,8 +26,8 @@ use Rattle.axis.specs.Axes.{start, end, spanOf, offsetOf}
 use Rattle.axis.specs.Questions.{pixels}
 use Rattle.axis.proofs.Axes.{both-ends}
 use Rattle.mapping.specs.declared.Pixel.the-variants.{At}
-use Rattle.mapping.specs.Mapping.{scaleOf, positionOf, mapCoord, placed, mapped, mapQuestions}
-use Rattle.mapping.specs.Days.{day, DayOf, MorePixels}
+use Rattle.mapping.specs.Mapping.{scaleOf, mapCoord, placedBy, placed, mapped, mapQuestions}
+use Rattle.mapping.specs.Days.{DayOf, MorePixels}
 use Rattle.axis.proofs.PixelRanges.{limits-are, between-few}
 use Rattle.mapping.proofs.Answers.{accepted}
 
@@ -35,7 +36,8 @@ no-duration : (k : ℤ) → within (pos 1) k (pos 3) ≡ true → isDuration k �
 no-duration k e = ap (λ (b : Bool). b && leZ k (pos 7)) (is-gt (pos 7) k (omega (arith, within-true (pos 1) k (pos 3) e .1)))
 
 -- ---- differences in whole days
-days-between : (k h s : ℤ) (n : ℕ) → isDuration k ≡ false → up h + dn s ≡ n + (up s + dn h) → difference k (day s) (day h)
+days-between : (k h s : ℤ) (n : ℕ) → isDuration k ≡ false → posPart h + negPart s ≡ n + (posPart s + negPart h) →
+    difference k (midnight s) (midnight h)
     ≡ pos (n * 86400000000000)
 unfolding difference nanoseconds
 days-between k h s n e d =
@@ -59,7 +61,7 @@ small-fits n h = fits-yes (pos (n * 86400000000000)) (omega arith) (omega arith)
 day-placed : (a : Axis) (l : Limits) (v : Value) (o d : ℕ) → isDuration (a .kind) ≡ false →
     offsetOf a v ≡ pos (o * 86400000000000) → spanOf a ≡ pos (d * 86400000000000) → o ≤ 65534 → d ≤ 65534
     → placed a l v ≡ l .low +ℤ cutQuotient (l .high -ℤ l .low) (pos (o * 86400000000000)) (pos (d * 86400000000000))
-unfolding placed mapCoord positionOf scaleOf nanosecondsOf cutQuotient
+unfolding placed placedBy mapCoord quotientOf scaleOf nanosecondsOf
 day-placed a l v o d e f g O D = rw (f, g, e, small-fits o O, small-fits d D)
 
 -- ---- the pixels of two days
@@ -73,9 +75,9 @@ moves (pos w) o r d a b c m e = never-less _ _ (pixels-grow w o r d (omega arith
 moves (negsuc w) o r d a b c m e = never-less _ _ (pixels-fall (suc w) o r d (omega arith) a b c m) (sym e)
 
 cancel : (l x y : ℤ) → l +ℤ x ≡ l +ℤ y → x ≡ y
-cancel l x y e = same x y (omega (arith, add l x, add l y, ap up e, ap dn e))
+cancel l x y e = same x y (omega (arith, add l x, add l y, ap posPart e, ap negPart e))
 
-size-of : (z : ℤ) (p n : ℕ) → up z + n ≡ p + dn z → n ≤ p → natAbs z + n ≡ p
+size-of : (z : ℤ) (p n : ℕ) → posPart z + n ≡ p + negPart z → n ≤ p → natAbs z + n ≡ p
 size-of (pos k) p n e l = omega arith
 size-of (negsuc k) p n e l = absurd (let w : ⊥ = omega arith in w)
 
@@ -84,45 +86,48 @@ module _ (a : Axis) (l : Limits) (w : MorePixels a l) (dates : within (pos 1) (a
   width-few : natAbs (l .high -ℤ l .low) ≤ 65534
   width-few = let (low, high) = limits-are l page in between-few (l .high) (l .low) high low
 
-  later : (i j p q : ℤ) → DayOf a i → DayOf a j → dn i ≡ 0 → dn j ≡ 0 → up i < up j → placed a l (day i) ≡ p →
-      placed a l (day j) ≡ q → p ≡ q → ⊥
+  later : (i j p q : ℤ) → DayOf a i → DayOf a j → negPart i ≡ 0 → negPart j ≡ 0 → posPart i < posPart j →
+      placed a l (midnight i) ≡ p →
+      placed a l (midnight j) ≡ q → p ≡ q → ⊥
   unfolding offsetOf spanOf
   later i j p q I J zi zj less ep eq e =
       let s = a .«start_head» in
       let t = a .«end_head» in
       let x = within-true s i t (I .inside) in
       let y = within-true s j t (J .inside) in
-      let d = up t - up s in
+      let d = posPart t - posPart s in
       let no = no-duration (a .kind) dates in
       let D : d < natAbs (l .high -ℤ l .low) =
-      omega (arith, size-of (t -ℤ s) (up t) (up s) (omega (arith, sub t s)) (omega arith)) in
-      let f : offsetOf a (day i) ≡ pos ((up i - up s) * 86400000000000) =
-      rw (first .no-tail) (days-between (a .kind) i s (up i - up s) no (omega arith)) in
-      let g : offsetOf a (day j) ≡ pos ((up j - up s) * 86400000000000) =
-      rw (first .no-tail) (days-between (a .kind) j s (up j - up s) no (omega arith)) in
+      omega (arith, size-of (t -ℤ s) (posPart t) (posPart s) (omega (arith, sub t s)) (omega arith)) in
+      let f : offsetOf a (midnight i) ≡ pos ((posPart i - posPart s) * 86400000000000) =
+      rw (first .no-tail) (days-between (a .kind) i s (posPart i - posPart s) no (omega arith)) in
+      let g : offsetOf a (midnight j) ≡ pos ((posPart j - posPart s) * 86400000000000) =
+      rw (first .no-tail) (days-between (a .kind) j s (posPart j - posPart s) no (omega arith)) in
       let h : spanOf a ≡ pos (d * 86400000000000) =
       rw (first .no-tail, last .no-tail) (days-between (a .kind) t s d no (omega arith)) in
-      let u = day-placed a l (day i) (up i - up s) d no f h (omega (arith, width-few)) (omega (arith, width-few)) in
-      let v = day-placed a l (day j) (up j - up s) d no g h (omega (arith, width-few)) (omega (arith, width-few)) in
-      moves (l .high -ℤ l .low) (up i - up s) (up j - up s) d (omega arith) (omega arith) D width-few
+      let u = day-placed a l (midnight i) (posPart i - posPart s) d no f h (omega (arith, width-few))
+      (omega (arith, width-few)) in
+      let v = day-placed a l (midnight j) (posPart j - posPart s) d no g h (omega (arith, width-few))
+      (omega (arith, width-few)) in
+      moves (l .high -ℤ l .low) (posPart i - posPart s) (posPart j - posPart s) d (omega arith) (omega arith) D width-few
       (cancel (l .low) _ _ (sym u ∙ (ep ∙ (e ∙ (sym eq ∙ v)))))
 
 -- two different days of a date axis, more pixels than days: their pixels differ
 pub days-differ : (a : Axis) (l : Limits) (i j p q : ℤ) → MorePixels a l → DayOf a i → DayOf a j → (i ≡ j → ⊥)
-    → mapped a l (day i) ≡ At p → mapped a l (day j) ≡ At q → p ≡ q → ⊥
+    → mapped a l (midnight i) ≡ At p → mapped a l (midnight j) ≡ At q → p ≡ q → ⊥
 days-differ a l i j p q w I J ne ei ej e =
-    let (nx, x) = accepted a l (day i) p ei in
-    let (ny, y) = accepted a l (day j) q ej in
-    let row = mapQuestions a l (day i) in
+    let (nx, x) = accepted a l (midnight i) p ei in
+    let (ny, y) = accepted a l (midnight j) q ej in
+    let row = mapQuestions a l (midnight i) in
     let both = both-ends a (told 3 row tt nx) in
     let dates = both-true (leZ (pos 1) (a .kind)) (leZ (a .kind) (pos 3)) (I .dates) .1 in
     let first = date-value (a .kind) (start a) (both .first) dates in
     let last = date-value (a .kind) (end a) (both .second) dates in
     let page = told 7 row tt nx in
-    let zi : dn i ≡ 0 = not-below i (omega (arith, within-true (a .«start_head») i (a .«end_head») (I .inside))) in
-    let zj : dn j ≡ 0 = not-below j (omega (arith, within-true (a .«start_head») j (a .«end_head») (J .inside))) in
-    let apart : (up i ≡ up j → ⊥) = λ h. ne (same i j (omega arith)) in
-    elim (decLe (up i) (up j)) [
+    let zi : negPart i ≡ 0 = not-below i (omega (arith, within-true (a .«start_head») i (a .«end_head») (I .inside))) in
+    let zj : negPart j ≡ 0 = not-below j (omega (arith, within-true (a .«start_head») j (a .«end_head») (J .inside))) in
+    let apart : (posPart i ≡ posPart j → ⊥) = λ h. ne (same i j (omega arith)) in
+    elim (decLe (posPart i) (posPart j)) [
       | yes h ↦ later a l w (I .dates) first last page i j p q I J zi zj (omega arith) x y e
       | no h ↦ later a l w (I .dates) first last page j i q p J I zj zi (omega arith) y x (sym e)
     ]

@@ -10,14 +10,15 @@ use lib.Ieee.{Float}
 use lib.Ieee.Casts.{toSigned-in}
 use mir.Syntax.{w32, w64}
 use mir.Val.{SFits}
-use Rattle.laws.specs.Numbers.{up, dn}
+use Rattle.laws.specs.Numbers.{posPart, negPart}
 use Rattle.laws.proofs.Signed.{add, fits}
 use Rattle.laws.proofs.Tests.{both-true}
 use Rattle.axis.specs.declared.Axis.{Axis}
 use Rattle.axis.specs.declared.Limits.{Limits}
 use Rattle.axis.specs.Questions.{isPixel, pixels}
 use Rattle.axis.proofs.Questions.{pixel-range}
-use Rattle.mapping.specs.Mapping.{cut, scaleOf, LowOnPage}
+use Rattle.mapping.specs.Mapping.{scaleOf, LowOnPage}
+use Rattle.floats.specs.Rounding.{cut}
 
 pub low-on-page : (a : Axis) (l : Limits) → pixels l ≡ true → LowOnPage (scaleOf a l)
 unfolding pixels scaleOf
@@ -29,16 +30,16 @@ wider z h = record { sfits = lt-of-lt-of-le (h .sfits) (lit≤ tt) }
 pub cut-fits : (x : Float) → SFits w32 (cut x)
 cut-fits x = record { sfits = toSigned-in 31 x }
 
-up-32 : (z : ℤ) → SFits w32 z → up z < 2 ^ 31
+up-32 : (z : ℤ) → SFits w32 z → posPart z < 2 ^ 31
 up-32 (pos n) f = f .sfits
 up-32 (negsuc n) f = omega arith
 
-dn-32 : (z : ℤ) → SFits w32 z → dn z ≤ 2 ^ 31
+dn-32 : (z : ℤ) → SFits w32 z → negPart z ≤ 2 ^ 31
 dn-32 (pos n) f = omega arith
 dn-32 (negsuc n) f = omega (arith, f .sfits)
 
 pub sum-fits : (low z : ℤ) → isPixel low ≡ true → SFits w32 z → SFits w64 (low +ℤ z)
 sum-fits low z e f =
     let (a, b) = pixel-range low e in
-    fits (low +ℤ z) (up low + up z) (dn low + dn z) (omega (arith, add low z)) (omega (arith, up-32 z f))
+    fits (low +ℤ z) (posPart low + posPart z) (negPart low + negPart z) (omega (arith, add low z)) (omega (arith, up-32 z f))
     (omega (arith, dn-32 z f))

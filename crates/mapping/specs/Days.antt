@@ -1,17 +1,12 @@
 -- The words of demand 3's second half: the days of a date axis, more pixels than days. Definitions only.
--- The pixel of a day is what mapping answers for it: `mapped a l (day i)`.
+-- The pixel of a day is what mapping answers for it: `mapped a l (midnight i)`.
 use mathlib.Core.Path.{_≡_}
 use mathlib.Core.Bool.{true}
 use Prim.Native.Nat.{_<_}
 use lib.IntN.{ℤ, pos, natAbs, _-ℤ_}
 use Rattle.laws.specs.Numbers.{within}
-use Rattle.values.specs.declared.Value.{Value}
 use Rattle.axis.specs.declared.Axis.{Axis}
 use Rattle.axis.specs.declared.Limits.{Limits}
-
--- a day number as a value
-abbrev pub day : ℤ → Value
-day i = record { head = i; tail = pos 0 }
 
 -- "the days of a date axis", that is, one over dates, "are those from start to end, both included"
 pub record DayOf (a : Axis) (i : ℤ) : Type 0 where

@@ -5,28 +5,29 @@ use Prim.Native.Nat.{ℕ, zero, suc, _*_, _^_, _≤_, _<_}
 use native.Mathlib.Omega.{arith}
 use lib.Dec.{leb, ltb}
 use borrow.Author.Tests.{leb-true, ltb-true}
-use Rattle.laws.specs.Asking.{firstNo}
-use Rattle.laws.specs.Numbers.{up}
+use Rattle.laws.specs.Asking.{firstNo, unless}
+use Rattle.laws.specs.Numbers.{posPart}
 use Rattle.axis.specs.declared.Axis.{Axis}
 use Rattle.axis.specs.declared.BoldPoints.{BoldPoints}
 use Rattle.plans.specs.Times.{periodIn}
 use Rattle.plans.proofs.Spans.{timed}
 use Rattle.steps.specs.declared.Steps.{Steps}
 use Rattle.steps.specs.declared.Listed.the-variants.{Refused, Ticks}
-use Rattle.steps.specs.Listing.{countOf}
+use Rattle.steps.specs.Listing.{listedOf, countOf}
 use Rattle.values.specs.declared.Value.{Value}
 use Rattle.discrete.specs.declared.NumberAnswer.{NumberAnswer}
 use Rattle.discrete.specs.declared.NumberAnswer.the-variants as number
 use Rattle.discrete.specs.Answers.{sizeAnswer, indexAnswer}
 use Rattle.discrete.proofs.Laws.{size-range, index-most}
 use Rattle.segmented.specs.declared.Segment.{Segment}
-use Rattle.segmented.specs.Answers.{segmentKindQuestions, ticksAsked, segmentTicksAnswer, segmentSizeAnswer, segmentIndexAnswer}
+use Rattle.segmented.specs.Answers.{segmentKindQuestions, segmentTicksAnswer, segmentSizeAnswer, segmentIndexAnswer}
 use Rattle.segmented.proofs.Answers.{segment-size-range, segment-index-range}
 use Rattle.ordered.specs.Replies.{numberIn}
-use Rattle.ticks.specs.Hints.{Hint, planFor}
+use Rattle.axis.specs.declared.Hint.{Hint}
+use Rattle.ticks.specs.Hints.{planFor}
 use Rattle.ticks.specs.declared.PeriodAnswer.the-variants as period
-use Rattle.ticks.specs.Answers.{tickQuestions, answered, ticksAnswer, periodQuestions, periodReply, periodAnswer}
-use Rattle.ticks.proofs.Hints.{period-accepted, period-some}
+use Rattle.ticks.specs.Answers.{tickQuestions, ticksAnswer, periodQuestions, aPeriod, periodAnswer}
+use Rattle.ticks.proofs.Hints.{period-accepted}
 
 room-most : (b : Bool) (n k : ℕ) → k < 2 ^ 64 → (b ≡ true → 2 * n ≤ k) → countOf (cond b (Ticks n) (Refused 11)) < 2 ^ 63
 room-most true n k l h = omega (arith, h refl)
@@ -36,7 +37,7 @@ pub answer-most : (a : Axis) (h : Hint) (k : ℕ) → k < 2 ^ 64 → countOf (ti
 unfolding ticksAnswer
 answer-most a h k l = go (firstNo (tickQuestions a h)) (planFor a h)
   where
-    go : (q : ℕ) (s : Steps) → countOf (answered q s k) < 2 ^ 63
+    go : (q : ℕ) (s : Steps) → countOf (unless q Refused (listedOf s k)) < 2 ^ 63
     go zero s = room-most (leb (2 * s .count) k) (s .count) k l (leb-true (2 * s .count) k)
     go (suc q) s = omega arith
 
@@ -44,12 +45,12 @@ pub segment-answer-most : (a : Axis) (h : Hint) (k : ℕ) → k < 2 ^ 64 → cou
 unfolding segmentTicksAnswer
 segment-answer-most a h k l = go (firstNo (segmentKindQuestions a))
   where
-    go : (q : ℕ) → countOf (ticksAsked q (ticksAnswer a h k)) < 2 ^ 63
+    go : (q : ℕ) → countOf (unless q Refused (ticksAnswer a h k)) < 2 ^ 63
     go zero = answer-most a h k l
     go (suc q) = omega arith
 
 -- ---- a period
-is-most : (q p k : ℕ) → (q ≡ 0 → 0 < p → p < 2 ^ 63) → periodReply q p ≡ period.Is k → k < 2 ^ 63
+is-most : (q p k : ℕ) → (q ≡ 0 → 0 < p → p < 2 ^ 63) → unless q period.Refused (aPeriod p) ≡ period.Is k → k < 2 ^ 63
 is-most zero p k h e = go (ltb 0 p) (ltb-true 0 p) e
   where
     go : (b : Bool) → (b ≡ true → 0 < p) → cond b (period.Is p) period.None ≡ period.Is k → k < 2 ^ 63
@@ -59,10 +60,10 @@ is-most (suc q) p k h e = let z : _≡_ {A = ℕ} 0 1 = cc in absurd (let w : �
 
 pub period-most : (a : Axis) (h : BoldPoints) (k : ℕ) → periodAnswer a h ≡ period.Is k → k < 2 ^ 63
 unfolding periodAnswer
-period-most a h k e = is-most (firstNo (periodQuestions a h)) (periodIn a (up (h .n))) k small e
+period-most a h k e = is-most (firstNo (periodQuestions a h)) (periodIn a (posPart (h .n))) k small e
   where
-    small : firstNo (periodQuestions a h) ≡ 0 → 0 < periodIn a (up (h .n)) → periodIn a (up (h .n)) < 2 ^ 63
-    small z l = let (q, k, d) = period-accepted a h z in timed a (up (h .n)) q (period-some a (up (h .n)) q k) l .small
+    small : firstNo (periodQuestions a h) ≡ 0 → 0 < periodIn a (posPart (h .n)) → periodIn a (posPart (h .n)) < 2 ^ 63
+    small z l = let (q, k, d) = period-accepted a h z in timed a (posPart (h .n)) q k l .small
 
 -- ---- a size, an index
 number-fits : (x : NumberAnswer) → ((n : ℕ) → x ≡ number.Is n → n ≤ 3652060) → numberIn x < 2 ^ 63

@@ -2,15 +2,16 @@
 // include/ordered.h declares the same functions for C.
 use axis::Axis;
 use axis::BoldPoints;
+use axis::Hint;
 use axis::LightPoints;
 use axis::Limits;
+use axis::ValueAnswer;
 use calendar::DateAnswer;
 use calendar::DayAnswer;
 use calendar::Ymd;
 use discrete::Cursor;
 use discrete::NumberAnswer;
 use discrete::StepAnswer;
-use discrete::ValueAnswer;
 use mapping::Pixel;
 use segmented::Segment;
 use segmented::SegmentAnswer;
@@ -20,16 +21,19 @@ use ticks::PeriodAnswer;
 use values::Value;
 ghost use mathlib.Core.Path.{_≡_};
 ghost use Rattle.calendar.specs.Questions.{numberOf, dateAt};
+ghost use Rattle.axis.specs.Axes.{axisOf};
 ghost use Prim.Native.Nat.{_^_, _<_};
 ghost use lib.ListN.{length};
-ghost use Rattle.discrete.specs.Answers.{sizeAnswer, indexAnswer, fromIndexAnswer, nextAnswer, previousAnswer, valuesAnswer, unmapAnswer};
+ghost use Rattle.discrete.specs.Answers.{sizeAnswer, indexAnswer, fromIndexAnswer, nextAnswer, previousAnswer};
+ghost use Rattle.discrete.specs.Answers.{valuesAnswer, unmapAnswer};
 ghost use Rattle.mapping.specs.Mapping.{mapped};
 ghost use Rattle.segmented.specs.declared.SegmentAnswer.the-variants as answer;
-ghost use Rattle.segmented.specs.Answers.{segmentMapAnswer, segmentTicksAnswer, segmentTicksWritten, segmentSizeAnswer, segmentIndexAnswer, segmentFromAnswer};
+ghost use Rattle.segmented.specs.Answers.{segmentMapAnswer, segmentTicksAnswer, segmentTicksWritten};
+ghost use Rattle.segmented.specs.Answers.{segmentSizeAnswer, segmentIndexAnswer, segmentFromAnswer};
 ghost use Rattle.steps.specs.Listing.{countOf};
-ghost use Rattle.ticks.specs.Hints.{bold, light};
 ghost use Rattle.ticks.specs.Answers.{ticksAnswer, ticksWritten, periodAnswer};
-ghost use Rattle.ordered.specs.Replies.{dayReply, dateReply, pixelReply, countReply, periodReply, numberIn, numberReply, valueReply, stepReply, segmentReply};
+ghost use Rattle.ordered.specs.Replies.{dayReply, dateReply, pixelReply, countReply, periodReply, numberIn};
+ghost use Rattle.ordered.specs.Replies.{numberReply, valueReply, stepReply, segmentReply};
 
 // A day number, count, size or index.
 #[repr(C)]
@@ -124,7 +128,7 @@ pub extern "C" fn ordered_date_of(day_number: i64) -> OrderedDate
     }
 }
 
-fn placed(a: Pixel) -> OrderedPixel
+fn pixel_reply(a: Pixel) -> OrderedPixel
     ensures { λ r. ⌜ r ≡ pixelReply a ⌝ }
 {
     match a {
@@ -151,15 +155,10 @@ pub extern "C" fn ordered_map(
     head: i64,
     tail: i64,
 ) -> OrderedPixel
-    ensures { λ r. ⌜ r ≡ pixelReply (mapped (record { kind = kind; «start_head» = «start_head»; «start_tail» = «start_tail»; «end_head» = «end_head»; «end_tail» = «end_tail» }) (record { low = low; high = high }) (record { head = head; tail = tail })) ⌝ }
+    ensures { λ r. ⌜ r ≡ pixelReply (mapped (axisOf kind «start_head» «start_tail» «end_head» «end_tail»)
+        (record { low = low; high = high }) (record { head = head; tail = tail })) ⌝ }
 {
-    let a = Axis {
-        kind: kind,
-        start_head: start_head,
-        start_tail: start_tail,
-        end_head: end_head,
-        end_tail: end_tail,
-    };
+    let a = axis::axis_of(kind, start_head, start_tail, end_head, end_tail);
     let l = Limits {
         low: low,
         high: high,
@@ -168,10 +167,10 @@ pub extern "C" fn ordered_map(
         head: head,
         tail: tail,
     };
-    placed(mapping::map(a, l, v))
+    pixel_reply(mapping::map(a, l, v))
 }
 
-fn counted(a: Listed) -> OrderedNumber
+fn count_reply(a: Listed) -> OrderedNumber
     requires { ⌜ countOf a < 2 ^ 63 ⌝ }
     ensures { λ r. ⌜ r ≡ countReply a ⌝ }
 {
@@ -187,6 +186,27 @@ fn counted(a: Listed) -> OrderedNumber
     }
 }
 
+// Either hint: the count of ticks, and their list.
+fn count_ticks(a: Axis, h: Hint, lent_len: u64) -> OrderedNumber
+    ensures { λ r. ⌜ r ≡ countReply (ticksAnswer a h «lent_len») ⌝ }
+{
+    count_reply(ticks::count(a, h, lent_len))
+}
+
+fn list_ticks(a: Axis, h: Hint, lent: &mut [i64]) -> OrderedNumber
+    ensures { λ r. ⌜ r ≡ countReply (ticksAnswer a h (length (now (lent .entry)))) ⌝ }
+    ensures { λ r. ⌜ now (lent .exit) ≡ ticksWritten a h (now (lent .entry)) ⌝ }
+{
+    count_reply(ticks::list(a, h, lent))
+}
+
+fn list_segment_ticks(a: Axis, h: Hint, lent: &mut [i64]) -> OrderedNumber
+    ensures { λ r. ⌜ r ≡ countReply (segmentTicksAnswer a h (length (now (lent .entry)))) ⌝ }
+    ensures { λ r. ⌜ now (lent .exit) ≡ segmentTicksWritten a h (now (lent .entry)) ⌝ }
+{
+    count_reply(segmented::list(a, h, lent))
+}
+
 #[no_mangle]
 pub extern "C" fn ordered_ticks_bold(
     kind: i64,
@@ -197,17 +217,14 @@ pub extern "C" fn ordered_ticks_bold(
     n: i64,
     lent: &mut [i64],
 ) -> OrderedNumber
-    ensures { λ r. ⌜ (r ≡ countReply (ticksAnswer (record { kind = kind; «start_head» = «start_head»; «start_tail» = «start_tail»; «end_head» = «end_head»; «end_tail» = «end_tail» }) (bold (record { n = n })) (length (now (lent .entry))))) × (now (lent .exit) ≡ ticksWritten (record { kind = kind; «start_head» = «start_head»; «start_tail» = «start_tail»; «end_head» = «end_head»; «end_tail» = «end_tail» }) (bold (record { n = n })) (now (lent .entry))) ⌝ }
+    ensures { λ r. ⌜ r ≡ countReply (ticksAnswer (axisOf kind «start_head» «start_tail» «end_head» «end_tail»)
+        (Hint.Bold (record { n = n })) (length (now (lent .entry)))) ⌝ }
+    ensures { λ r. ⌜ now (lent .exit) ≡ ticksWritten (axisOf kind «start_head» «start_tail» «end_head» «end_tail»)
+        (Hint.Bold (record { n = n })) (now (lent .entry)) ⌝ }
 {
-    let a = Axis {
-        kind: kind,
-        start_head: start_head,
-        start_tail: start_tail,
-        end_head: end_head,
-        end_tail: end_tail,
-    };
+    let a = axis::axis_of(kind, start_head, start_tail, end_head, end_tail);
     let h = BoldPoints { n: n };
-    counted(ticks::list_bold(a, h, lent))
+    list_ticks(a, Hint::Bold(h), lent)
 }
 
 #[no_mangle]
@@ -220,17 +237,12 @@ pub extern "C" fn ordered_count_bold(
     n: i64,
     lent_len: usize,
 ) -> OrderedNumber
-    ensures { λ r. ⌜ r ≡ countReply (ticksAnswer (record { kind = kind; «start_head» = «start_head»; «start_tail» = «start_tail»; «end_head» = «end_head»; «end_tail» = «end_tail» }) (bold (record { n = n })) «lent_len») ⌝ }
+    ensures { λ r. ⌜ r ≡ countReply (ticksAnswer (axisOf kind «start_head» «start_tail» «end_head» «end_tail»)
+        (Hint.Bold (record { n = n })) «lent_len») ⌝ }
 {
-    let a = Axis {
-        kind: kind,
-        start_head: start_head,
-        start_tail: start_tail,
-        end_head: end_head,
-        end_tail: end_tail,
-    };
+    let a = axis::axis_of(kind, start_head, start_tail, end_head, end_tail);
     let h = BoldPoints { n: n };
-    counted(ticks::count_bold(a, h, lent_len as u64))
+    count_ticks(a, Hint::Bold(h), lent_len as u64)
 }
 
 #[no_mangle]
@@ -244,17 +256,14 @@ pub extern "C" fn ordered_ticks_light(
     n: i64,
     lent: &mut [i64],
 ) -> OrderedNumber
-    ensures { λ r. ⌜ (r ≡ countReply (ticksAnswer (record { kind = kind; «start_head» = «start_head»; «start_tail» = «start_tail»; «end_head» = «end_head»; «end_tail» = «end_tail» }) (light (record { bold = bold; n = n })) (length (now (lent .entry))))) × (now (lent .exit) ≡ ticksWritten (record { kind = kind; «start_head» = «start_head»; «start_tail» = «start_tail»; «end_head» = «end_head»; «end_tail» = «end_tail» }) (light (record { bold = bold; n = n })) (now (lent .entry))) ⌝ }
+    ensures { λ r. ⌜ r ≡ countReply (ticksAnswer (axisOf kind «start_head» «start_tail» «end_head» «end_tail»)
+        (Hint.Light (record { bold = bold; n = n })) (length (now (lent .entry)))) ⌝ }
+    ensures { λ r. ⌜ now (lent .exit) ≡ ticksWritten (axisOf kind «start_head» «start_tail» «end_head» «end_tail»)
+        (Hint.Light (record { bold = bold; n = n })) (now (lent .entry)) ⌝ }
 {
-    let a = Axis {
-        kind: kind,
-        start_head: start_head,
-        start_tail: start_tail,
-        end_head: end_head,
-        end_tail: end_tail,
-    };
+    let a = axis::axis_of(kind, start_head, start_tail, end_head, end_tail);
     let h = LightPoints { bold: bold, n: n };
-    counted(ticks::list_light(a, h, lent))
+    list_ticks(a, Hint::Light(h), lent)
 }
 
 #[no_mangle]
@@ -268,17 +277,12 @@ pub extern "C" fn ordered_count_light(
     n: i64,
     lent_len: usize,
 ) -> OrderedNumber
-    ensures { λ r. ⌜ r ≡ countReply (ticksAnswer (record { kind = kind; «start_head» = «start_head»; «start_tail» = «start_tail»; «end_head» = «end_head»; «end_tail» = «end_tail» }) (light (record { bold = bold; n = n })) «lent_len») ⌝ }
+    ensures { λ r. ⌜ r ≡ countReply (ticksAnswer (axisOf kind «start_head» «start_tail» «end_head» «end_tail»)
+        (Hint.Light (record { bold = bold; n = n })) «lent_len») ⌝ }
 {
-    let a = Axis {
-        kind: kind,
-        start_head: start_head,
-        start_tail: start_tail,
-        end_head: end_head,
-        end_tail: end_tail,
-    };
+    let a = axis::axis_of(kind, start_head, start_tail, end_head, end_tail);
     let h = LightPoints { bold: bold, n: n };
-    counted(ticks::count_light(a, h, lent_len as u64))
+    count_ticks(a, Hint::Light(h), lent_len as u64)
 }
 
 #[no_mangle]
@@ -290,15 +294,10 @@ pub extern "C" fn ordered_period_per_point(
     end_tail: i64,
     n: i64,
 ) -> OrderedPeriod
-    ensures { λ r. ⌜ r ≡ periodReply (periodAnswer (record { kind = kind; «start_head» = «start_head»; «start_tail» = «start_tail»; «end_head» = «end_head»; «end_tail» = «end_tail» }) (record { n = n })) ⌝ }
+    ensures { λ r. ⌜ r ≡ periodReply (periodAnswer (axisOf kind «start_head» «start_tail» «end_head» «end_tail»)
+        (record { n = n })) ⌝ }
 {
-    let a = Axis {
-        kind: kind,
-        start_head: start_head,
-        start_tail: start_tail,
-        end_head: end_head,
-        end_tail: end_tail,
-    };
+    let a = axis::axis_of(kind, start_head, start_tail, end_head, end_tail);
     let h = BoldPoints { n: n };
     match ticks::period_per_point(a, h) {
         PeriodAnswer::Is(k) => OrderedPeriod {
@@ -316,7 +315,7 @@ pub extern "C" fn ordered_period_per_point(
     }
 }
 
-fn numbered(a: NumberAnswer) -> OrderedNumber
+fn number_reply(a: NumberAnswer) -> OrderedNumber
     requires { ⌜ numberIn a < 2 ^ 63 ⌝ }
     ensures { λ r. ⌜ r ≡ numberReply a ⌝ }
 {
@@ -336,7 +335,7 @@ fn numbered(a: NumberAnswer) -> OrderedNumber
     }
 }
 
-fn valued(a: ValueAnswer) -> OrderedValue
+fn value_reply(a: ValueAnswer) -> OrderedValue
     ensures { λ r. ⌜ r ≡ valueReply a ⌝ }
 {
     match a {
@@ -358,7 +357,7 @@ fn valued(a: ValueAnswer) -> OrderedValue
     }
 }
 
-fn stepped(a: StepAnswer) -> OrderedStep
+fn step_reply(a: StepAnswer) -> OrderedStep
     ensures { λ r. ⌜ r ≡ stepReply a ⌝ }
 {
     match a {
@@ -394,20 +393,15 @@ pub extern "C" fn ordered_unmap(
     high: i64,
     pixel: i64,
 ) -> OrderedValue
-    ensures { λ r. ⌜ r ≡ valueReply (unmapAnswer (record { kind = kind; «start_head» = «start_head»; «start_tail» = «start_tail»; «end_head» = «end_head»; «end_tail» = «end_tail» }) (record { low = low; high = high }) pixel) ⌝ }
+    ensures { λ r. ⌜ r ≡ valueReply (unmapAnswer (axisOf kind «start_head» «start_tail» «end_head» «end_tail»)
+        (record { low = low; high = high }) pixel) ⌝ }
 {
-    let a = Axis {
-        kind: kind,
-        start_head: start_head,
-        start_tail: start_tail,
-        end_head: end_head,
-        end_tail: end_tail,
-    };
+    let a = axis::axis_of(kind, start_head, start_tail, end_head, end_tail);
     let l = Limits {
         low: low,
         high: high,
     };
-    valued(discrete::unmap(a, l, pixel))
+    value_reply(discrete::unmap(a, l, pixel))
 }
 
 #[no_mangle]
@@ -418,16 +412,10 @@ pub extern "C" fn ordered_size(
     end_head: i64,
     end_tail: i64,
 ) -> OrderedNumber
-    ensures { λ r. ⌜ r ≡ numberReply (sizeAnswer (record { kind = kind; «start_head» = «start_head»; «start_tail» = «start_tail»; «end_head» = «end_head»; «end_tail» = «end_tail» })) ⌝ }
+    ensures { λ r. ⌜ r ≡ numberReply (sizeAnswer (axisOf kind «start_head» «start_tail» «end_head» «end_tail»)) ⌝ }
 {
-    let a = Axis {
-        kind: kind,
-        start_head: start_head,
-        start_tail: start_tail,
-        end_head: end_head,
-        end_tail: end_tail,
-    };
-    numbered(discrete::size(a))
+    let a = axis::axis_of(kind, start_head, start_tail, end_head, end_tail);
+    number_reply(discrete::size(a))
 }
 
 #[no_mangle]
@@ -440,20 +428,15 @@ pub extern "C" fn ordered_index_of(
     head: i64,
     tail: i64,
 ) -> OrderedNumber
-    ensures { λ r. ⌜ r ≡ numberReply (indexAnswer (record { kind = kind; «start_head» = «start_head»; «start_tail» = «start_tail»; «end_head» = «end_head»; «end_tail» = «end_tail» }) (record { head = head; tail = tail })) ⌝ }
+    ensures { λ r. ⌜ r ≡ numberReply (indexAnswer (axisOf kind «start_head» «start_tail» «end_head» «end_tail»)
+        (record { head = head; tail = tail })) ⌝ }
 {
-    let a = Axis {
-        kind: kind,
-        start_head: start_head,
-        start_tail: start_tail,
-        end_head: end_head,
-        end_tail: end_tail,
-    };
+    let a = axis::axis_of(kind, start_head, start_tail, end_head, end_tail);
     let v = Value {
         head: head,
         tail: tail,
     };
-    numbered(discrete::index_of(a, v))
+    number_reply(discrete::index_of(a, v))
 }
 
 #[no_mangle]
@@ -465,16 +448,11 @@ pub extern "C" fn ordered_from_index(
     end_tail: i64,
     index: i64,
 ) -> OrderedValue
-    ensures { λ r. ⌜ r ≡ valueReply (fromIndexAnswer (record { kind = kind; «start_head» = «start_head»; «start_tail» = «start_tail»; «end_head» = «end_head»; «end_tail» = «end_tail» }) index) ⌝ }
+    ensures { λ r. ⌜ r ≡ valueReply (fromIndexAnswer (axisOf kind «start_head» «start_tail» «end_head» «end_tail»)
+        index) ⌝ }
 {
-    let a = Axis {
-        kind: kind,
-        start_head: start_head,
-        start_tail: start_tail,
-        end_head: end_head,
-        end_tail: end_tail,
-    };
-    valued(discrete::from_index(a, index))
+    let a = axis::axis_of(kind, start_head, start_tail, end_head, end_tail);
+    value_reply(discrete::from_index(a, index))
 }
 
 #[no_mangle]
@@ -487,20 +465,15 @@ pub extern "C" fn ordered_next(
     head: i64,
     tail: i64,
 ) -> OrderedValue
-    ensures { λ r. ⌜ r ≡ valueReply (nextAnswer (record { kind = kind; «start_head» = «start_head»; «start_tail» = «start_tail»; «end_head» = «end_head»; «end_tail» = «end_tail» }) (record { head = head; tail = tail })) ⌝ }
+    ensures { λ r. ⌜ r ≡ valueReply (nextAnswer (axisOf kind «start_head» «start_tail» «end_head» «end_tail»)
+        (record { head = head; tail = tail })) ⌝ }
 {
-    let a = Axis {
-        kind: kind,
-        start_head: start_head,
-        start_tail: start_tail,
-        end_head: end_head,
-        end_tail: end_tail,
-    };
+    let a = axis::axis_of(kind, start_head, start_tail, end_head, end_tail);
     let v = Value {
         head: head,
         tail: tail,
     };
-    valued(discrete::next(a, v))
+    value_reply(discrete::next(a, v))
 }
 
 #[no_mangle]
@@ -513,20 +486,15 @@ pub extern "C" fn ordered_previous(
     head: i64,
     tail: i64,
 ) -> OrderedValue
-    ensures { λ r. ⌜ r ≡ valueReply (previousAnswer (record { kind = kind; «start_head» = «start_head»; «start_tail» = «start_tail»; «end_head» = «end_head»; «end_tail» = «end_tail» }) (record { head = head; tail = tail })) ⌝ }
+    ensures { λ r. ⌜ r ≡ valueReply (previousAnswer (axisOf kind «start_head» «start_tail» «end_head» «end_tail»)
+        (record { head = head; tail = tail })) ⌝ }
 {
-    let a = Axis {
-        kind: kind,
-        start_head: start_head,
-        start_tail: start_tail,
-        end_head: end_head,
-        end_tail: end_tail,
-    };
+    let a = axis::axis_of(kind, start_head, start_tail, end_head, end_tail);
     let v = Value {
         head: head,
         tail: tail,
     };
-    valued(discrete::previous(a, v))
+    value_reply(discrete::previous(a, v))
 }
 
 #[no_mangle]
@@ -538,17 +506,12 @@ pub extern "C" fn ordered_values(
     end_tail: i64,
     place: i64,
 ) -> OrderedStep
-    ensures { λ r. ⌜ r ≡ stepReply (valuesAnswer (record { kind = kind; «start_head» = «start_head»; «start_tail» = «start_tail»; «end_head» = «end_head»; «end_tail» = «end_tail» }) (record { place = place })) ⌝ }
+    ensures { λ r. ⌜ r ≡ stepReply (valuesAnswer (axisOf kind «start_head» «start_tail» «end_head» «end_tail»)
+        (record { place = place })) ⌝ }
 {
-    let a = Axis {
-        kind: kind,
-        start_head: start_head,
-        start_tail: start_tail,
-        end_head: end_head,
-        end_tail: end_tail,
-    };
+    let a = axis::axis_of(kind, start_head, start_tail, end_head, end_tail);
     let c = Cursor { place: place };
-    stepped(discrete::values(a, c))
+    step_reply(discrete::values(a, c))
 }
 
 #[no_mangle]
@@ -564,15 +527,10 @@ pub extern "C" fn ordered_segment_map(
     head: i64,
     tail: i64,
 ) -> OrderedPixel
-    ensures { λ r. ⌜ r ≡ pixelReply (segmentMapAnswer (record { kind = kind; «start_head» = «start_head»; «start_tail» = «start_tail»; «end_head» = «end_head»; «end_tail» = «end_tail» }) (record { low = low; high = high }) (record { case = segment; head = head; tail = tail })) ⌝ }
+    ensures { λ r. ⌜ r ≡ pixelReply (segmentMapAnswer (axisOf kind «start_head» «start_tail» «end_head» «end_tail»)
+        (record { low = low; high = high }) (record { case = segment; head = head; tail = tail })) ⌝ }
 {
-    let a = Axis {
-        kind: kind,
-        start_head: start_head,
-        start_tail: start_tail,
-        end_head: end_head,
-        end_tail: end_tail,
-    };
+    let a = axis::axis_of(kind, start_head, start_tail, end_head, end_tail);
     let l = Limits {
         low: low,
         high: high,
@@ -582,7 +540,7 @@ pub extern "C" fn ordered_segment_map(
         head: head,
         tail: tail,
     };
-    placed(segmented::map(a, l, s))
+    pixel_reply(segmented::map(a, l, s))
 }
 
 #[no_mangle]
@@ -595,17 +553,14 @@ pub extern "C" fn ordered_segment_ticks_bold(
     n: i64,
     lent: &mut [i64],
 ) -> OrderedNumber
-    ensures { λ r. ⌜ (r ≡ countReply (segmentTicksAnswer (record { kind = kind; «start_head» = «start_head»; «start_tail» = «start_tail»; «end_head» = «end_head»; «end_tail» = «end_tail» }) (bold (record { n = n })) (length (now (lent .entry))))) × (now (lent .exit) ≡ segmentTicksWritten (record { kind = kind; «start_head» = «start_head»; «start_tail» = «start_tail»; «end_head» = «end_head»; «end_tail» = «end_tail» }) (bold (record { n = n })) (now (lent .entry))) ⌝ }
+    ensures { λ r. ⌜ r ≡ countReply (segmentTicksAnswer (axisOf kind «start_head» «start_tail» «end_head» «end_tail»)
+        (Hint.Bold (record { n = n })) (length (now (lent .entry)))) ⌝ }
+    ensures { λ r. ⌜ now (lent .exit) ≡ segmentTicksWritten (axisOf kind «start_head» «start_tail» «end_head» «end_tail»)
+        (Hint.Bold (record { n = n })) (now (lent .entry)) ⌝ }
 {
-    let a = Axis {
-        kind: kind,
-        start_head: start_head,
-        start_tail: start_tail,
-        end_head: end_head,
-        end_tail: end_tail,
-    };
+    let a = axis::axis_of(kind, start_head, start_tail, end_head, end_tail);
     let h = BoldPoints { n: n };
-    counted(segmented::list_bold(a, h, lent))
+    list_segment_ticks(a, Hint::Bold(h), lent)
 }
 
 #[no_mangle]
@@ -619,17 +574,14 @@ pub extern "C" fn ordered_segment_ticks_light(
     n: i64,
     lent: &mut [i64],
 ) -> OrderedNumber
-    ensures { λ r. ⌜ (r ≡ countReply (segmentTicksAnswer (record { kind = kind; «start_head» = «start_head»; «start_tail» = «start_tail»; «end_head» = «end_head»; «end_tail» = «end_tail» }) (light (record { bold = bold; n = n })) (length (now (lent .entry))))) × (now (lent .exit) ≡ segmentTicksWritten (record { kind = kind; «start_head» = «start_head»; «start_tail» = «start_tail»; «end_head» = «end_head»; «end_tail» = «end_tail» }) (light (record { bold = bold; n = n })) (now (lent .entry))) ⌝ }
+    ensures { λ r. ⌜ r ≡ countReply (segmentTicksAnswer (axisOf kind «start_head» «start_tail» «end_head» «end_tail»)
+        (Hint.Light (record { bold = bold; n = n })) (length (now (lent .entry)))) ⌝ }
+    ensures { λ r. ⌜ now (lent .exit) ≡ segmentTicksWritten (axisOf kind «start_head» «start_tail» «end_head» «end_tail»)
+        (Hint.Light (record { bold = bold; n = n })) (now (lent .entry)) ⌝ }
 {
-    let a = Axis {
-        kind: kind,
-        start_head: start_head,
-        start_tail: start_tail,
-        end_head: end_head,
-        end_tail: end_tail,
-    };
+    let a = axis::axis_of(kind, start_head, start_tail, end_head, end_tail);
     let h = LightPoints { bold: bold, n: n };
-    counted(segmented::list_light(a, h, lent))
+    list_segment_ticks(a, Hint::Light(h), lent)
 }
 
 #[no_mangle]
@@ -640,16 +592,10 @@ pub extern "C" fn ordered_segment_size(
     end_head: i64,
     end_tail: i64,
 ) -> OrderedNumber
-    ensures { λ r. ⌜ r ≡ numberReply (segmentSizeAnswer (record { kind = kind; «start_head» = «start_head»; «start_tail» = «start_tail»; «end_head» = «end_head»; «end_tail» = «end_tail» })) ⌝ }
+    ensures { λ r. ⌜ r ≡ numberReply (segmentSizeAnswer (axisOf kind «start_head» «start_tail» «end_head» «end_tail»)) ⌝ }
 {
-    let a = Axis {
-        kind: kind,
-        start_head: start_head,
-        start_tail: start_tail,
-        end_head: end_head,
-        end_tail: end_tail,
-    };
-    numbered(segmented::size(a))
+    let a = axis::axis_of(kind, start_head, start_tail, end_head, end_tail);
+    number_reply(segmented::size(a))
 }
 
 #[no_mangle]
@@ -663,24 +609,19 @@ pub extern "C" fn ordered_segment_index_of(
     head: i64,
     tail: i64,
 ) -> OrderedNumber
-    ensures { λ r. ⌜ r ≡ numberReply (segmentIndexAnswer (record { kind = kind; «start_head» = «start_head»; «start_tail» = «start_tail»; «end_head» = «end_head»; «end_tail» = «end_tail» }) (record { case = segment; head = head; tail = tail })) ⌝ }
+    ensures { λ r. ⌜ r ≡ numberReply (segmentIndexAnswer (axisOf kind «start_head» «start_tail» «end_head» «end_tail»)
+        (record { case = segment; head = head; tail = tail })) ⌝ }
 {
-    let a = Axis {
-        kind: kind,
-        start_head: start_head,
-        start_tail: start_tail,
-        end_head: end_head,
-        end_tail: end_tail,
-    };
+    let a = axis::axis_of(kind, start_head, start_tail, end_head, end_tail);
     let s = Segment {
         case: segment,
         head: head,
         tail: tail,
     };
-    numbered(segmented::index_of(a, s))
+    number_reply(segmented::index_of(a, s))
 }
 
-fn segment_at(v: SegmentValue) -> OrderedSegment
+fn segment_value_reply(v: SegmentValue) -> OrderedSegment
     ensures { λ r. ⌜ r ≡ segmentReply (answer.At v) ⌝ }
 {
     match v {
@@ -705,11 +646,11 @@ fn segment_at(v: SegmentValue) -> OrderedSegment
     }
 }
 
-fn segmented_by(a: SegmentAnswer) -> OrderedSegment
+fn segment_reply(a: SegmentAnswer) -> OrderedSegment
     ensures { λ r. ⌜ r ≡ segmentReply a ⌝ }
 {
     match a {
-        SegmentAnswer::At(v) => segment_at(v),
+        SegmentAnswer::At(v) => segment_value_reply(v),
         SegmentAnswer::None => OrderedSegment {
             status: -1,
             segment: 0,
@@ -734,14 +675,9 @@ pub extern "C" fn ordered_segment_from_index(
     end_tail: i64,
     index: i64,
 ) -> OrderedSegment
-    ensures { λ r. ⌜ r ≡ segmentReply (segmentFromAnswer (record { kind = kind; «start_head» = «start_head»; «start_tail» = «start_tail»; «end_head» = «end_head»; «end_tail» = «end_tail» }) index) ⌝ }
+    ensures { λ r. ⌜ r ≡ segmentReply (segmentFromAnswer (axisOf kind «start_head» «start_tail» «end_head» «end_tail»)
+        index) ⌝ }
 {
-    let a = Axis {
-        kind: kind,
-        start_head: start_head,
-        start_tail: start_tail,
-        end_head: end_head,
-        end_tail: end_tail,
-    };
-    segmented_by(segmented::from_index(a, index))
+    let a = axis::axis_of(kind, start_head, start_tail, end_head, end_tail);
+    segment_reply(segmented::from_index(a, index))
 }

@@ -10,11 +10,11 @@ use lib.Ieee.Nearest.{div-mono}
 use lib.ListN.{length, getD}
 use borrow.Author.Tests.{le-leb, lt-leb}
 use Rattle.laws.proofs.Quotients.{quotient-is}
-use Rattle.period.specs.Ladders.{Ladder, unitAt, countAt, firstFrom, wide, placeOf, Climbable, firstWide}
+use Rattle.period.specs.Ladders.{Ladder, unitAt, countAt, firstFrom, wide, rungOf, Climbable, firstWide}
 use Rattle.period.proofs.Search.{Come, come-first, come-before, come-here, come-next, come-more}
 
-pub place-is : (span n : ℕ) (l : Ladder) → firstFrom (wide span n l) 16 0 ≡ placeOf span n l
-unfolding placeOf
+pub place-is : (span n : ℕ) (l : Ladder) → firstFrom (wide span n l) 16 0 ≡ rungOf span n l
+unfolding rungOf
 place-is span n l = refl
 
 -- ---- the next step's place around the list
@@ -50,8 +50,8 @@ module _ {span n : ℕ} {l : Ladder} (c : Climbable span n l) where
   }
 
   -- the unit that is found fits, as its step does
-  pub unit-fits : unitAt l (placeOf span n l) < 2 ^ 63
-  unit-fits = go (countAt l (placeOf span n l)) (unitAt l (placeOf span n l)) (c .above) (c .fits)
+  pub unit-fits : unitAt l (rungOf span n l) < 2 ^ 63
+  unit-fits = go (countAt l (rungOf span n l)) (unitAt l (rungOf span n l)) (c .above) (c .fits)
     where
       go : (k u : ℕ) → 0 < k * u → k * u < 2 ^ 63 → u < 2 ^ 63
       go zero u p h = absurd (let z : ⊥ = omega arith in z)
@@ -69,7 +69,7 @@ module _ {span n : ℕ} {l : Ladder} (c : Climbable span n l) where
 
     -- the test of step i passes
     module _ (h : whole ≤ n * getD (l .counts) idx 0) where
-      pub climb-end : i ≡ placeOf span n l
+      pub climb-end : i ≡ rungOf span n l
       climb-end = come-here (w .come) (sym test-is ∙ le-leb whole (n * getD (l .counts) idx 0) h) ∙ place-is span n l
 
       pub climb-step : getD (l .counts) idx 0 * unit ≡ firstWide span n l
@@ -97,10 +97,10 @@ module _ {span n : ℕ} {l : Ladder} (c : Climbable span n l) where
           record { come = onward; index = sym r; units = rw (q, pow-suc, ← mul-assoc, w .units) refl; parts = refl }
 
       -- the next unit is no longer than that of the step that is found
-      pub next-fits : suc idx ≡ length (l .counts) → unit * l .base ≤ unitAt l (placeOf span n l)
+      pub next-fits : suc idx ≡ length (l .counts) → unit * l .base ≤ unitAt l (rungOf span n l)
       next-fits k =
           let size = length (l .counts) in
-          let up : suc i ≤ placeOf span n l = rw (place-is span n l) at (come-before onward) in
+          let up : suc i ≤ rungOf span n l = rw (place-is span n l) at (come-before onward) in
           rw (climb-next k .units)
-          (mul-le-mul-left (l .unit) (pow-le-pow-right (c .base) (div-mono (suc i) size (placeOf span n l) size (c .some)
+          (mul-le-mul-left (l .unit) (pow-le-pow-right (c .base) (div-mono (suc i) size (rungOf span n l) size (c .some)
           (c .some) (mul-le-mul-right size up))))

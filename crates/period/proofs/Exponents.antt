@@ -7,7 +7,7 @@ use native.Mathlib.Nat.{le-refl, le-of-suc-le-suc, lt-of-lt-of-le, lt-of-not-le,
 use native.Mathlib.Nat.{pow-le-pow-right, le-div-iff-mul-le, div-lt-iff-lt-mul}
 use native.Mathlib.Omega.{arith}
 use lib.Dec.{leb, lit<}
-use borrow.Author.Tests.{le-leb, lt-leb, leb-false}
+use borrow.Author.Tests.{le-leb, lt-leb, leb-true, leb-false}
 use Rattle.period.specs.Periods.{exponentUpTo, exponentOf}
 
 module _ (span n : ℕ) where
@@ -47,6 +47,19 @@ largest span n (suc k) = rw (at-test span n k) (go (leb (10 ^ suc k * n) span) r
         Largest span n (suc k) (cond b (suc k) (exponentUpTo k span n))
     go true t h = (le-refl (suc k), inl refl)
     go false t h = (omega (arith, h .0), inr (elim (h .1) [ inl q ↦ rw q (leb-false (10 ^ suc k * n) span t) | inr l ↦ l ]))
+
+-- and the power goes into the span n times, but for 1, which need not
+abbrev In : ℕ → ℕ → ℕ → Type 0
+In span n e = (e ≡ 0) ⊎ (10 ^ e * n ≤ span)
+
+pub power-in : (span n k : ℕ) → In span n (exponentUpTo k span n)
+power-in span n zero = inl (at-none span n)
+power-in span n (suc k) = rw (at-test span n k) (go (leb (10 ^ suc k * n) span) refl (power-in span n k))
+  where
+    go : (b : Bool) → leb (10 ^ suc k * n) span ≡ b → In span n (exponentUpTo k span n) →
+        In span n (cond b (suc k) (exponentUpTo k span n))
+    go true t h = inr (leb-true (10 ^ suc k * n) span t)
+    go false t h = h
 
 -- where the power is below 10 ^ (m + 1), its exponent is m at most, and the next power is too large
 pub below : (span n m : ℕ) → m < 18 → 10 ^ exponentOf span n < 10 ^ suc m → (exponentOf span n ≤ m)

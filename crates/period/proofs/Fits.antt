@@ -6,32 +6,33 @@ use native.Mathlib.Omega.{arith}
 use lib.Dec.{ltb, leb, ltb→lt, leb→le, le→leb, lit≤}
 use borrow.Author.Tests.{le-leb, lt-leb}
 use Rattle.laws.proofs.Tables.{all, at}
-use Rattle.period.specs.Ladders.{stepAt, firstFrom, decimal, rare, firstFit}
+use Rattle.period.specs.Ladders.{stepAt, firstFrom, decimalLadder, rare, firstFit}
 use Rattle.period.proofs.Search.{Come, come-here, come-next, come-last, in-reach, passes}
 
 -- the 22 steps are above 0 and 10 ^ 7 at most, by one computed test each
-pub step-above : (i : ℕ) → i < 22 → 0 < stepAt (decimal 1) i
+pub step-above : (i : ℕ) → i < 22 → 0 < stepAt (decimalLadder 1) i
 unfolding all
-step-above i h = ltb→lt 0 (stepAt (decimal 1) i) (at (λ (i : ℕ). ltb 0 (stepAt (decimal 1) i)) 22 tt i h)
+step-above i h = ltb→lt 0 (stepAt (decimalLadder 1) i) (at (λ (i : ℕ). ltb 0 (stepAt (decimalLadder 1) i)) 22 tt i h)
 
-step-most : (i : ℕ) → i < 22 → stepAt (decimal 1) i ≤ 10000000
+step-most : (i : ℕ) → i < 22 → stepAt (decimalLadder 1) i ≤ 10000000
 unfolding all
-step-most i h = leb→le (stepAt (decimal 1) i) 10000000 (at (λ (i : ℕ). leb (stepAt (decimal 1) i) 10000000) 22 tt i h)
+step-most i h = leb→le (stepAt (decimalLadder 1) i) 10000000 (at (λ (i : ℕ). leb (stepAt (decimalLadder 1) i) 10000000) 22 tt i h)
 
-fit-is : (total n : ℕ) → stepAt (decimal 1) (firstFrom (rare total n) 21 0) ≡ firstFit total n
+fit-is : (total n : ℕ) → stepAt (decimalLadder 1) (firstFrom (rare total n) 21 0) ≡ firstFit total n
 unfolding firstFit
 fit-is total n = refl
 
 -- ---- a loop that has come to i
 module _ (total n : ℕ) {i : ℕ} (w : Come (rare total n) 21 i) where
-  pub fit-here : total / stepAt (decimal 1) i ≤ n → stepAt (decimal 1) i ≡ firstFit total n
-  fit-here h = ap (stepAt (decimal 1)) (come-here w (le-leb (total / stepAt (decimal 1) i) n h)) ∙ fit-is total n
+  pub fit-here : total / stepAt (decimalLadder 1) i ≤ n → stepAt (decimalLadder 1) i ≡ firstFit total n
+  fit-here h = ap (stepAt (decimalLadder 1)) (come-here w (le-leb (total / stepAt (decimalLadder 1) i) n h)) ∙ fit-is total n
 
-  pub fit-next : i < 21 → n < total / stepAt (decimal 1) i → Come (rare total n) 21 (suc i)
-  fit-next k h = come-next w k (lt-leb (total / stepAt (decimal 1) i) n h)
+  pub fit-next : i < 21 → n < total / stepAt (decimalLadder 1) i → Come (rare total n) 21 (suc i)
+  fit-next k h = come-next w k (lt-leb (total / stepAt (decimalLadder 1) i) n h)
 
-  pub fit-last : 21 ≤ i → stepAt (decimal 1) 21 ≡ firstFit total n
-  fit-last h = let e : i ≡ 21 = omega (arith, w .within) in ap (stepAt (decimal 1)) (rw e at (come-last w h)) ∙ fit-is total n
+  pub fit-last : 21 ≤ i → stepAt (decimalLadder 1) 21 ≡ firstFit total n
+  fit-last h = let e : i ≡ 21 = omega (arith, w .within) in ap (stepAt (decimalLadder 1)) (rw e at (come-last w h))
+      ∙ fit-is total n
 
 -- ---- what it promises
 module _ (total n : ℕ) where
@@ -45,10 +46,10 @@ module _ (total n : ℕ) where
   fit-most = rw (fit-is total n) at (step-most (firstFrom (rare total n) 21 0) place)
 
   module _ (h : total < 10000000) where
-    pub fit-few : total / firstFit total n ≤ n
+    fit-few : total / firstFit total n ≤ n
     fit-few =
         let t = passes (rare total n) 21 0 21 zero-le (lit≤ tt) (le→leb (total / 10000000) n (omega (arith, div-eq-of-lt h))) in
-        rw (fit-is total n) at (leb→le (total / stepAt (decimal 1) (firstFrom (rare total n) 21 0)) n (t .0))
+        rw (fit-is total n) at (leb→le (total / stepAt (decimalLadder 1) (firstFrom (rare total n) 21 0)) n (t .0))
 
     pub fit-room : total < (n + 1) * firstFit total n
     fit-room = div-lt-iff-lt-mul fit-above .0 (omega (arith, fit-few))

@@ -2,26 +2,29 @@
 -- Assumes nothing.
 use mathlib.Core.Path.{_≡_, refl}
 use mathlib.Core.Bool.{Bool, true, false, cond}
-use Prim.Native.Nat.{ℕ, zero, suc, _+_, _*_, _/_, _^_, _≤_, _<_, zero-le, suc-le-suc}
-use native.Mathlib.Nat.{lt-of-lt-of-le, le-of-suc-le-suc, lt-irrefl, lt-of-mul-lt-mul-right, div-lt-iff-lt-mul, zero-lt-suc}
+use mathlib.Core.Logic.{inl, inr}
+use Prim.Native.Nat.{ℕ, zero, suc, _+_, _*_, _/_, _^_, _≤_, _<_, suc-le-suc}
+use native.Mathlib.Nat.{mul-le-mul-left, lt-of-lt-of-le, lt-irrefl, div-lt-iff-lt-mul, zero-lt-suc}
 use native.Mathlib.Omega.{arith}
 use lib.Dec.{leb, leb→le, lit<}
-use borrow.Author.Tests.{le-leb, lt-leb}
-use Rattle.laws.proofs.Tests.{and-false}
-use Rattle.period.specs.Ladders.{Ladder, unitAt, countAt, placeOf, Climbable, firstWide}
-use Rattle.period.specs.Periods.{day, ladderOf, noPeriod, periodOf, testedOf, powerOf}
-use Rattle.period.proofs.Ladders.{Ends, chosen-ends, short-ends}
+use borrow.Author.Tests.{leb-true, le-leb, lt-leb}
+use Rattle.laws.specs.Units.{perDay}
+use Rattle.laws.proofs.Tests.{both-true, and-false}
+use Rattle.period.specs.Ladders.{Ladder, unitAt, countAt, rungOf, Climbable, firstWide}
+use Rattle.period.specs.Periods.{ladderOf, noPeriod, periodOf, testedOf, powerOf}
+use Rattle.period.proofs.Exponents.{from-top, power-in}
+use Rattle.period.proofs.Ladders.{chosen-ends}
 
 -- ---- whether there is a period
 module _ (p : ℕ) (s : Bool) where
-  pub below-day : p < day → noPeriod p s ≡ false
-  below-day h = rw (lt-leb day p h) refl
+  pub below-day : p < perDay → noPeriod p s ≡ false
+  below-day h = rw (lt-leb perDay p h) refl
 
   pub any-step : s ≡ false → noPeriod p s ≡ false
-  any-step e = rw e (and-false (leb day p))
+  any-step e = rw e (and-false (leb perDay p))
 
-  pub days-listed : day ≤ p → s ≡ true → noPeriod p s ≡ true
-  days-listed h e = rw (le-leb day p h, e) refl
+  pub days-listed : perDay ≤ p → s ≡ true → noPeriod p s ≡ true
+  days-listed h e = rw (le-leb perDay p h, e) refl
 
 -- ---- what the code finds is the period and the count of tests
 abbrev pub Answers : ℕ → ℕ → Bool → ℕ → ℕ → Type 0
@@ -33,15 +36,15 @@ module _ (span n : ℕ) (s : Bool) (p : ℕ) (is : p ≡ powerOf span n) where
   answers-none e = let t = rw is at e in (rw t refl, rw t refl)
 
   pub answers : noPeriod p s ≡ false → (l : Ladder) → ladderOf p ≡ l → Answers span n s (firstWide span n l)
-      (placeOf span n l + 1)
+      (rungOf span n l + 1)
   unfolding periodOf testedOf
   answers e l q = let t = rw is at e in let k = rw is at q in (rw (t, k) refl, rw (t, k) refl)
 
 -- ---- the span is less than n + 1 steps
 in-steps : {span n : ℕ} {l : Ladder} → Climbable span n l → span < suc n * firstWide span n l
 in-steps {span} {n} {l} c =
-    let u = unitAt l (placeOf span n l) in
-    let k = countAt l (placeOf span n l) in
+    let u = unitAt l (rungOf span n l) in
+    let k = countAt l (rungOf span n l) in
     go k u (c .above) (leb→le (span / u) (n * k) (c .ends))
   where
     go : (k u : ℕ) → 0 < k * u → span / u ≤ n * k → span < suc n * (k * u)
@@ -61,26 +64,34 @@ module _ (span n : ℕ) (s : Bool) where
       go false e = some
 
   module _ (fits : span < 2 ^ 63) (N : 0 < n) (hint : n ≤ 4096) where
-    found : Ends span n (ladderOf (powerOf span n)) (100000 * day)
-    found = chosen-ends span n N hint (powerOf span n) refl fits
+    found : Climbable span n (ladderOf (powerOf span n))
+    found = chosen-ends span n hint (powerOf span n) refl N fits
 
     -- none only where a step of a day or more is wanted and none is allowed
     pub period-above : noPeriod (powerOf span n) s ≡ false → 0 < periodOf span n s
     period-above e = none-or (λ (x : ℕ). 0 < x) (λ t. absurd (let z : _≡_ {A = ℕ} 0 1 = cc in let w : ⊥ = omega arith in w))
-        (found .climbable .above)
+        (found .above)
 
     pub period-fits : periodOf span n s < 2 ^ 63
-    period-fits = none-or (λ (x : ℕ). x < 2 ^ 63) (λ t. lit< tt) (found .climbable .fits)
+    period-fits = none-or (λ (x : ℕ). x < 2 ^ 63) (λ t. lit< tt) (found .fits)
 
     pub period-room : 0 < periodOf span n s → span < (n + 1) * periodOf span n s
     period-room h = none-or (λ (x : ℕ). 0 < x → span < (n + 1) * x) (λ t z. absurd (lt-irrefl 0 z))
-        (λ z. omega (arith, in-steps (found .climbable))) h
+        (λ z. omega (arith, in-steps found)) h
 
-    -- of the ticks that are a period apart from the first on, the i-th is in the span only if i is n at most
-    pub period-few : (i : ℕ) → 0 < periodOf span n s → i * periodOf span n s < span → i ≤ n
-    period-few i p h = let r = period-room p in le-of-suc-le-suc (lt-of-mul-lt-mul-right (periodOf span n s) (omega arith))
+-- where only steps below a day are asked for and there is none, the span is a day at least
+pub day-long : (span n : ℕ) → span < 2 ^ 63 → 0 < n → n ≤ 4096 → periodOf span n true ≤ 0 → perDay ≤ span
+day-long span n fits N hint h =
+    let p = powerOf span n in
+    let q = leb-true perDay p (both-true (leb perDay p) true (none (noPeriod p true) refl) .0) in
+    elim (rw (from-top span n) at (power-in span n 18)) [
+      | inl e ↦ absurd (one (rw e at q))
+      | inr l ↦ (let m : p * 1 ≤ p * n = mul-le-mul-left p N in omega arith)
+    ]
+  where
+    none : (b : Bool) → noPeriod (powerOf span n) true ≡ b → noPeriod (powerOf span n) true ≡ true
+    none true e = e
+    none false e = absurd (let z : ⊥ = omega (arith, period-above span n true fits N hint e) in z)
 
-  -- a duration that starts above 0 has a span of 4 * 10 ^ 18 at most: its start and this period, 4.32 * 10 ^ 18, fit 63 bits
-  pub period-short : span ≤ 4000000000000000000 → 0 < n → n ≤ 4096 → periodOf span n s ≤ 50000 * day
-  period-short h N hint = none-or (λ (x : ℕ). x ≤ 50000 * day) (λ t. zero-le) (short-ends span n N hint (powerOf span n)
-      refl h .most)
+    one : perDay ≤ 1 → ⊥
+    one g = omega arith

@@ -32,7 +32,7 @@ in-reach test (suc more) i = go (test i) (in-reach test more (suc i))
     go false h = (omega arith, omega arith)
 
 -- where some number b in reach passes, the first one does, and is no later
-abbrev pub Passes : (ℕ → Bool) → ℕ → ℕ → Type 0
+abbrev Passes : (ℕ → Bool) → ℕ → ℕ → Type 0
 Passes test b i = T (test i) × (i ≤ b)
 
 pub passes : (test : ℕ → Bool) (more i b : ℕ) → i ≤ b → b ≤ i + more → T (test b) → Passes test b (firstFrom test more i)

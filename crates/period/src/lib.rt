@@ -2,7 +2,7 @@
 // All on whole numbers: the power of ten comes from a table, and each search goes step by step up a ladder.
 ghost use mathlib.Core.Path.{_≡_};
 ghost use Prim.Native.Nat.{_+_, _≤_, _<_, _^_};
-ghost use Rattle.period.specs.Ladders.{ladder, placeOf, firstWide, Climbable, firstFit};
+ghost use Rattle.period.specs.Ladders.{ladder, rungOf, firstWide, Climbable, firstFit};
 ghost use Rattle.period.specs.Periods.{powerOf, periodOf, testedOf};
 
 const POWERS: [u64; 19] = [
@@ -70,7 +70,7 @@ fn largest_power(span: u64, n: u64) -> u64
 fn climb(span: u64, n: u64, start: u64, base: u64, counts: &[u64]) -> Period
     requires { ⌜ Climbable span n (ladder start base (now counts)) ⌝ }
     ensures { λ r. ⌜ (r .nanoseconds ≡ firstWide span n (ladder start base (now (counts .entry))))
-        × (r .tested ≡ placeOf span n (ladder start base (now (counts .entry))) + 1) ⌝ }
+        × (r .tested ≡ rungOf span n (ladder start base (now (counts .entry))) + 1) ⌝ }
 {
     let mut unit = start;
     let mut whole = span / unit;

@@ -1,4 +1,5 @@
 -- Laws of the plans: what the code works out, and what demand 3 asks of each.
+pub mod Cases
 pub mod Days
 pub mod Months
 pub mod Times

@@ -1,7 +1,6 @@
 -- The months of an axis: their ranges, the step of their lists by the code's tests, and that the step keeps the hint.
 -- Assumes nothing.
 use mathlib.Core.Path.{_≡_, refl}
-use mathlib.Core.Bool.{Bool, true, false, cond}
 use mathlib.Core.Logic.{inl, inr}
 use Prim.Native.Nat.{ℕ, _+_, _-_, _*_, _/_, _≤_, _<_}
 use native.Mathlib.Nat.{eq-or-lt-of-le}
@@ -9,10 +8,13 @@ use native.Mathlib.Decide.{decLe}
 use native.Mathlib.Omega.{arith}
 use lib.Dec.{leb}
 use borrow.Author.Tests.{leb-true, le-leb, lt-leb}
-use Rattle.calendar.specs.Gregorian.{months, dayNumber}
+use Rattle.calendar.specs.Gregorian.{dayNumber}
+use Rattle.calendar.specs.Questions.{lastDay}
 use Rattle.calendar.proofs.Formulas.{years-closed}
 use Rattle.calendar.proofs.Dates.{months-none}
 use Rattle.axis.specs.declared.Axis.{Axis}
+use Rattle.counting.specs.Counting.{Dated, fromDay, toDay}
+use Rattle.counting.proofs.Counting.{from-range, to-range}
 use Rattle.period.specs.Ladders.{firstFit}
 use Rattle.period.proofs.Fits.{fit-above, fit-most, fit-room}
 use Rattle.steps.specs.Months.{firstDay, InMonth, FromMonth}
@@ -20,17 +22,16 @@ use Rattle.steps.specs.Progression.{fitting}
 use Rattle.steps.proofs.Months.{first-days, in-month, from-month}
 use Rattle.steps.proofs.Fitting.{few-steps}
 use Rattle.steps.proofs.Demand.{Kept}
-use Rattle.plans.specs.Days.{Dated, fromDay, toDay}
 use Rattle.plans.specs.Months.{fromMonth, toMonth, yearStep, monthStep}
-use Rattle.plans.proofs.Days.{from-range, to-range}
+use Rattle.plans.proofs.Cases.{choose}
 
 -- ---- the months of the years 1 to 9999, and the one after them
-after-last : firstDay 119988 ≡ 3652060
+after-last : firstDay 119988 ≡ lastDay + 1
 unfolding firstDay dayNumber
 after-last = omega (arith, years-closed 24 399 (omega arith), months-none 10000)
 
 -- a month that begins by the day after the last is one of them
-pub month-most : (m : ℕ) → firstDay m ≤ 3652060 → m ≤ 119988
+month-most : (m : ℕ) → firstDay m ≤ lastDay + 1 → m ≤ 119988
 month-most m h = elim (decLe m 119988) [ yes l ↦ l | no l ↦ absurd (clash (first-days 119988 m (omega arith))) ]
   where
     clash : firstDay 119988 < firstDay m → ⊥
@@ -79,17 +80,13 @@ module _ (t n : ℕ) where
       let q : t / 12 + 1 < (n + 1) * f = fit-room (t / 12 + 1) n (omega arith) in
       (omega arith, omega arith, omega (arith, fit-most (t / 12 + 1) n))
 
-  cases : (k : ℕ) (a b c : Bool) → (a ≡ true → t ≤ n) → (b ≡ true → t ≤ n * 3) → (c ≡ true → t ≤ n * 6) → Wide t n k →
-      Wide t n (cond a 1 (cond b 3 (cond c 6 k)))
-  cases k true b c p q r h = (omega arith, omega (arith, p refl), omega arith)
-  cases k false true c p q r h = (omega arith, omega (arith, q refl), omega arith)
-  cases k false false true p q r h = (omega arith, omega (arith, r refl), omega arith)
-  cases k false false false p q r h = h
-
   pub month-wide : t < 120000 → Wide t n (monthStep t n)
   unfolding monthStep
-  month-wide h = cases (yearStep t n) (leb t n) (leb t (n * 3)) (leb t (n * 6)) (leb-true t n) (leb-true t (n * 3))
-      (leb-true t (n * 6)) (year-wide h)
+  month-wide h =
+      choose (Wide t n) (leb t n) (λ e. (omega arith, omega (arith, leb-true t n e), omega arith))
+      (λ _. choose (Wide t n) (leb t (n * 3)) (λ e. (omega arith, omega (arith, leb-true t (n * 3) e), omega arith))
+      (λ _. choose (Wide t n) (leb t (n * 6)) (λ e. (omega arith, omega (arith, leb-true t (n * 6) e), omega arith))
+      (λ _. year-wide h)))
 
   -- ---- as the code chooses it
   pub each-month : t ≤ n → 1 ≡ monthStep t n

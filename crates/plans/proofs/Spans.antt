@@ -9,8 +9,9 @@ use lib.IntN.{ℤ, pos, _+ℤ_, _-ℤ_, _*ℤ_}
 use lib.Signed.{ltZ}
 use mir.Syntax.{w64}
 use mir.Val.{SFits}
-use Rattle.laws.specs.Numbers.{up, dn}
-use Rattle.laws.proofs.Signed.{add, sub, mul-up, mul-dn, quot-up, quot-dn, fits, is-ge, lt-false}
+use Rattle.laws.specs.Numbers.{posPart, negPart}
+use Rattle.laws.specs.Units.{perSecond, perDay}
+use Rattle.laws.proofs.Signed.{add, sub, mul-up, mul-dn, quot-up, quot-dn, fits, is-ge}
 use Rattle.values.specs.declared.Value.{Value}
 use Rattle.values.specs.Values.{isDuration, isValue}
 use Rattle.values.specs.Differences.{nanoseconds, fitsI64}
@@ -26,19 +27,21 @@ use Rattle.axis.proofs.Axes.{both-ends, span-from-0, equal}
 use Rattle.axis.proofs.Questions.{of-seven, near-where-fits, near-range}
 use Rattle.period.specs.Periods.{periodOf, powerOf}
 use Rattle.period.proofs.Periods.{any-step, period-above, period-fits}
-use Rattle.plans.specs.Times.{shiftUp, shiftOf, shift, periodIn, Timed, daysIn, days, firstSecond, secondsLeft, Long}
+use Rattle.plans.specs.Times.{shift, periodIn, Timed, daysIn, ofDays, firstSecond, secondsLeft, Long}
 use Rattle.plans.specs.Plans.{Accepted}
-use Rattle.plans.proofs.Days.{bit}
+use Rattle.plans.proofs.Cases.{choose, by-test}
 use Rattle.plans.proofs.Times.{up-most, shift-most}
+
+bit : (b : Bool) → cond b 1 0 ≤ 1
+bit true = omega arith
+bit false = omega arith
 
 -- ---- the start's tail, and the start of a duration
 module _ (a : Axis) (r : ends a ≡ true) where
-  pub tail-range : (dn (a .«start_tail») ≡ 0) × (up (a .«start_tail») ≤ 86399999999999)
-  tail-range = go (isDuration (a .kind)) refl
-    where
-      go : (b : Bool) → isDuration (a .kind) ≡ b → (dn (a .«start_tail») ≡ 0) × (up (a .«start_tail») ≤ 86399999999999)
-      go true e = let v = duration-value (a .kind) (start a) (both-ends a r .first) e in (v .tail-dn, omega arith)
-      go false e = let v = day-value (a .kind) (start a) (both-ends a r .first) e in (v .tail-dn, v .tail-most)
+  pub tail-range : (negPart (a .«start_tail») ≡ 0) × (posPart (a .«start_tail») ≤ 86399999999999)
+  tail-range = by-test (isDuration (a .kind))
+      (λ e. let v = duration-value (a .kind) (start a) (both-ends a r .first) e in (v .tail-dn, omega arith))
+      (λ e. let v = day-value (a .kind) (start a) (both-ends a r .first) e in (v .tail-dn, v .tail-most))
 
   module _ (e : isDuration (a .kind) ≡ true) where
     pub start-seven : isValue (pos 7) (start a) ≡ true
@@ -54,16 +57,15 @@ module _ (a : Axis) (r : ends a ≡ true) where
     end-duration = duration-value (a .kind) (end a) (both-ends a r .second) e
 
 pub near-start : (a : Axis) (k : ℕ) → Timed a k → isDuration (a .kind) ≡ true →
-    (dn (nanoseconds (pos 7) (start a)) ≤ 4000000000000000000) × (up (nanoseconds (pos 7) (start a)) ≤ 4000000000000000000)
+    (negPart (nanoseconds (pos 7) (start a)) ≤ 4000000000000000000)
+    × (posPart (nanoseconds (pos 7) (start a)) ≤ 4000000000000000000)
 near-start a k t e = near-range (start a) (near-where-fits a e (t .near) (t .fits) .0)
 
 pub shift-small : (a : Axis) (k : ℕ) → 0 < k → shift a k ≤ k
 unfolding shift
-shift-small a k p = go (isDuration (a .kind))
-  where
-    go : (b : Bool) → cond b (shiftOf (nanoseconds (pos 7) (start a)) k) (shiftUp (up (a .«start_tail»)) k) ≤ k
-    go true = shift-most (nanoseconds (pos 7) (start a)) k p
-    go false = up-most (up (a .«start_tail»)) k p
+shift-small a k p =
+    choose (λ (s : ℕ). s ≤ k) (isDuration (a .kind)) (λ _. shift-most k p (nanoseconds (pos 7) (start a)))
+    (λ _. up-most k p (posPart (a .«start_tail»)))
 
 -- ---- the period
 module _ (a : Axis) (n : ℕ) where
@@ -71,18 +73,14 @@ module _ (a : Axis) (n : ℕ) where
   unfolding periodIn
   no-period e = rw e
 
-  pub some-period : fitsI64 (spanOf a) ≡ true → periodOf (up (spanOf a)) n (not (isDuration (a .kind))) ≡ periodIn a n
+  pub some-period : fitsI64 (spanOf a) ≡ true → periodOf (posPart (spanOf a)) n (not (isDuration (a .kind))) ≡ periodIn a n
   unfolding periodIn
   some-period e = rw e
-
-  fits-of : (b : Bool) → fitsI64 (spanOf a) ≡ b → 0 < periodIn a n → fitsI64 (spanOf a) ≡ true
-  fits-of true e h = e
-  fits-of false e h = absurd (lt-irrefl 0 (rw (← no-period e) at h))
 
   module _ (q : Accepted a n) (some : 1 ≤ n) where
     pub timed : 0 < periodIn a n → Timed a (periodIn a n)
     timed h =
-        let f = fits-of (fitsI64 (spanOf a)) refl h in
+        let f = by-test (fitsI64 (spanOf a)) (λ e. e) (λ e. absurd (lt-irrefl 0 (rw (← no-period e) at h))) in
         let (x, y) = fits-range (spanOf a) f in
         record {
           real = q .real;
@@ -90,38 +88,49 @@ module _ (a : Axis) (n : ℕ) where
           near = q .near;
           fits = f;
           above = h;
-          small = rw (some-period f) at (period-fits (up (spanOf a)) n (not (isDuration (a .kind))) (omega arith) some (q .most));
+          small = rw (some-period f) at (period-fits (posPart (spanOf a)) n (not (isDuration (a .kind))) (omega arith) some
+              (q .most));
         }
 
     -- a duration whose span fits has a period
-    beyond : (b : Bool) → fitsI64 (spanOf a) ≡ b → isDuration (a .kind) ≡ true → periodIn a n ≤ 0 → fitsI64 (spanOf a) ≡ false
-    beyond false e d h = e
-    beyond true e d h =
+    short : fitsI64 (spanOf a) ≡ true → isDuration (a .kind) ≡ true → 0 < periodIn a n
+    short e d =
         let (x, y) = fits-range (spanOf a) e in
         let s : not (isDuration (a .kind)) ≡ false = rw d in
-        let p = period-above (up (spanOf a)) n (not (isDuration (a .kind))) (omega arith) some (q .most)
-        (any-step (powerOf (up (spanOf a)) n) (not (isDuration (a .kind))) s) in
-        absurd (let z : ⊥ = omega (arith, rw (some-period e) at p) in z)
+        rw (some-period e) at (period-above (posPart (spanOf a)) n (not (isDuration (a .kind))) (omega arith) some (q .most)
+        (any-step (powerOf (posPart (spanOf a)) n) (not (isDuration (a .kind))) s))
 
     pub long : isDuration (a .kind) ≡ true → periodIn a n ≤ 0 → Long a
-    long d h = record { real = q .real; order = q .order; duration = d; beyond = beyond (fitsI64 (spanOf a)) refl d h }
+    long d h = record {
+      real = q .real;
+      order = q .order;
+      duration = d;
+      beyond = by-test (fitsI64 (spanOf a)) (λ e. absurd (let z : ⊥ = omega (arith, short e d) in z)) (λ e. e);
+    }
 
 -- ---- whole days of a duration
+-- the first tick is not before it, equal to it only where it has no tail, and less than two days later
+pub record First (v : Value) (b : ℤ) : Type 0 where
+  pub from : posPart (v .head) + negPart b ≤ posPart b + negPart (v .head)
+  pub whole : posPart b + negPart (v .head) ≡ posPart (v .head) + negPart b → posPart (v .tail) ≡ 0
+  pub soon : posPart b + negPart (v .head) ≤ posPart (v .head) + negPart b + 172800
+  pub days-on : posPart (daysIn v) * 86400 + negPart b ≤ posPart b + negPart (daysIn v) * 86400
+
 module _ (v : Value) (r : DurationValue v) where
   -- less than a day from it
-  pub days-low : up (daysIn v) * 86400 + dn (v .head) ≤ up (v .head) + dn (daysIn v) * 86400 + 86400
+  days-low : posPart (daysIn v) * 86400 + negPart (v .head) ≤ posPart (v .head) + negPart (daysIn v) * 86400 + 86400
   unfolding daysIn nanoseconds
   days-low =
-      let n = v .head *ℤ pos 1000000000 +ℤ v .tail in
-      omega (arith, quot-up n 86400000000000, quot-dn n 86400000000000, joint (v .head) (v .tail) 1000000000)
+      let n = v .head *ℤ pos perSecond +ℤ v .tail in
+      omega (arith, quot-up n perDay, quot-dn n perDay, joint (v .head) (v .tail) perSecond)
 
-  pub days-high : up (v .head) + dn (daysIn v) * 86400 < up (daysIn v) * 86400 + dn (v .head) + 86400
+  days-high : posPart (v .head) + negPart (daysIn v) * 86400 < posPart (daysIn v) * 86400 + negPart (v .head) + 86400
   unfolding daysIn nanoseconds
   days-high =
-      let n = v .head *ℤ pos 1000000000 +ℤ v .tail in
-      omega (arith, quot-up n 86400000000000, quot-dn n 86400000000000, joint (v .head) (v .tail) 1000000000)
+      let n = v .head *ℤ pos perSecond +ℤ v .tail in
+      omega (arith, quot-up n perDay, quot-dn n perDay, joint (v .head) (v .tail) perSecond)
 
-  pub days-range : (dn (daysIn v) ≤ 3652502) × (up (daysIn v) ≤ 3652502)
+  days-range : (negPart (daysIn v) ≤ 3652502) × (posPart (daysIn v) ≤ 3652502)
   days-range =
       let l = days-low in
       let h = days-high in
@@ -132,43 +141,36 @@ module _ (v : Value) (r : DurationValue v) where
   second-fits =
       let (x, y) = days-range in
       let d = daysIn v in
-      fits (d *ℤ pos 86400) (up d * 86400) (dn d * 86400) (omega (arith, mul-up d 86400, mul-dn d 86400)) (omega arith)
+      fits (d *ℤ pos 86400) (posPart d * 86400) (negPart d * 86400) (omega (arith, mul-up d 86400, mul-dn d 86400)) (omega arith)
       (omega arith)
 
   pub later-fits : SFits w64 (daysIn v *ℤ pos 86400 +ℤ pos 86400)
   later-fits =
       let (x, y) = days-range in
       let d = daysIn v in
-      fits (d *ℤ pos 86400 +ℤ pos 86400) (up d * 86400 + 86400) (dn d * 86400)
+      fits (d *ℤ pos 86400 +ℤ pos 86400) (posPart d * 86400 + 86400) (negPart d * 86400)
       (omega (arith, mul-up d 86400, mul-dn d 86400, add (d *ℤ pos 86400) (pos 86400))) (omega arith) (omega arith)
 
-  -- the first tick is not before it, equal to it only where it has no tail, and less than two days later
-  pub record First (b : ℤ) : Type 0 where
-    pub from : up (v .head) + dn b ≤ up b + dn (v .head)
-    pub whole : up b + dn (v .head) ≡ up (v .head) + dn b → up (v .tail) ≡ 0
-    pub soon : up b + dn (v .head) ≤ up (v .head) + dn b + 172800
-    pub days-on : up (daysIn v) * 86400 + dn b ≤ up b + dn (daysIn v) * 86400
-
-  pub first-is : First (firstSecond v)
+  first-is : First v (firstSecond v)
   unfolding firstSecond
-  first-is = go (equals v (days (daysIn v))) refl
+  first-is = go (equals v (ofDays (daysIn v))) refl
     where
       d : ℤ
       d = daysIn v *ℤ pos 86400
 
-      go : (b : Bool) → equals v (days (daysIn v)) ≡ b → First (d +ℤ cond b (pos 0) (pos 86400))
+      go : (b : Bool) → equals v (ofDays (daysIn v)) ≡ b → First v (d +ℤ cond b (pos 0) (pos 86400))
       go true e =
-          let s = equal v (days (daysIn v)) e in
+          let s = equal v (ofDays (daysIn v)) e in
           let h = ap (λ (w : Value). w .head) s in
           let t = ap (λ (w : Value). w .tail) s in
           let x = add d (pos 0) in
           let y = mul-up (daysIn v) 86400 in
           let z = mul-dn (daysIn v) 86400 in
           record {
-            from = omega (arith, ap up h, ap dn h);
-            whole = λ i. ap up t;
-            soon = omega (arith, ap up h, ap dn h);
-            days-on = omega (arith, ap up h, ap dn h);
+            from = omega (arith, ap posPart h, ap negPart h);
+            whole = λ i. ap posPart t;
+            soon = omega (arith, ap posPart h, ap negPart h);
+            days-on = omega (arith, ap posPart h, ap negPart h);
           }
       go false e =
           let x = add d (pos 86400) in
@@ -182,37 +184,40 @@ module _ (v : Value) (r : DurationValue v) where
           }
 
 -- ---- a long span
-pub not-fitting : (z : ℤ) → dn z ≡ 0 → fitsI64 z ≡ false → 9223372036854775807 < up z
+pub not-fitting : (z : ℤ) → negPart z ≡ 0 → fitsI64 z ≡ false → 9223372036854775807 < posPart z
 not-fitting z e f =
-    elim (decLe (up z) 9223372036854775807) [
+    elim (decLe (posPart z) 9223372036854775807) [
       | yes h ↦ absurd (true≢false (sym (fits-yes z h (omega arith)) ∙ f))
       | no h ↦ omega arith
     ]
 
-pub dn-of : (z : ℤ) → ltZ z (pos 0) ≡ false → dn z ≡ 0
-dn-of z e = not-below z (omega (arith, lt-false z (pos 0) e))
-
 module _ (a : Axis) (l : Long a) where
-  above : 9223372036854775807 < up (spanOf a)
+  pub from : DurationValue (start a)
+  from = start-duration a (l .real) (l .duration)
+
+  pub to : DurationValue (end a)
+  to = end-duration a (l .real) (l .duration)
+
+  above : 9223372036854775807 < posPart (spanOf a)
   above = not-fitting (spanOf a) (span-from-0 a (l .real) (l .order)) (l .beyond)
 
-  parts : spanOf a ≡ (a .«end_head» -ℤ a .«start_head») *ℤ pos 1000000000 +ℤ (a .«end_tail» -ℤ a .«start_tail»)
+  parts : spanOf a ≡ (a .«end_head» -ℤ a .«start_head») *ℤ pos perSecond +ℤ (a .«end_tail» -ℤ a .«start_tail»)
   unfolding spanOf
   parts = durations-apart (a .kind) (start a) (end a) (l .duration)
 
-  pub apart : up (a .«start_head») + dn (a .«end_head») + 9000000000 ≤ up (a .«end_head») + dn (a .«start_head»)
+  apart : posPart (a .«start_head») + negPart (a .«end_head») + 9000000000 ≤ posPart (a .«end_head») + negPart (a .«start_head»)
   apart =
-      let s = start-duration a (l .real) (l .duration) in
-      let e = end-duration a (l .real) (l .duration) in
+      let s = from in
+      let e = to in
       let h = a .«end_head» -ℤ a .«start_head» in
       let t = a .«end_tail» -ℤ a .«start_tail» in
       let z = span-from-0 a (l .real) (l .order) in
       omega (
         arith,
         above,
-        ap up parts,
-        ap dn parts,
-        joint h t 1000000000,
+        ap posPart parts,
+        ap negPart parts,
+        joint h t perSecond,
         sub (a .«end_head») (a .«start_head»),
         sub (a .«end_tail») (a .«start_tail»),
       )
@@ -220,71 +225,66 @@ module _ (a : Axis) (l : Long a) where
   abbrev first : ℤ
   first = firstSecond (start a)
 
-  starts : First (start a) (start-duration a (l .real) (l .duration)) first
-  starts = first-is (start a) (start-duration a (l .real) (l .duration))
+  pub begins : First (start a) first
+  begins = first-is (start a) from
 
   -- to the end
-  pub left-from-0 : ltZ (a .«end_head» -ℤ first) (pos 0) ≡ false
-  left-from-0 = let s = starts in is-ge (a .«end_head» -ℤ first) (pos 0) (omega (arith, sub (a .«end_head») first, apart))
+  pub left-dn : negPart (a .«end_head» -ℤ first) ≡ 0
+  left-dn = let s = begins in not-below (a .«end_head» -ℤ first) (omega (arith, sub (a .«end_head») first, apart))
 
   pub left-fits : SFits w64 (a .«end_head» -ℤ first)
   left-fits =
-      let s = starts in
-      let v = start-duration a (l .real) (l .duration) in
-      let w = end-duration a (l .real) (l .duration) in
-      fits (a .«end_head» -ℤ first) (up (a .«end_head») + dn first) (dn (a .«end_head») + up first)
+      let s = begins in
+      let v = from in
+      let w = to in
+      fits (a .«end_head» -ℤ first) (posPart (a .«end_head») + negPart first) (negPart (a .«end_head») + posPart first)
       (omega (arith, sub (a .«end_head») first))
       (omega arith) (omega arith)
 
-  pub left-small : up (a .«end_head» -ℤ first) < 1000000000000
+  pub left-small : posPart (a .«end_head» -ℤ first) < 1000000000000
   left-small =
-      let s = starts in
-      let v = start-duration a (l .real) (l .duration) in
-      let w = end-duration a (l .real) (l .duration) in
-      let z = left-from-0 in
-      omega (arith, sub (a .«end_head») first, apart, dn-of (a .«end_head» -ℤ first) z)
+      let s = begins in
+      let v = from in
+      let w = to in
+      omega (arith, sub (a .«end_head») first, apart, left-dn)
 
   -- in whole days
   abbrev total : ℤ
   total = daysIn (end a) -ℤ daysIn (start a)
 
-  ends-apart : up (daysIn (start a)) + dn (daysIn (end a)) ≤ up (daysIn (end a)) + dn (daysIn (start a))
+  ends-apart : posPart (daysIn (start a)) + negPart (daysIn (end a)) ≤ posPart (daysIn (end a)) + negPart (daysIn (start a))
   ends-apart =
-      let v = start-duration a (l .real) (l .duration) in
-      let w = end-duration a (l .real) (l .duration) in
-      omega (arith, apart, days-low (start a) v, days-high (end a) w)
+      omega (arith, apart, days-low (start a) from, days-high (end a) to)
 
-  pub total-from-0 : ltZ total (pos 0) ≡ false
-  total-from-0 = is-ge total (pos 0) (omega (arith, sub (daysIn (end a)) (daysIn (start a)), ends-apart))
+  pub total-dn : negPart total ≡ 0
+  total-dn = not-below total (omega (arith, sub (daysIn (end a)) (daysIn (start a)), ends-apart))
 
-  pub total-range : (up total ≤ 7305004) × SFits w64 total
+  pub total-range : (posPart total ≤ 7305004) × SFits w64 total
   total-range =
-      let v = days-range (start a) (start-duration a (l .real) (l .duration)) in
-      let w = days-range (end a) (end-duration a (l .real) (l .duration)) in
+      let v = days-range (start a) from in
+      let w = days-range (end a) to in
       let x = sub (daysIn (end a)) (daysIn (start a)) in
-      let z = dn-of total total-from-0 in
-      (omega arith, fits total (up total) (dn total) refl (omega arith) (omega arith))
+      let z = total-dn in
+      (omega arith, fits total (posPart total) (negPart total) refl (omega arith) (omega arith))
 
   -- the seconds left are no more than the days between the ends and one more
-  pub left-most : secondsLeft a ≤ 86400 * (up total + 1)
+  pub left-most : secondsLeft a ≤ 86400 * (posPart total + 1)
   unfolding secondsLeft
   left-most =
-      let s = starts in
-      let w = end-duration a (l .real) (l .duration) in
+      let s = begins in
       let b = bit (ltZ (pos 0) (a .«end_tail»)) in
       omega (
         arith,
-        dn-of total total-from-0,
-        dn-of (a .«end_head» -ℤ first) left-from-0,
-        sub (daysIn (end a))
-            (daysIn (start a)),
+        total-dn,
+        left-dn,
+        sub (daysIn (end a)) (daysIn (start a)),
         sub (a .«end_head») first,
-        days-high (end a) w,
+        days-high (end a) to,
       )
 
   -- and the last of them is not after the end
-  pub left-last : (secondsLeft a ≤ up (a .«end_head» -ℤ first) + 1) × (up (a .«end_tail») ≡ 0 →
-      secondsLeft a ≤ up (a .«end_head» -ℤ first))
+  pub left-last : (secondsLeft a ≤ posPart (a .«end_head» -ℤ first) + 1) × (posPart (a .«end_tail») ≡ 0 →
+      secondsLeft a ≤ posPart (a .«end_head» -ℤ first))
   unfolding secondsLeft
   left-last =
       let b = bit (ltZ (pos 0) (a .«end_tail»)) in

@@ -1,20 +1,20 @@
--- The shift to the first tick, by the code's tests and by the sign of the start, and durations counted from zero.
--- Assumes nothing.
+-- The shift to the first tick, by the code's tests, and durations counted from zero. Assumes nothing.
 use mathlib.Core.Path.{_≡_, refl}
-use mathlib.Core.Bool.{Bool, true, false, cond}
-use Prim.Native.Nat.{ℕ, suc, _-_, _%_, _≤_, _<_}
+use mathlib.Core.Bool.{true, false}
+use Prim.Native.Nat.{ℕ, zero, suc, _-_, _%_, _^_, _≤_, _<_}
 use native.Mathlib.Nat.{mod-lt}
 use native.Mathlib.Omega.{arith}
 use lib.Dec.{eqb}
-use lib.IntN.{ℤ, pos, negsuc, natAbs, _-ℤ_}
-use lib.Signed.{mag, ltZ}
+use lib.IntN.{ℤ, pos, negsuc, natAbs, negℤ, _-ℤ_}
+use lib.Signed.{ltZ, remZ}
 use borrow.Author.Tests.{eq-eqb, ne-eqb}
-use Rattle.laws.specs.Numbers.{up, dn}
 use Rattle.laws.proofs.Signed.{sub, same, lt-true, lt-false}
 use Rattle.values.specs.declared.Value.{Value}
 use Rattle.values.specs.Differences.{nanoseconds, difference}
-use Rattle.plans.specs.Times.{shiftUp, shiftDown, shiftOf}
+use Rattle.plans.specs.Times.{shiftUp, bits, shiftOf}
+use Rattle.plans.proofs.Cases.{choose}
 
+-- ---- by the code's tests
 module _ (x k : ℕ) where
   pub up-none : x % k ≡ 0 → 0 ≡ shiftUp x k
   unfolding shiftUp
@@ -24,59 +24,52 @@ module _ (x k : ℕ) where
   unfolding shiftUp
   up-some e = rw (ne-eqb (x % k) 0 e) refl
 
-  -- the code has no 2^64
-  wrapped : 0 < x → x ≤ 18446744073709551616 → 18446744073709551615 - (x - 1) ≡ 18446744073709551616 - x
-  wrapped a b = omega arith
+pub size-below : (z : ℤ) → ltZ z (pos 0) ≡ true → 1 ≤ natAbs z
+size-below (pos n) e = omega (arith, lt-true (pos n) (pos 0) e)
+size-below (negsuc n) e = omega arith
 
-  pub down-none : 0 < x → x ≤ 18446744073709551616 → (18446744073709551615 - (x - 1)) % k ≡ 0 → 0 ≡ shiftDown x k
-  unfolding shiftDown
-  down-none a b e = rw (eq-eqb ((18446744073709551616 - x) % k) 0 (rw (wrapped a b) at e)) refl
+pub bits-below : (z : ℤ) → ltZ z (pos 0) ≡ true → 2 ^ 64 - 1 - (natAbs z - 1) ≡ bits z
+bits-below (pos n) e = absurd (let w : ⊥ = omega (arith, lt-true (pos n) (pos 0) e) in w)
+bits-below (negsuc n) e = omega arith
 
-  pub down-some : 0 < x → x ≤ 18446744073709551616 → ((18446744073709551615 - (x - 1)) % k ≡ 0 → ⊥) → x % k ≡ shiftDown x k
-  unfolding shiftDown
-  down-some a b e = rw (ne-eqb ((18446744073709551616 - x) % k) 0 (rw (wrapped a b) at e)) refl
+pub bits-above : (z : ℤ) → ltZ z (pos 0) ≡ false → natAbs z ≡ bits z
+bits-above (pos n) e = refl
+bits-above (negsuc n) e = absurd (let w : ⊥ = omega (arith, lt-false (negsuc n) (pos 0) e) in w)
 
-  -- a shift is at most a period
-  module _ (p : 0 < k) where
-    one : (b : Bool) (y : ℕ) → y ≤ k → cond b 0 y ≤ k
-    one true y h = omega arith
-    one false y h = h
+module _ (z : ℤ) (k : ℕ) where
+  pub shift-none : bits z % k ≡ 0 → 0 ≡ shiftOf z k
+  unfolding shiftOf
+  shift-none e = rw (eq-eqb (bits z % k) 0 e)
 
-    pub up-most : shiftUp x k ≤ k
-    unfolding shiftUp
-    up-most = one (eqb (x % k) 0) (k - x % k) (omega arith)
+  module _ (e : bits z % k ≡ 0 → ⊥) where
+    pub shift-up : ltZ (pos 0) z ≡ true → k - natAbs (remZ z (pos k)) ≡ shiftOf z k
+    unfolding shiftOf
+    shift-up h = rw (ne-eqb (bits z % k) 0 e, h)
 
-    pub down-most : shiftDown x k ≤ k
-    unfolding shiftDown
-    down-most = one (eqb ((18446744073709551616 - x) % k) 0) (x % k) (omega (arith, mod-lt x p))
+    pub shift-down : ltZ (pos 0) z ≡ false → natAbs (remZ z (pos k)) ≡ shiftOf z k
+    unfolding shiftOf
+    shift-down h = rw (ne-eqb (bits z % k) 0 e, h)
 
-pub shift-most : (z : ℤ) (k : ℕ) → 0 < k → shiftOf z k ≤ k
-shift-most (pos x) k p = up-most x k p
-shift-most (negsuc x) k p = down-most (suc x) k p
+-- ---- a shift is at most a period
+turned-size : (n : ℕ) → natAbs (negℤ (pos n)) ≡ n
+turned-size zero = refl
+turned-size (suc n) = refl
 
--- ---- by the sign
-pub flipped : (x : ℤ) → ltZ x (pos 0) ≡ true → pos 0 -ℤ x ≡ pos (dn x)
-flipped (pos n) e = absurd (let z : ⊥ = omega (arith, lt-true (pos n) (pos 0) e) in z)
-flipped (negsuc n) e = same (pos 0 -ℤ negsuc n) (pos (suc n)) (omega (arith, sub (pos 0) (negsuc n)))
+module _ (k : ℕ) (p : 0 < k) where
+  pub rest-most : (z : ℤ) → natAbs (remZ z (pos k)) < k
+  rest-most (pos n) = mod-lt n p
+  rest-most (negsuc n) = rw (turned-size (suc n % k)) (mod-lt (suc n) p)
 
-pub below : (x : ℤ) → ltZ x (pos 0) ≡ true → 0 < dn x
-below x e = omega (arith, lt-true x (pos 0) e)
+  pub up-most : (x : ℕ) → shiftUp x k ≤ k
+  unfolding shiftUp
+  up-most x = choose (λ (s : ℕ). s ≤ k) (eqb (x % k) 0) (λ _. omega arith) (λ _. omega arith)
 
-pub dn-small : (x : ℤ) → mag x < 9000000000000000000 → dn x ≤ 9000000000000000000
-dn-small (pos n) h = omega arith
-dn-small (negsuc n) h = omega arith
-
-pub mag-small : (x : ℤ) → dn x ≤ 4000000000000000000 → up x ≤ 4000000000000000000 → mag x < 9000000000000000000
-mag-small (pos n) a b = omega arith
-mag-small (negsuc n) a b = omega arith
-
-pub down-of : (x : ℤ) (k : ℕ) → ltZ x (pos 0) ≡ true → shiftDown (dn x) k ≡ shiftOf x k
-down-of (pos n) k e = absurd (let z : ⊥ = omega (arith, lt-true (pos n) (pos 0) e) in z)
-down-of (negsuc n) k e = refl
-
-pub up-of : (x : ℤ) (k : ℕ) → ltZ x (pos 0) ≡ false → shiftUp (natAbs x) k ≡ shiftOf x k
-up-of (pos n) k e = refl
-up-of (negsuc n) k e = absurd (let z : ⊥ = omega (arith, lt-false (negsuc n) (pos 0) e) in z)
+  pub shift-most : (z : ℤ) → shiftOf z k ≤ k
+  unfolding shiftOf
+  shift-most z =
+      let h = rest-most z in
+      choose (λ (s : ℕ). s ≤ k) (eqb (bits z % k) 0) (λ _. omega arith)
+      (λ _. choose (λ (s : ℕ). s ≤ k) (ltZ (pos 0) z) (λ _. omega arith) (λ _. omega arith))
 
 -- ---- a duration is its difference from zero
 abbrev pub zeroSpan : Value

@@ -1,42 +1,28 @@
--- The days of an axis over dates or date-times, and their list: every day, every week or every few weeks, the last day
+-- The list of the days of an axis over dates or date-times: every day, every week or every few weeks, the last day
 -- included. Definitions only.
-use mathlib.Core.Path.{_≡_}
-use mathlib.Core.Bool.{true, false, cond, _&&_}
+use mathlib.Core.Bool.{false, cond, _&&_}
 use Prim.Native.Nat.{ℕ, _+_, _-_, _*_, _/_, min}
 use lib.Dec.{eqb, ltb, leb}
 use lib.Ieee.{binary64, ofInt, div, toUnsigned}
-use lib.IntN.{ℤ, pos}
-use Rattle.laws.specs.Numbers.{up}
-use Rattle.calendar.specs.declared.DateTime.{DateTime}
-use Rattle.calendar.specs.DateTimes.{dateFloor, dateCeil}
+use lib.IntN.{pos}
 use Rattle.floats.specs.Rounding.{ceilF}
-use Rattle.values.specs.declared.Value.{Value}
-use Rattle.values.specs.Values.{isDuration}
 use Rattle.axis.specs.declared.Axis.{Axis}
-use Rattle.axis.specs.Axes.{start, end}
-use Rattle.axis.specs.Questions.{ends}
+use Rattle.counting.specs.Counting.{fromDay, toDay}
 use Rattle.steps.specs.declared.Steps.{Steps}
 use Rattle.steps.specs.Progression.{fitting}
+use Rattle.plans.specs.declared.Even.{Even}
 
--- an axis over dates or date-times
-pub record Dated (a : Axis) : Type 0 where
-  pub real : ends a ≡ true
-  pub days : isDuration (a .kind) ≡ false
-
--- a date is the midnight of its day
-abbrev pub dateTime : Value → DateTime
-dateTime v = record { day = up (v .head); nano = up (v .tail) }
-
--- date_ceil of the start, which may be 10000-01-01, and date_floor of the end
-unfoldable pub fromDay : Axis → ℕ
-fromDay a = dateCeil (dateTime (start a))
-
-unfoldable pub toDay : Axis → ℕ
-toDay a = dateFloor (dateTime (end a))
-
--- from the number f to the number e, which is left out, k apart; a head has per numbers, and b is the head of 0
-abbrev pub evenly : ℕ → ℤ → ℕ → ℕ → ℕ → Steps
-evenly per b f e k = record { months = false; base = b; per = per; first = f; step = k; count = fitting (e - f) k }
+-- all the ticks before the end
+abbrev pub evenly : Even → Steps
+evenly e =
+    record {
+      «by_month» = false;
+      base = e .base;
+      per = e .per;
+      first = e .first;
+      step = e .step;
+      count = fitting (e .end - e .first) (e .step);
+    }
 
 -- (w as f64 / n as f64).ceil() as usize
 unfoldable pub weeksPer : ℕ → ℕ → ℕ
@@ -51,8 +37,10 @@ dateStep d n =
     (cond (eqb (d / 7) 0) 7
     (7 * min (weeksPer (d / 7) n) (d / 7 + 1))))
 
+-- the days from a first day on, of which the last is d later
 abbrev pub daysBy : ℕ → ℕ → ℕ → Steps
-daysBy from d n = evenly 1 (pos from) 0 (d + 1) (dateStep d n)
+daysBy from d n = evenly (record { per = 1; base = pos from; first = 0; end = d + 1; step = dateStep d n })
 
+-- the list of an axis by days
 unfoldable pub dayPlan : Axis → ℕ → Steps
 dayPlan a n = daysBy (fromDay a) (toDay a - fromDay a) n

@@ -4,12 +4,12 @@ use mathlib.Core.Path.{_≡_}
 use mathlib.Core.Bool.{true, false, not, cond}
 use Prim.Native.Nat.{ℕ, suc, _+_, _-_, _*_, _%_, _^_, _<_}
 use lib.Dec.{eqb}
-use lib.IntN.{ℤ, pos, negsuc, _+ℤ_, _-ℤ_, _*ℤ_}
-use lib.Signed.{ltZ}
-use Rattle.laws.specs.Numbers.{up}
+use lib.IntN.{ℤ, pos, negsuc, natAbs, _+ℤ_, _-ℤ_, _*ℤ_}
+use lib.Signed.{ltZ, remZ}
+use Rattle.laws.specs.Numbers.{posPart}
 use Rattle.values.specs.declared.Value.{Value}
 use Rattle.values.specs.Values.{isDuration}
-use Rattle.values.specs.Differences.{nanoseconds, fitsI64, wholeDays}
+use Rattle.values.specs.Differences.{unit, nanoseconds, fitsI64, wholeDays}
 use Rattle.axis.specs.declared.Axis.{Axis}
 use Rattle.axis.specs.Axes.{start, end, spanOf}
 use Rattle.axis.specs.Questions.{ends, inOrder, nearOrLong, equals}
@@ -21,31 +21,39 @@ use Rattle.plans.specs.Days.{evenly}
 -- ---- ticks a period apart
 -- the period, or 0 where days are listed: date-times have none from a day on, durations none beyond i64 nanoseconds
 unfoldable pub periodIn : Axis → ℕ → ℕ
-periodIn a n = cond (fitsI64 (spanOf a)) (periodOf (up (spanOf a)) n (not (isDuration (a .kind)))) 0
+periodIn a n = cond (fitsI64 (spanOf a)) (periodOf (posPart (spanOf a)) n (not (isDuration (a .kind)))) 0
 
 -- from x up to a multiple of k
 unfoldable pub shiftUp : ℕ → ℕ → ℕ
 shiftUp x k = cond (eqb (x % k) 0) 0 (k - x % k)
 
--- from -x toward zero to a multiple of k, but nothing where 2^64 - x is one
-unfoldable pub shiftDown : ℕ → ℕ → ℕ
-shiftDown x k = cond (eqb ((18446744073709551616 - x) % k) 0) 0 (x % k)
+-- the 64 bits of a signed number
+abbrev pub bits : ℤ → ℕ
+bits (pos n) = n
+bits (negsuc n) = 2 ^ 64 - suc n
 
-abbrev pub shiftOf : ℤ → ℕ → ℕ
-shiftOf (pos x) k = shiftUp x k
-shiftOf (negsuc x) k = shiftDown (suc x) k
+-- from z to the first tick: none where k divides the bits of z. Else the remainder, which has the sign of z, is left
+-- behind: from above zero up to the next multiple of k, and from below toward zero
+unfoldable pub shiftOf : ℤ → ℕ → ℕ
+shiftOf z k =
+    cond (eqb (bits z % k) 0) 0
+    (cond (ltZ (pos 0) z) (k - natAbs (remZ z (pos k)))
+    (natAbs (remZ z (pos k))))
 
 -- from the start to the first tick: a date-time counts from midnight of its date, a duration from zero
 unfoldable pub shift : Axis → ℕ → ℕ
-shift a k = cond (isDuration (a .kind)) (shiftOf (nanoseconds (pos 7) (start a)) k) (shiftUp (up (a .«start_tail»)) k)
+shift a k = cond (isDuration (a .kind)) (shiftOf (nanoseconds (pos 7) (start a)) k) (shiftUp (posPart (a .«start_tail»)) k)
 
--- the nanoseconds of a head
-abbrev pub perHead : Axis → ℕ
-perHead a = cond (isDuration (a .kind)) 1000000000 86400000000000
-
+-- the list of an axis whose ticks are the period k apart
 unfoldable pub timePlan : Axis → ℕ → Steps
 timePlan a k =
-    evenly (perHead a) (a .«start_head») (up (a .«start_tail») + shift a k) (up (a .«start_tail») + up (spanOf a)) k
+    evenly (record {
+      per = unit (a .kind);
+      base = a .«start_head»;
+      first = posPart (a .«start_tail») + shift a k;
+      end = posPart (a .«start_tail») + posPart (spanOf a);
+      step = k;
+    })
 
 -- an axis whose span fits nanoseconds, and a period
 pub record Timed (a : Axis) (k : ℕ) : Type 0 where
@@ -61,22 +69,32 @@ pub record Timed (a : Axis) (k : ℕ) : Type 0 where
 unfoldable pub daysIn : Value → ℤ
 daysIn v = wholeDays (nanoseconds (pos 7) v)
 
+-- a day in seconds
+abbrev pub secondsPerDay : ℕ
+secondsPerDay = 86400
+
 -- that many days as a value
-abbrev pub days : ℤ → Value
-days d = record { head = d *ℤ pos 86400; tail = pos 0 }
+abbrev pub ofDays : ℤ → Value
+ofDays d = record { head = d *ℤ pos secondsPerDay; tail = pos 0 }
 
 -- the seconds of the first tick: the whole days of the start, and one more unless the start is whole days
 unfoldable pub firstSecond : Value → ℤ
-firstSecond v = days (daysIn v) .head +ℤ cond (equals v (days (daysIn v))) (pos 0) (pos 86400)
+firstSecond v = ofDays (daysIn v) .head +ℤ cond (equals v (ofDays (daysIn v))) (pos 0) (pos secondsPerDay)
 
 -- a second less where the end is one
 unfoldable pub secondsLeft : Axis → ℕ
-secondsLeft a = up (a .«end_head» -ℤ firstSecond (start a)) + cond (ltZ (pos 0) (a .«end_tail»)) 1 0
+secondsLeft a = posPart (a .«end_head» -ℤ firstSecond (start a)) + cond (ltZ (pos 0) (a .«end_tail»)) 1 0
 
 -- 1, 2, 5, 10, .. days
 unfoldable pub spanDaysPlan : Axis → ℕ → Steps
 spanDaysPlan a n =
-    evenly 1 (firstSecond (start a)) 0 (secondsLeft a) (86400 * firstFit (up (daysIn (end a) -ℤ daysIn (start a))) n)
+    evenly (record {
+      per = 1;
+      base = firstSecond (start a);
+      first = 0;
+      end = secondsLeft a;
+      step = secondsPerDay * firstFit (posPart (daysIn (end a) -ℤ daysIn (start a))) n;
+    })
 
 -- a duration axis whose span does not fit nanoseconds
 pub record Long (a : Axis) : Type 0 where

@@ -1,54 +1,50 @@
 // The tick list of each kind, as plotters' key_points: a plan, which is a progression. Days, months and years; date-times
 // and durations a period apart; whole days of a long duration.
 use axis::Axis;
-use calendar::DateTime;
 use steps::Steps;
 use values::Nanoseconds;
 use values::Value;
 ghost use mathlib.Core.Path.{_≡_};
-ghost use mathlib.Core.Bool.{true, false};
-ghost use Prim.Native.Nat.{_+_, _-_, _*_, _≤_, _<_, min};
+ghost use mathlib.Core.Bool.{true};
+ghost use Prim.Native.Nat.{_+_, _≤_, _<_, _^_, min};
 ghost use lib.IntN.{pos};
-ghost use lib.Signed.{mag};
 ghost use Rattle.values.specs.Values.{isValue};
+ghost use Rattle.values.specs.Differences.{unit};
 ghost use Rattle.axis.specs.Axes.{start};
-ghost use Rattle.plans.specs.Days.{Dated, fromDay, toDay, evenly, weeksPer, dateStep, dayPlan};
-ghost use Rattle.plans.specs.Months.{yearStep, monthStep, monthsBy, monthPlan, yearPlan};
-ghost use Rattle.plans.specs.Times.{periodIn, shiftUp, shiftDown, shiftOf, shift, perHead, timePlan, Timed};
+ghost use Rattle.counting.specs.Counting.{Dated};
+ghost use Rattle.plans.specs.Days.{evenly, weeksPer, dateStep, dayPlan};
+ghost use Rattle.plans.specs.Months.{fromMonth, toMonth, yearStep, monthStep, monthsBy, monthPlan, yearPlan};
+ghost use Rattle.plans.specs.Times.{periodIn, shiftUp, bits, shiftOf, shift, timePlan, Timed};
 ghost use Rattle.plans.specs.Times.{daysIn, firstSecond, secondsLeft, spanDaysPlan, Long};
-ghost use Rattle.plans.specs.Plans.{Accepted, monthly, yearly, planOf};
+ghost use Rattle.plans.specs.Plans.{Accepted, periodPlan, planOf};
 
-// date_ceil of the start.
-pub fn from_day(a: Axis) -> u64
-    requires { ⌜ Dated a ⌝ }
-    ensures { λ r. ⌜ r ≡ fromDay a ⌝ }
-{
-    calendar::date_ceil(DateTime {
-        day: calendar::count(a.start_head),
-        nano: calendar::count(a.start_tail),
-    })
+// Ticks step apart from the number first to the number end, which is left out. A head has per numbers, and base is the
+// head of 0.
+struct Even {
+    per: u64,
+    base: i64,
+    first: u64,
+    end: u64,
+    step: u64,
 }
 
-// date_floor of the end.
-pub fn to_day(a: Axis) -> u64
-    requires { ⌜ Dated a ⌝ }
-    ensures { λ r. ⌜ r ≡ toDay a ⌝ }
-{
-    calendar::count(a.end_head)
+// The first month that begins on an axis, and the month of its last day.
+struct MonthRange {
+    first: u64,
+    last: u64,
 }
 
-// Ticks k apart from the number f to the number e, which is left out.
-fn even_plan(start: Value, per: u64, f: u64, e: u64, k: u64) -> Steps
-    requires { ⌜ 0 < k ⌝ }
-    ensures { λ r. ⌜ r ≡ evenly per (start .head) f e k ⌝ }
+fn even_plan(e: Even) -> Steps
+    requires { ⌜ 0 < e .step ⌝ }
+    ensures { λ r. ⌜ r ≡ evenly e ⌝ }
 {
     Steps {
-        months: false,
-        base: start.head,
-        per: per,
-        first: f,
-        step: k,
-        count: steps::how_many(steps::less(e, f), k),
+        by_month: false,
+        base: e.base,
+        per: e.per,
+        first: e.first,
+        step: e.step,
+        count: steps::how_many(counting::less(e.end, e.first), e.step),
     }
 }
 
@@ -85,13 +81,16 @@ fn day_plan(a: Axis, n: u64) -> Steps
     requires { ⌜ Dated a ⌝ }
     ensures { λ r. ⌜ r ≡ dayPlan a n ⌝ }
 {
-    let from = from_day(a);
-    let d = steps::less(to_day(a), from);
-    let start = Value {
-        head: from as i64,
-        tail: 0,
-    };
-    even_plan(start, 1, 0, d + 1, date_step(d, n))
+    let from = counting::from_day(a);
+    let d = counting::less(counting::to_day(a), from);
+    let base = from as i64;
+    even_plan(Even {
+        per: 1,
+        base: base,
+        first: 0,
+        end: d + 1,
+        step: date_step(d, n),
+    })
 }
 
 // The months of a step of years, where the last month is t later than the first.
@@ -119,18 +118,28 @@ fn month_step(t: u64, n: u64) -> u64
     year_step(t, n)
 }
 
-// Ticks k months apart, from the month m to the month e.
-fn months_by(m: u64, e: u64, k: u64) -> Steps
-    requires { ⌜ (0 < k) × (e < 120000) ⌝ }
-    ensures { λ r. ⌜ r ≡ monthsBy m e k ⌝ }
+// Ticks k months apart.
+fn months_by(m: MonthRange, k: u64) -> Steps
+    requires { ⌜ (0 < k) × (m .last < 120000) ⌝ }
+    ensures { λ r. ⌜ r ≡ monthsBy (m .first) (m .last) k ⌝ }
 {
     Steps {
-        months: true,
+        by_month: true,
         base: 0,
         per: 1,
-        first: m,
+        first: m.first,
         step: k,
-        count: steps::how_many(steps::less(e + 1, m), k),
+        count: steps::how_many(counting::less(m.last + 1, m.first), k),
+    }
+}
+
+fn months_on(a: Axis) -> MonthRange
+    requires { ⌜ Dated a ⌝ }
+    ensures { λ r. ⌜ r ≡ record { first = fromMonth a; last = toMonth a } ⌝ }
+{
+    MonthRange {
+        first: steps::whole_month(counting::from_day(a)),
+        last: steps::month_of(counting::to_day(a)),
     }
 }
 
@@ -138,18 +147,16 @@ fn month_plan(a: Axis, n: u64) -> Steps
     requires { ⌜ Dated a × (n ≤ 4096) ⌝ }
     ensures { λ r. ⌜ r ≡ monthPlan a n ⌝ }
 {
-    let m = steps::whole_month(from_day(a));
-    let e = steps::month_of(to_day(a));
-    months_by(m, e, month_step(steps::less(e, m), n))
+    let m = months_on(a);
+    months_by(m, month_step(counting::less(m.last, m.first), n))
 }
 
 fn year_plan(a: Axis, n: u64) -> Steps
     requires { ⌜ Dated a ⌝ }
     ensures { λ r. ⌜ r ≡ yearPlan a n ⌝ }
 {
-    let m = steps::whole_month(from_day(a));
-    let e = steps::month_of(to_day(a));
-    months_by(m, e, year_step(steps::less(e, m), n))
+    let m = months_on(a);
+    months_by(m, year_step(counting::less(m.last, m.first), n))
 }
 
 // The period of kinds 4 and 7, or 0 where days are listed.
@@ -162,7 +169,7 @@ pub fn period_in(a: Axis, n: u64) -> u64
         return 0;
     }
     let sub_daily = !values::is_duration(a.kind);
-    let p = period::compute_period_per_point(calendar::count(s.value), n, sub_daily);
+    let p = period::compute_period_per_point(calendar::as_count(s.value), n, sub_daily);
     p.nanoseconds
 }
 
@@ -178,26 +185,30 @@ fn shift_up(x: u64, k: u64) -> u64
     k - r
 }
 
-// From -x toward zero to a multiple of k, but nothing where k divides its bits. 2^64 is no number here.
-fn shift_down(x: u64, k: u64) -> u64
-    requires { ⌜ (0 < k) × (0 < x) ⌝ }
-    ensures { λ r. ⌜ r ≡ shiftDown x k ⌝ }
+// The 64 bits of a number, as Rust's `as u64`. 2^64 is no number here.
+fn bits(v: Nanoseconds) -> u64
+    ensures { λ r. ⌜ r ≡ bits (v .value) ⌝ }
 {
-    if (18446744073709551615 - (x - 1)) % k == 0 {
-        return 0;
+    let size = floats::unsigned_abs(v.value);
+    if v.value < 0 {
+        return 18446744073709551615 - (size - 1);
     }
-    x % k
+    size
 }
 
-// From a duration to the first tick.
+// From a duration to the first tick: up to a multiple of k, or from below zero toward it. Nothing where k divides the bits.
 fn shift_of(v: Nanoseconds, k: u64) -> u64
-    requires { ⌜ (0 < k) × (mag (v .value) < 9000000000000000000) ⌝ }
+    requires { ⌜ (0 < k) × (k < 2 ^ 63) ⌝ }
     ensures { λ r. ⌜ r ≡ shiftOf (v .value) k ⌝ }
 {
-    if v.value < 0 {
-        return shift_down((0 - v.value) as u64, k);
+    if bits(v) % k == 0 {
+        return 0;
     }
-    shift_up(v.value as u64, k)
+    let rest = floats::unsigned_abs(v.value % (k as i64));
+    if 0 < v.value {
+        return k - rest;
+    }
+    rest
 }
 
 // From the start to the first tick.
@@ -206,16 +217,17 @@ fn shift(a: Axis, k: u64) -> u64
     ensures { λ r. ⌜ r ≡ shift a k ⌝ }
 {
     if !values::is_duration(a.kind) {
-        return shift_up(calendar::count(a.start_tail), k);
+        return shift_up(calendar::as_count(a.start_tail), k);
     }
     let zero = Value { head: 0, tail: 0 };
     shift_of(values::nanoseconds_between(7, zero, axis::start(a)), k)
 }
 
-fn per_head(a: Axis) -> u64
-    ensures { λ r. ⌜ r ≡ perHead a ⌝ }
+// The nanoseconds of a head.
+fn unit(kind: i64) -> u64
+    ensures { λ r. ⌜ r ≡ unit kind ⌝ }
 {
-    if values::is_duration(a.kind) {
+    if values::is_duration(kind) {
         return 1000000000;
     }
     86400000000000
@@ -227,10 +239,14 @@ fn time_plan(a: Axis, k: u64) -> Steps
     ensures { λ r. ⌜ r ≡ timePlan a k ⌝ }
 {
     let s = axis::span(a);
-    let tail = calendar::count(a.start_tail);
-    let f = tail + shift(a, k);
-    let e = tail + calendar::count(s.value);
-    even_plan(axis::start(a), per_head(a), f, e, k)
+    let tail = calendar::as_count(a.start_tail);
+    even_plan(Even {
+        per: unit(a.kind),
+        base: a.start_head,
+        first: tail + shift(a, k),
+        end: tail + calendar::as_count(s.value),
+        step: k,
+    })
 }
 
 // The whole days of a duration, cut toward zero.
@@ -255,11 +271,11 @@ fn first_second(v: Value) -> i64
 }
 
 // From the first tick to the end, which is left out.
-fn seconds_left(a: Axis, first: Value) -> u64
-    requires { ⌜ Long a × (first .head ≡ firstSecond (start a)) ⌝ }
+fn seconds_left(a: Axis, first: i64) -> u64
+    requires { ⌜ Long a × (first ≡ firstSecond (start a)) ⌝ }
     ensures { λ r. ⌜ r ≡ secondsLeft a ⌝ }
 {
-    let whole = calendar::count(a.end_head - first.head);
+    let whole = calendar::as_count(a.end_head - first);
     if 0 < a.end_tail {
         return whole + 1;
     }
@@ -271,25 +287,31 @@ fn span_days_plan(a: Axis, n: u64) -> Steps
     requires { ⌜ Long a ⌝ }
     ensures { λ r. ⌜ r ≡ spanDaysPlan a n ⌝ }
 {
-    let first = Value {
-        head: first_second(axis::start(a)),
-        tail: 0,
-    };
+    let first = first_second(axis::start(a));
     let d = days_in(axis::end(a)) - days_in(axis::start(a));
-    let step = 86400 * period::first_fit(calendar::count(d), n);
-    even_plan(first, 1, 0, seconds_left(a, first), step)
+    let step = 86400 * period::first_fit(calendar::as_count(d), n);
+    even_plan(Even {
+        per: 1,
+        base: first,
+        first: 0,
+        end: seconds_left(a, first),
+        step: step,
+    })
 }
 
-pub fn monthly(a: Axis) -> bool
-    ensures { λ r. ⌜ r ≡ monthly a ⌝ }
+// The plan of kinds 4 and 7: days where there is no period.
+fn period_plan(a: Axis, n: u64) -> Steps
+    requires { ⌜ Accepted a n × (1 ≤ n) ⌝ }
+    ensures { λ r. ⌜ r ≡ periodPlan a n ⌝ }
 {
-    ((2 <= a.kind) & (a.kind <= 2)) | ((5 <= a.kind) & (a.kind <= 5))
-}
-
-pub fn yearly(a: Axis) -> bool
-    ensures { λ r. ⌜ r ≡ yearly a ⌝ }
-{
-    ((3 <= a.kind) & (a.kind <= 3)) | ((6 <= a.kind) & (a.kind <= 6))
+    let k = period_in(a, n);
+    if 0 < k {
+        return time_plan(a, k);
+    }
+    if values::is_duration(a.kind) {
+        return span_days_plan(a, n);
+    }
+    day_plan(a, n)
 }
 
 // The plan of a kind.
@@ -300,18 +322,11 @@ pub fn plan_of(a: Axis, n: u64) -> Steps
     if a.kind <= 1 {
         return day_plan(a, n);
     }
-    if monthly(a) {
+    if counting::monthly(a) {
         return month_plan(a, n);
     }
-    if yearly(a) {
+    if counting::yearly(a) {
         return year_plan(a, n);
     }
-    let k = period_in(a, n);
-    if 0 < k {
-        return time_plan(a, k);
-    }
-    if values::is_duration(a.kind) {
-        return span_days_plan(a, n);
-    }
-    day_plan(a, n)
+    period_plan(a, n)
 }

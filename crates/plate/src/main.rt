@@ -6,7 +6,7 @@ use text_plate::State;
 ghost use mathlib.Core.Path.{_≡_};
 ghost use Prim.Native.Nat.{_≤_};
 ghost use lib.ListN.{length};
-ghost use Rattle.text_plate.specs.Turns.{Ready};
+ghost use Rattle.text_plate.specs.Turns.{Keeps};
 
 struct Went {
     goes: bool,
@@ -15,8 +15,8 @@ struct Went {
 
 // The lines of a chunk, each printed when it ends; no more where nothing more can be written.
 fn eat(s: State, kept: &mut [u8], chunk: &[u8], lent: &mut [i64], out: &mut [u8]) -> Went
-    requires { ⌜ Ready s (now kept) × ((length (now lent) ≡ 8194) × (266305 ≤ length (now out))) ⌝ }
-    ensures { λ r. ⌜ Ready (r .state) (now (kept .exit)) ⌝ }
+    requires { ⌜ Keeps s (now kept) × ((length (now lent) ≡ 8194) × (266305 ≤ length (now out))) ⌝ }
+    ensures { λ r. ⌜ Keeps (r .state) (now (kept .exit)) ⌝ }
 {
     let mut state = s;
     let mut at: usize = 0;
@@ -41,7 +41,7 @@ fn eat(s: State, kept: &mut [u8], chunk: &[u8], lent: &mut [i64], out: &mut [u8]
 
 // The input has ended.
 fn end(s: State, kept: &[u8], out: &mut [u8])
-    requires { ⌜ Ready s (now kept) × (266305 ≤ length (now out)) ⌝ }
+    requires { ⌜ Keeps s (now kept) × (266305 ≤ length (now out)) ⌝ }
 {
     let n = s.len;
     let k = text_plate::ended(s.number, &kept[..n], out);
@@ -50,8 +50,8 @@ fn end(s: State, kept: &[u8], out: &mut [u8])
 
 // The next chunk, or the end.
 fn pull(s: State, kept: &mut [u8], buf: &mut [u8], lent: &mut [i64], out: &mut [u8]) -> Went
-    requires { ⌜ Ready s (now kept) × ((length (now lent) ≡ 8194) × (266305 ≤ length (now out))) ⌝ }
-    ensures { λ r. ⌜ Ready (r .state) (now (kept .exit)) ⌝ }
+    requires { ⌜ Keeps s (now kept) × ((length (now lent) ≡ 8194) × (266305 ≤ length (now out))) ⌝ }
+    ensures { λ r. ⌜ Keeps (r .state) (now (kept .exit)) ⌝ }
 {
     let got = libc::read(STDIN_FILENO, buf);
     if got <= 0 {

@@ -3,12 +3,15 @@
 use mathlib.Core.Path.{_≡_}
 use mathlib.Core.List.{List, [], _∷_, _++_}
 use Prim.Native.Nat.{ℕ}
-use lib.IntN.{ℤ, pos, negsuc}
+use lib.IntN.{ℤ, pos}
 use lib.ListN.{length}
 use Rattle.axis.specs.declared.Axis.{Axis}
 use Rattle.calendar.specs.Questions.{numberOf, dateAt}
 use Rattle.mapping.specs.Mapping.{mapped}
-use Rattle.ticks.specs.Hints.{Hint, bold, light}
+use Rattle.axis.specs.declared.Hint.{Hint}
+use Rattle.axis.specs.declared.Hint.the-variants.{Light}
+use Rattle.laws.specs.Numbers.{minus}
+use Rattle.values.specs.Values.{midnight}
 use Rattle.ticks.specs.Answers.{ticksAnswer, ticksWritten, periodAnswer}
 use Rattle.discrete.specs.Answers.{sizeAnswer, indexAnswer, fromIndexAnswer, nextAnswer, previousAnswer}
 use Rattle.discrete.specs.Answers.{valuesAnswer, unmapAnswer}
@@ -19,29 +22,36 @@ use Rattle.ordered.specs.declared.OrderedStep.{OrderedStep}
 use Rattle.ordered.specs.declared.OrderedSegment.{OrderedSegment}
 use Rattle.ordered.specs.Replies.{dayReply, dateReply, pixelReply, countReply, periodReply, numberReply, valueReply}
 use Rattle.ordered.specs.Replies.{stepReply, segmentReply}
-use Rattle.promises.specs.Examples.{numbers, pixels, periods, values, date, day, at, axis, hint, limits, centre}
+use Rattle.promises.specs.Examples.{countNumbers, pixelNumbers, periodNumbers, valueNumbers, ymd, atNano}
+use Rattle.promises.specs.Examples.{axisFrom, boldOf, limitsOf, centreAt}
 
-abbrev pub dates : OrderedDate → List ℤ
-dates r = r .status ∷ (r .year ∷ (r .month ∷ (r .day ∷ [])))
+-- the numbers of a date
+abbrev pub dateNumbers : OrderedDate → List ℤ
+dateNumbers r = r .status ∷ (r .year ∷ (r .month ∷ (r .day ∷ [])))
 
-abbrev pub steps : OrderedStep → List ℤ
-steps r = r .status ∷ (r .head ∷ (r .tail ∷ (r .next ∷ [])))
+-- of a step of the cursor
+abbrev pub stepNumbers : OrderedStep → List ℤ
+stepNumbers r = r .status ∷ (r .head ∷ (r .tail ∷ (r .next ∷ [])))
 
-abbrev pub segments : OrderedSegment → List ℤ
-segments r = r .status ∷ (r .segment ∷ (r .head ∷ (r .tail ∷ [])))
+-- of a segment value
+abbrev pub segmentNumbers : OrderedSegment → List ℤ
+segmentNumbers r = r .status ∷ (r .segment ∷ (r .head ∷ (r .tail ∷ [])))
 
 -- six lent numbers before a call, and what it answers and leaves in them
-abbrev pub lent : List ℤ
-lent = pos 7 ∷ (pos 7 ∷ (pos 7 ∷ (pos 7 ∷ (pos 7 ∷ (pos 7 ∷ [])))))
+abbrev pub sevens : List ℤ
+sevens = pos 7 ∷ (pos 7 ∷ (pos 7 ∷ (pos 7 ∷ (pos 7 ∷ (pos 7 ∷ [])))))
 
-abbrev pub listing : Axis → Hint → List ℤ
-listing a h = numbers (countReply (ticksAnswer a h (length lent))) ++ ticksWritten a h lent
+-- a list in these numbers
+abbrev pub listedInto : Axis → Hint → List ℤ
+listedInto a h = countNumbers (countReply (ticksAnswer a h (length sevens))) ++ ticksWritten a h sevens
 
-abbrev pub segmentListing : Axis → Hint → List ℤ
-segmentListing a h = numbers (countReply (segmentTicksAnswer a h (length lent))) ++ segmentTicksWritten a h lent
+-- a list of segments in these numbers
+abbrev pub segmentsInto : Axis → Hint → List ℤ
+segmentsInto a h = countNumbers (countReply (segmentTicksAnswer a h (length sevens))) ++ segmentTicksWritten a h sevens
 
-abbrev pub lightHint : ℕ → ℕ → Hint
-lightHint b n = light (record { bold = pos b; n = pos n })
+-- a light hint
+abbrev pub lightOf : ℕ → ℕ → Hint
+lightOf b n = Light (record { bold = pos b; n = pos n })
 
 -- ---- the rows
 pub record Row : Type 0 where
@@ -50,228 +60,240 @@ pub record Row : Type 0 where
   pub other : List ℤ
 
 -- ordered_day_number, 2000-02-29: refused as if 2000 were no leap year; one day less
-abbrev pub day-number : Row
-day-number = record {
-  answer = numbers (dayReply (numberOf (date 2000 2 29)));
+abbrev pub ordered-day-number : Row
+ordered-day-number = record {
+  answer = countNumbers (dayReply (numberOf (ymd 2000 2 29)));
   wrong = pos 8 ∷ (pos 0 ∷ []);
   other =
       pos 0 ∷ (pos 730178 ∷ []);
 }
 
 -- ordered_date_of, day 60, which is 0001-03-01: 0001-02-29; month and day exchanged
-abbrev pub date-of : Row
-date-of =
+abbrev pub ordered-date-of : Row
+ordered-date-of =
     record {
-      answer = dates (dateReply (dateAt (pos 60)));
+      answer = dateNumbers (dateReply (dateAt (pos 60)));
       wrong = pos 0 ∷ (pos 1 ∷ (pos 2 ∷ (pos 29 ∷ [])));
       other = pos 0 ∷ (pos 1 ∷ (pos 1 ∷ (pos 3 ∷ [])));
     }
 
 -- ordered_map, days 1 to 3 between 0 and 100, day 2: one pixel less; the low limit
-abbrev pub map : Row
-map =
+abbrev pub ordered-map : Row
+ordered-map =
     record {
-      answer = pixels (pixelReply (mapped (axis (pos 1) (day 1) (day 3)) (limits (pos 0) (pos 100)) (day 2)));
+      answer = pixelNumbers
+          (pixelReply (mapped (axisFrom (pos 1) (midnight (pos 1)) (midnight (pos 3))) (limitsOf (pos 0) (pos 100))
+          (midnight (pos 2))));
       wrong = pos 0 ∷ (pos 49 ∷ []);
       other = pos 0 ∷ (pos 0 ∷ []);
     }
 
 -- ordered_ticks_bold, days 1 to 15, N 1: start as the only tick; success reported and the lent numbers left
-abbrev pub ticks-bold : Row
-ticks-bold =
+abbrev pub ordered-ticks-bold : Row
+ordered-ticks-bold =
     record {
-      answer = listing (axis (pos 1) (day 1) (day 15)) (hint 1);
+      answer = listedInto (axisFrom (pos 1) (midnight (pos 1)) (midnight (pos 15))) (boldOf 1);
       wrong = pos 0 ∷ (pos 1 ∷ (pos 1 ∷ (pos 0 ∷ (pos 7 ∷ (pos 7 ∷ (pos 7 ∷ (pos 7 ∷ [])))))));
-      other = pos 0 ∷ (pos 2 ∷ lent);
+      other = pos 0 ∷ (pos 2 ∷ sevens);
     }
 
 -- ordered_ticks_light, months of days 1 to 60 by (2, 2): the months, though three are at most twice two; refused
-abbrev pub ticks-light : Row
-ticks-light =
+abbrev pub ordered-ticks-light : Row
+ordered-ticks-light =
     record {
-      answer = listing (axis (pos 2) (day 1) (day 60)) (lightHint 2 2);
+      answer = listedInto (axisFrom (pos 2) (midnight (pos 1)) (midnight (pos 60))) (lightOf 2 2);
       wrong = pos 0 ∷ (pos 3 ∷ (pos 1 ∷ (pos 0 ∷ (pos 32 ∷ (pos 0 ∷ (pos 60 ∷ (pos 0 ∷ [])))))));
-      other = pos 6 ∷ (pos 0 ∷ lent);
+      other = pos 6 ∷ (pos 0 ∷ sevens);
     }
 
 -- ordered_count_bold, days 1 to 15, N 1, two numbers lent: a count that no list backs; another one
-abbrev pub count-bold : Row
-count-bold =
+abbrev pub ordered-count-bold : Row
+ordered-count-bold =
     record {
-      answer = numbers (countReply (ticksAnswer (axis (pos 1) (day 1) (day 15)) (hint 1) 2));
+      answer = countNumbers (countReply (ticksAnswer (axisFrom (pos 1) (midnight (pos 1)) (midnight (pos 15))) (boldOf 1) 2));
       wrong = pos 0 ∷ (pos 2 ∷ []);
       other = pos 0 ∷ (pos 1 ∷ []);
     }
 
 -- ordered_count_light, the same days by (0, 1), four numbers lent: 11 before the list's length is known; one tick more
-abbrev pub count-light : Row
-count-light =
+abbrev pub ordered-count-light : Row
+ordered-count-light =
     record {
-      answer = numbers (countReply (ticksAnswer (axis (pos 1) (day 1) (day 15)) (lightHint 0 1) 4));
+      answer = countNumbers (countReply (ticksAnswer (axisFrom (pos 1) (midnight (pos 1)) (midnight (pos 15))) (lightOf 0 1) 4));
       wrong = pos 11 ∷ (pos 0 ∷ []);
       other = pos 0 ∷ (pos 3 ∷ []);
     }
 
 -- ordered_period_per_point, 10^15 - 1 ns, N 100: 4 h, as a rounded logarithm says; none
-abbrev pub period : Row
-period =
+abbrev pub ordered-period-per-point : Row
+ordered-period-per-point =
     record {
-      answer = periods (periodReply (periodAnswer (axis (pos 4) (day 1) (at (day 12) 49599999999999)) (record { n = pos 100 })));
+      answer = periodNumbers
+          (periodReply (periodAnswer (axisFrom (pos 4) (midnight (pos 1)) (atNano (midnight (pos 12)) 49599999999999))
+          (record { n = pos 100 })));
       wrong = pos 0 ∷ (pos 14400000000000 ∷ []);
-      other = negsuc 0 ∷ (pos 0 ∷ []);
+      other = minus 1 ∷ (pos 0 ∷ []);
     }
 
 -- ordered_unmap, days 1 to 10 between 0 and 100, pixel 100: the last day; refused
-abbrev pub unmap : Row
-unmap =
+abbrev pub ordered-unmap : Row
+ordered-unmap =
     record {
-      answer = values (valueReply (unmapAnswer (axis (pos 1) (day 1) (day 10)) (limits (pos 0) (pos 100)) (pos 100)));
+      answer = valueNumbers (valueReply (unmapAnswer (axisFrom (pos 1) (midnight (pos 1)) (midnight (pos 10)))
+          (limitsOf (pos 0) (pos 100)) (pos 100)));
       wrong = pos 0 ∷ (pos 10 ∷ (pos 0 ∷ []));
       other = pos 10 ∷ (pos 0 ∷ (pos 0 ∷ []));
     }
 
 -- ordered_size, days 1 to 10: without the last day; one more
-abbrev pub size : Row
-size = record {
-  answer = numbers (numberReply (sizeAnswer (axis (pos 1) (day 1) (day 10))));
+abbrev pub ordered-size : Row
+ordered-size = record {
+  answer = countNumbers (numberReply (sizeAnswer (axisFrom (pos 1) (midnight (pos 1)) (midnight (pos 10)))));
   wrong =
       pos 0 ∷ (pos 9 ∷ []);
   other = pos 0 ∷ (pos 11 ∷ []);
 }
 
 -- ordered_index_of, months from 0002-01-01 on, 0001-12-31: none; the first
-abbrev pub index-of : Row
-index-of =
+abbrev pub ordered-index-of : Row
+ordered-index-of =
     record {
-      answer = numbers (numberReply (indexAnswer (axis (pos 2) (day 366) (day 730)) (day 365)));
-      wrong = negsuc 0 ∷ (pos 0 ∷ []);
+      answer = countNumbers (numberReply (indexAnswer (axisFrom (pos 2) (midnight (pos 366)) (midnight (pos 730)))
+          (midnight (pos 365))));
+      wrong = minus 1 ∷ (pos 0 ∷ []);
       other = pos 0 ∷ (pos 0 ∷ []);
     }
 
 -- ordered_from_index, days 1 to 2, index 3,652,059: the day 3,652,060; refused as an index
-abbrev pub from-index : Row
-from-index =
+abbrev pub ordered-from-index : Row
+ordered-from-index =
     record {
-      answer = values (valueReply (fromIndexAnswer (axis (pos 1) (day 1) (day 2)) (pos 3652059)));
+      answer = valueNumbers (valueReply (fromIndexAnswer (axisFrom (pos 1) (midnight (pos 1)) (midnight (pos 2))) (pos 3652059)));
       wrong = pos 0 ∷ (pos 3652060 ∷ (pos 0 ∷ []));
       other = pos 8 ∷ (pos 0 ∷ (pos 0 ∷ []));
     }
 
 -- ordered_next, months of days 1 to 32, day 2: a month on from it; none
-abbrev pub next : Row
-next =
+abbrev pub ordered-next : Row
+ordered-next =
     record {
-      answer = values (valueReply (nextAnswer (axis (pos 2) (day 1) (day 32)) (day 2)));
+      answer = valueNumbers (valueReply (nextAnswer (axisFrom (pos 2) (midnight (pos 1)) (midnight (pos 32)))
+          (midnight (pos 2))));
       wrong = pos 0 ∷ (pos 33 ∷ (pos 0 ∷ []));
-      other = negsuc 0 ∷ (pos 0 ∷ (pos 0 ∷ []));
+      other = minus 1 ∷ (pos 0 ∷ (pos 0 ∷ []));
     }
 
 -- ordered_previous, months of days 1 to 32, day 32: the day before; none
-abbrev pub previous : Row
-previous =
+abbrev pub ordered-previous : Row
+ordered-previous =
     record {
-      answer = values (valueReply (previousAnswer (axis (pos 2) (day 1) (day 32)) (day 32)));
+      answer = valueNumbers (valueReply (previousAnswer (axisFrom (pos 2) (midnight (pos 1)) (midnight (pos 32)))
+          (midnight (pos 32))));
       wrong = pos 0 ∷ (pos 31 ∷ (pos 0 ∷ []));
-      other = negsuc 0 ∷ (pos 0 ∷ (pos 0 ∷ []));
+      other = minus 1 ∷ (pos 0 ∷ (pos 0 ∷ []));
     }
 
 -- ordered_values, days 5 to 6, place 1: the first value again; a cursor that stays
-abbrev pub cursor : Row
-cursor =
+abbrev pub ordered-values : Row
+ordered-values =
     record {
-      answer = steps (stepReply (valuesAnswer (axis (pos 1) (day 5) (day 6)) (record { place = pos 1 })));
+      answer = stepNumbers (stepReply (valuesAnswer (axisFrom (pos 1) (midnight (pos 5)) (midnight (pos 6)))
+          (record { place = pos 1 })));
       wrong = pos 0 ∷ (pos 5 ∷ (pos 0 ∷ (pos 2 ∷ [])));
       other = pos 0 ∷ (pos 6 ∷ (pos 0 ∷ (pos 1 ∷ [])));
     }
 
 -- ordered_segment_map, days 1 to 3 between 0 and 100, centre of the first: 33 / 2 rounded up; the middle of the limits
-abbrev pub segment-map : Row
-segment-map =
+abbrev pub ordered-segment-map : Row
+ordered-segment-map =
     record {
-      answer = pixels (pixelReply (segmentMapAnswer (axis (pos 1) (day 1) (day 3)) (limits (pos 0) (pos 100)) (centre (day 1))));
+      answer = pixelNumbers (pixelReply (segmentMapAnswer (axisFrom (pos 1) (midnight (pos 1)) (midnight (pos 3)))
+          (limitsOf (pos 0) (pos 100)) (centreAt (midnight (pos 1)))));
       wrong = pos 0 ∷ (pos 17 ∷ []);
       other = pos 0 ∷ (pos 50 ∷ []);
     }
 
 -- ordered_segment_ticks_bold, date-times: listed; refused by another number
-abbrev pub segment-ticks-bold : Row
-segment-ticks-bold =
+abbrev pub ordered-segment-ticks-bold : Row
+ordered-segment-ticks-bold =
     record {
-      answer = segmentListing (axis (pos 4) (day 1) (day 2)) (hint 1);
+      answer = segmentsInto (axisFrom (pos 4) (midnight (pos 1)) (midnight (pos 2))) (boldOf 1);
       wrong = pos 0 ∷ (pos 1 ∷ (pos 1 ∷ (pos 0 ∷ (pos 7 ∷ (pos 7 ∷ (pos 7 ∷ (pos 7 ∷ [])))))));
-      other = pos 1 ∷ (pos 0 ∷ lent);
+      other = pos 1 ∷ (pos 0 ∷ sevens);
     }
 
 -- ordered_segment_ticks_light, days 1 to 15 by (0, 1): refused; the end left out
-abbrev pub segment-ticks-light : Row
-segment-ticks-light =
+abbrev pub ordered-segment-ticks-light : Row
+ordered-segment-ticks-light =
     record {
-      answer = segmentListing (axis (pos 1) (day 1) (day 15)) (lightHint 0 1);
-      wrong = pos 2 ∷ (pos 0 ∷ lent);
+      answer = segmentsInto (axisFrom (pos 1) (midnight (pos 1)) (midnight (pos 15))) (lightOf 0 1);
+      wrong = pos 2 ∷ (pos 0 ∷ sevens);
       other = pos 0 ∷ (pos 1 ∷ (pos 1 ∷ (pos 0 ∷ (pos 7 ∷ (pos 7 ∷ (pos 7 ∷ (pos 7 ∷ [])))))));
     }
 
 -- ordered_segment_size, days 5 to 6: without the last end; one more
-abbrev pub segment-size : Row
-segment-size =
+abbrev pub ordered-segment-size : Row
+ordered-segment-size =
     record {
-      answer = numbers (numberReply (segmentSizeAnswer (axis (pos 1) (day 5) (day 6))));
+      answer = countNumbers (numberReply (segmentSizeAnswer (axisFrom (pos 1) (midnight (pos 5)) (midnight (pos 6)))));
       wrong = pos 0 ∷ (pos 2 ∷ []);
       other = pos 0 ∷ (pos 4 ∷ []);
     }
 
 -- ordered_segment_index_of, days 5 to 6, the last end: none; the last day's
-abbrev pub segment-index-of : Row
-segment-index-of =
+abbrev pub ordered-segment-index-of : Row
+ordered-segment-index-of =
     record {
-      answer = numbers (numberReply (segmentIndexAnswer (axis (pos 1) (day 5) (day 6)) (record {
+      answer = countNumbers (numberReply (segmentIndexAnswer (axisFrom (pos 1) (midnight (pos 5)) (midnight (pos 6))) (record {
         case = pos 3;
         head =
             pos 0;
         tail = pos 0;
       })));
-      wrong = negsuc 0 ∷ (pos 0 ∷ []);
+      wrong = minus 1 ∷ (pos 0 ∷ []);
       other = pos 0 ∷ (pos 1 ∷ []);
     }
 
 -- ordered_segment_from_index, days 5 to 6, index 2: the day after the last; none
-abbrev pub segment-from-index : Row
-segment-from-index =
+abbrev pub ordered-segment-from-index : Row
+ordered-segment-from-index =
     record {
-      answer = segments (segmentReply (segmentFromAnswer (axis (pos 1) (day 5) (day 6)) (pos 2)));
+      answer = segmentNumbers (segmentReply (segmentFromAnswer (axisFrom (pos 1) (midnight (pos 5)) (midnight (pos 6))) (pos 2)));
       wrong = pos 0 ∷ (pos 1 ∷ (pos 7 ∷ (pos 0 ∷ [])));
-      other = negsuc 0 ∷ (pos 0 ∷ (pos 0 ∷ (pos 0 ∷ [])));
+      other = minus 1 ∷ (pos 0 ∷ (pos 0 ∷ (pos 0 ∷ [])));
     }
 
--- ---- the table, and what is claimed of it: no row answers a wrong answer
-abbrev pub table : List Row
-table =
-    day-number
-    ∷ (date-of
-    ∷ (map
-    ∷ (ticks-bold
-    ∷ (ticks-light
-    ∷ (count-bold
-    ∷ (count-light
-    ∷ (period
-    ∷ (unmap
-    ∷ (size
-    ∷ (index-of
-    ∷ (from-index
-    ∷ (next
-    ∷ (previous
-    ∷ (cursor
-    ∷ (segment-map
-    ∷ (segment-ticks-bold
-    ∷ (segment-ticks-light
-    ∷ (segment-size
-    ∷ (segment-index-of
-    ∷ (segment-from-index
+-- ---- the wrongTable, and what is claimed of it: no row answers a wrong answer
+abbrev pub wrongTable : List Row
+wrongTable =
+    ordered-day-number
+    ∷ (ordered-date-of
+    ∷ (ordered-map
+    ∷ (ordered-ticks-bold
+    ∷ (ordered-ticks-light
+    ∷ (ordered-count-bold
+    ∷ (ordered-count-light
+    ∷ (ordered-period-per-point
+    ∷ (ordered-unmap
+    ∷ (ordered-size
+    ∷ (ordered-index-of
+    ∷ (ordered-from-index
+    ∷ (ordered-next
+    ∷ (ordered-previous
+    ∷ (ordered-values
+    ∷ (ordered-segment-map
+    ∷ (ordered-segment-ticks-bold
+    ∷ (ordered-segment-ticks-light
+    ∷ (ordered-segment-size
+    ∷ (ordered-segment-index-of
+    ∷ (ordered-segment-from-index
     ∷ []))))))))))))))))))))
 
+-- the answer is neither of the two
 abbrev pub RuledOut : Row → Type 0
 RuledOut r = (r .answer ≡ r .wrong → ⊥) × (r .answer ≡ r .other → ⊥)
 
-abbrev pub All : List Row → Type 0
-All [] = Unit {0}
-All (r ∷ rs) = RuledOut r × All rs
+-- so in all rows
+abbrev pub AllRuledOut : List Row → Type 0
+AllRuledOut [] = Unit {0}
+AllRuledOut (r ∷ rs) = RuledOut r × AllRuledOut rs

@@ -1,52 +1,41 @@
-// Demand 3 as one claim about what the calls hand back: functions that make the calls, and ensure it of their answers.
+// Demand 3 as one claim about what the calls hand back: a function that makes the calls, and ensures it of their answers.
 // specs/Demand.antt has the claim, proofs/Demand.antt its theorem.
 use axis::Axis;
-use axis::BoldPoints;
-use axis::LightPoints;
+use axis::Hint;
 use axis::Limits;
 use mapping::Pixel;
 use steps::Listed;
 use values::Value;
 ghost use mathlib.Core.Path.{_≡_};
-ghost use Rattle.mapping.specs.Days.{day};
-ghost use Rattle.ticks.specs.Hints.{bold, light};
+ghost use Rattle.values.specs.Values.{midnight};
 ghost use Rattle.promises.specs.Demand.{FineList, DaysApart};
 
 // Two day numbers.
-pub struct Days {
+pub struct TwoDays {
     pub first: i64,
     pub second: i64,
 }
 
 // What the calls handed back: the list's answer, and the pixels of the two days.
-pub struct Plate {
+pub struct HandedBack {
     pub listed: Listed,
     pub first: Pixel,
     pub second: Pixel,
 }
 
-fn day_value(n: i64) -> Value
-    ensures { λ r. ⌜ r ≡ day n ⌝ }
+fn at_midnight_of(n: i64) -> Value
+    ensures { λ r. ⌜ r ≡ midnight n ⌝ }
 {
     Value { head: n, tail: 0 }
 }
 
-pub fn bold_plate(a: Axis, h: BoldPoints, l: Limits, d: Days, lent: &mut [i64]) -> Plate
-    ensures { λ r. ⌜ FineList a (bold h) (r .listed) (now (lent .exit)) × DaysApart a l (d .first) (d .second) (r .first) (r .second) ⌝ }
+pub fn list_and_map(a: Axis, h: Hint, l: Limits, d: TwoDays, lent: &mut [i64]) -> HandedBack
+    ensures { λ r. ⌜ FineList a h (r .listed) (now (lent .exit)) ⌝ }
+    ensures { λ r. ⌜ DaysApart a l (d .first) (d .second) (r .first) (r .second) ⌝ }
 {
-    Plate {
-        listed: ticks::list_bold(a, h, lent),
-        first: mapping::map(a, l, day_value(d.first)),
-        second: mapping::map(a, l, day_value(d.second)),
-    }
-}
-
-pub fn light_plate(a: Axis, h: LightPoints, l: Limits, d: Days, lent: &mut [i64]) -> Plate
-    ensures { λ r. ⌜ FineList a (light h) (r .listed) (now (lent .exit)) × DaysApart a l (d .first) (d .second) (r .first) (r .second) ⌝ }
-{
-    Plate {
-        listed: ticks::list_light(a, h, lent),
-        first: mapping::map(a, l, day_value(d.first)),
-        second: mapping::map(a, l, day_value(d.second)),
+    HandedBack {
+        listed: ticks::list(a, h, lent),
+        first: mapping::map(a, l, at_midnight_of(d.first)),
+        second: mapping::map(a, l, at_midnight_of(d.second)),
     }
 }

@@ -9,30 +9,34 @@ use lib.Signed.{leZ}
 use lib.Ieee.{binary32}
 use mir.Syntax.{w64}
 use mir.Val.{SFits}
-use Rattle.laws.specs.Numbers.{up, dn}
+use Rattle.laws.specs.Numbers.{posPart, negPart}
 use Rattle.laws.proofs.Signed.{sub, fits, neg-up, neg-dn, one-is-zero}
 use Rattle.floats.specs.Rounding.{withSign, halfUp}
 use Rattle.floats.proofs.Values.{below-zero}
 use Rattle.floats.proofs.Quotients.{halfUp-le, ratio-round}
 use Rattle.values.proofs.Numbers.{is-le}
+use Rattle.axis.specs.declared.Axis.{Axis}
 use Rattle.axis.specs.declared.Limits.{Limits}
 use Rattle.axis.specs.Questions.{isPixel, pixels}
 use Rattle.axis.proofs.Questions.{pixel-range}
 use Rattle.axis.proofs.PixelRanges.{limits-are, between-few}
+use Rattle.mapping.specs.Mapping.{scaleOf, LowOnPage}
+use Rattle.mapping.proofs.Ranges.{low-on-page}
 use Rattle.segmented.specs.Segments.{Some, marginOf, inner}
 
 -- no further than W, and to its side
-no-further : (W : ℤ) (n : ℕ) → n ≤ natAbs W → (up (withSign (below-zero W) n) ≤ up W) × (dn (withSign (below-zero W) n) ≤ dn W)
+no-further : (W : ℤ) (n : ℕ) → n ≤ natAbs W → (posPart (withSign (below-zero W) n) ≤ posPart W)
+    × (negPart (withSign (below-zero W) n) ≤ negPart W)
 no-further (pos w) n h = (h, omega arith)
 no-further (negsuc w) n h = (omega (arith, neg-up (pos n)), omega (arith, neg-dn (pos n)))
 
-is-pixel : (p : ℤ) → up p ≤ 32767 + dn p → dn p ≤ 32767 + up p → isPixel p ≡ true
+is-pixel : (p : ℤ) → posPart p ≤ 32767 + negPart p → negPart p ≤ 32767 + posPart p → isPixel p ≡ true
 is-pixel p a b = rw (is-le (negsuc 32766) p (omega arith), is-le p (pos 32767) (omega arith))
 
 -- from high back by m, which goes no further than to low
-module _ (low high m : ℤ) (p : isPixel low ≡ true) (q : isPixel high ≡ true) (u : up m ≤ up (high -ℤ low))
-    (d : dn m ≤ dn (high -ℤ low)) where
-  back-range : (up (high -ℤ m) ≤ 32767 + dn (high -ℤ m)) × (dn (high -ℤ m) ≤ 32767 + up (high -ℤ m))
+module _ (low high m : ℤ) (p : isPixel low ≡ true) (q : isPixel high ≡ true) (u : posPart m ≤ posPart (high -ℤ low))
+    (d : negPart m ≤ negPart (high -ℤ low)) where
+  back-range : (posPart (high -ℤ m) ≤ 32767 + negPart (high -ℤ m)) × (negPart (high -ℤ m) ≤ 32767 + posPart (high -ℤ m))
   back-range =
       let (a, b) = pixel-range low p in
       let (x, y) = pixel-range high q in
@@ -51,7 +55,7 @@ module _ (size : ℕ) (l : Limits) (s : Some size) (p : pixels l ≡ true) where
   pub width-few : natAbs width ≤ 65534
   width-few = let (x, y) = limits-are l p in between-few (l .high) (l .low) y x
 
-  pub margin-few : whole ≤ 65534
+  margin-few : whole ≤ 65534
   margin-few = omega (arith, halfUp-le (natAbs width) size (s .least), width-few)
 
   pub margin-is : marginOf size l ≡ withSign (below-zero width) whole
@@ -59,8 +63,8 @@ module _ (size : ℕ) (l : Limits) (s : Some size) (p : pixels l ≡ true) where
   margin-is = ratio-round binary32 width size 31 (omega (arith, width-few)) (s .least) (omega (arith, s .most))
       (omega (arith, margin-few))
 
-  back : (up (l .high -ℤ marginOf size l) ≤ 32767 + dn (l .high -ℤ marginOf size l))
-      × (dn (l .high -ℤ marginOf size l) ≤ 32767 + up (l .high -ℤ marginOf size l))
+  back : (posPart (l .high -ℤ marginOf size l) ≤ 32767 + negPart (l .high -ℤ marginOf size l))
+      × (negPart (l .high -ℤ marginOf size l) ≤ 32767 + posPart (l .high -ℤ marginOf size l))
   back =
       let (x, y) = limits-are l p in
       let (u, d) = no-further width whole (halfUp-le (natAbs width) size (s .least)) in
@@ -70,7 +74,7 @@ module _ (size : ℕ) (l : Limits) (s : Some size) (p : pixels l ≡ true) where
   inner-fits =
       let z = l .high -ℤ marginOf size l in
       let (u, d) = back in
-      fits z (up z) (dn z) refl (omega arith) (omega arith)
+      fits z (posPart z) (negPart z) refl (omega arith) (omega arith)
 
   pub inner-pixels : pixels (inner size l) ≡ true
   unfolding pixels inner
@@ -80,3 +84,7 @@ module _ (size : ℕ) (l : Limits) (s : Some size) (p : pixels l ≡ true) where
       let (u, d) = back in
       let e : isPixel z ≡ true = is-pixel z u d in
       rw (x, e)
+
+-- the scale of a segmented axis begins on the page
+pub low-inner : (a : Axis) (size : ℕ) (l : Limits) → Some size → pixels l ≡ true → LowOnPage (scaleOf a (inner size l))
+low-inner a size l s p = low-on-page a (inner size l) (inner-pixels size l s p)

@@ -1,60 +1,62 @@
 -- What the operations on segments answer on raw numbers, refused calls too. Definitions only.
-use mathlib.Core.Bool.{cond}
+use mathlib.Core.Bool.{Bool, true, cond}
 use mathlib.Core.List.{List, [], _∷_, _++_}
-use Prim.Native.Nat.{ℕ, zero, suc, _+_}
+use Prim.Native.Nat.{ℕ, _+_}
 use lib.Dec.{ltb, leb}
-use lib.IntN.{ℤ, pos}
-use Rattle.laws.specs.Asking.{Question, ask, firstNo}
-use Rattle.laws.specs.Numbers.{up}
-use Rattle.values.specs.declared.Value.{Value}
+use lib.IntN.{ℤ}
+use Rattle.laws.specs.Asking.{Question, ask, unless, asked}
+use Rattle.laws.specs.Numbers.{posPart}
+use Rattle.calendar.specs.Questions.{isDay}
 use Rattle.axis.specs.declared.Axis.{Axis}
 use Rattle.axis.specs.declared.Limits.{Limits}
 use Rattle.axis.specs.Questions.{known, hasIndex, pixels, plainQuestions}
+use Rattle.axis.specs.declared.ValueAnswer.{ValueAnswer}
+use Rattle.axis.specs.declared.ValueAnswer.the-variants as value
 use Rattle.mapping.specs.declared.Pixel.{Pixel}
 use Rattle.mapping.specs.declared.Pixel.the-variants as pixel
 use Rattle.discrete.specs.declared.NumberAnswer.{NumberAnswer}
 use Rattle.discrete.specs.declared.NumberAnswer.the-variants as number
-use Rattle.discrete.specs.declared.ValueAnswer.{ValueAnswer}
-use Rattle.discrete.specs.declared.ValueAnswer.the-variants as value
-use Rattle.discrete.specs.Counting.{sizeOf, valueAt}
-use Rattle.discrete.specs.Answers.{sizeQuestions, placeQuestions, numberAnswer, indexIn, checked}
+use Rattle.counting.specs.Counting.{sizeOf}
+use Rattle.discrete.specs.Indices.{valueAt}
+use Rattle.discrete.specs.Answers.{sizeQuestions, indexQuestions, indexIn}
 use Rattle.steps.specs.declared.Listed.{Listed}
 use Rattle.steps.specs.declared.Listed.the-variants.{Refused}
-use Rattle.ticks.specs.Hints.{Hint}
+use Rattle.axis.specs.declared.Hint.{Hint}
 use Rattle.ticks.specs.Answers.{ticksAnswer, ticksWritten}
 use Rattle.segmented.specs.declared.Segment.{Segment}
 use Rattle.segmented.specs.declared.SegmentValue.{SegmentValue}
 use Rattle.segmented.specs.declared.SegmentValue.the-variants.{Exact, CenterOf, Last}
 use Rattle.segmented.specs.declared.SegmentAnswer.{SegmentAnswer}
 use Rattle.segmented.specs.declared.SegmentAnswer.the-variants as segment
-use Rattle.segmented.specs.Segments.{segmentOn, segmentOf, segmentMappable, segmentPixel}
+use Rattle.segmented.specs.Segments.{segmentOn, segmentOf, segmentMappable, segmentWorked}
 
 -- ---- the questions
 abbrev pub segmentQuestions : Axis → Segment → List Question
 segmentQuestions a s = sizeQuestions a ++ (ask 8 (segmentOn a s) ∷ [])
 
+-- of a segment value between two limits, before the size is asked for
 abbrev pub segmentValueQuestions : Axis → Limits → Segment → List Question
 segmentValueQuestions a l s = plainQuestions (hasIndex a) a ++ (ask 7 (pixels l) ∷ (ask 8 (segmentOn a s) ∷ []))
 
+-- and then the size, and what was worked out
 abbrev pub segmentMapQuestions : Axis → Limits → Segment → List Question
-segmentMapQuestions a l s = segmentValueQuestions a l s ++ (ask 9 (segmentMappable a (segmentOf s)) ∷ [])
+segmentMapQuestions a l s =
+    segmentValueQuestions a l s
+    ++ (ask 9 (segmentMappable a (segmentOf s))
+    ∷ (ask 10 (segmentWorked a l (segmentOf s) .fits)
+    ∷ []))
 
 -- ticks are asked for the kind's segments before all else; the rest are the questions of the axis' own ticks
 abbrev pub segmentKindQuestions : Axis → List Question
 segmentKindQuestions a = ask 1 (known a) ∷ (ask 2 (hasIndex a) ∷ [])
 
 -- ---- the answers
--- 0 is no refusal
-abbrev pub pixelAsked : ℕ → Pixel → Pixel
-pixelAsked zero p = p
-pixelAsked (suc q) p = pixel.Refused (suc q)
-
 unfoldable pub segmentMapAnswer : Axis → Limits → Segment → Pixel
-segmentMapAnswer a l s = pixelAsked (firstNo (segmentMapQuestions a l s)) (segmentPixel a l (segmentOf s))
+segmentMapAnswer a l s = asked (segmentMapQuestions a l s) pixel.Refused (pixel.At (segmentWorked a l (segmentOf s) .pixel))
 
 -- one more than the axis has: the last end
 unfoldable pub segmentSizeAnswer : Axis → NumberAnswer
-segmentSizeAnswer a = numberAnswer (firstNo (sizeQuestions a)) (number.Is (sizeOf a + 1))
+segmentSizeAnswer a = asked (sizeQuestions a) number.Refused (number.Is (sizeOf a + 1))
 
 -- the last end stands at the size
 unfoldable pub segmentIndexIn : Axis → SegmentValue → NumberAnswer
@@ -62,8 +64,24 @@ segmentIndexIn a (Exact v) = indexIn a v
 segmentIndexIn a (CenterOf v) = indexIn a v
 segmentIndexIn a Last = number.Is (sizeOf a)
 
+-- `index_of`
 unfoldable pub segmentIndexAnswer : Axis → Segment → NumberAnswer
-segmentIndexAnswer a s = numberAnswer (firstNo (segmentQuestions a s)) (segmentIndexIn a (segmentOf s))
+segmentIndexAnswer a s = asked (segmentQuestions a s) number.Refused (segmentIndexIn a (segmentOf s))
+
+-- below the size a value, at the size the last end, beyond it none
+unfoldable pub segmentAt : Axis → ℕ → SegmentAnswer
+segmentAt a i =
+    cond (ltb i (sizeOf a)) (segment.At (Exact (valueAt a i)))
+    (cond (leb i (sizeOf a)) (segment.At Last)
+    segment.None)
+
+-- 10. Is the date that is answered one of the days of question 3?
+abbrev pub segmentInCalendar : SegmentAnswer → Bool
+segmentInCalendar (segment.At (Exact v)) = isDay (v .head)
+segmentInCalendar (segment.At (CenterOf v)) = isDay (v .head)
+segmentInCalendar (segment.At Last) = true
+segmentInCalendar segment.None = true
+segmentInCalendar (segment.Refused q) = true
 
 -- a value of the axis as a segment's exact one
 abbrev pub exactly : ValueAnswer → SegmentAnswer
@@ -71,33 +89,21 @@ exactly (value.Refused q) = segment.Refused q
 exactly value.None = segment.None
 exactly (value.At v) = segment.At (Exact v)
 
-abbrev pub segmentAsked : ℕ → SegmentAnswer → SegmentAnswer
-segmentAsked zero v = v
-segmentAsked (suc q) v = segment.Refused (suc q)
+-- question 10 alone, as the code asks it
+abbrev pub segmentChecked : SegmentAnswer → SegmentAnswer
+segmentChecked v = unless (cond (segmentInCalendar v) 0 10) segment.Refused v
 
--- below the size a value, at the size the last end, beyond it none
-unfoldable pub segmentAt : Axis → ℕ → SegmentAnswer
-segmentAt a i =
-    cond (ltb i (sizeOf a)) (exactly (checked (value.At (valueAt a i))))
-    (cond (leb i (sizeOf a)) (segment.At Last)
-    segment.None)
-
+-- `from_index`
 unfoldable pub segmentFromAnswer : Axis → ℤ → SegmentAnswer
-segmentFromAnswer a i = segmentAsked (firstNo (placeQuestions a i)) (segmentAt a (up i))
+segmentFromAnswer a i =
+    let v = segmentAt a (posPart i) in
+    asked (indexQuestions a i ++ (ask 10 (segmentInCalendar v) ∷ [])) segment.Refused v
 
 -- ---- ticks: those of the axis, each the centre of its segment
-abbrev pub ticksAsked : ℕ → Listed → Listed
-ticksAsked zero r = r
-ticksAsked (suc q) r = Refused (suc q)
-
-abbrev pub writtenAsked : ℕ → List ℤ → List ℤ → List ℤ
-writtenAsked zero after before = after
-writtenAsked (suc q) after before = before
-
 -- the count of ticks, where k numbers are lent
 unfoldable pub segmentTicksAnswer : Axis → Hint → ℕ → Listed
-segmentTicksAnswer a h k = ticksAsked (firstNo (segmentKindQuestions a)) (ticksAnswer a h k)
+segmentTicksAnswer a h k = asked (segmentKindQuestions a) Refused (ticksAnswer a h k)
 
 -- all lent numbers after the call
 unfoldable pub segmentTicksWritten : Axis → Hint → List ℤ → List ℤ
-segmentTicksWritten a h d = writtenAsked (firstNo (segmentKindQuestions a)) (ticksWritten a h d) d
+segmentTicksWritten a h d = asked (segmentKindQuestions a) (λ q. d) (ticksWritten a h d)

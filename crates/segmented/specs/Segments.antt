@@ -7,7 +7,8 @@ use lib.Dec.{ltb}
 use lib.IntN.{ℤ, pos, _+ℤ_, _-ℤ_}
 use lib.Signed.{quotZ}
 use lib.Ieee.{binary32, ofInt, div, toSigned}
-use Rattle.laws.specs.Numbers.{within}
+use Rattle.laws.specs.Numbers.{within, isNumber}
+use Rattle.calendar.specs.Questions.{lastDay, isDay}
 use Rattle.floats.specs.Rounding.{roundF}
 use Rattle.values.specs.declared.Value.{Value}
 use Rattle.axis.specs.declared.Axis.{Axis}
@@ -16,26 +17,27 @@ use Rattle.axis.specs.Questions.{valueOn, mappable, fitsI32}
 use Rattle.mapping.specs.declared.Pixel.{Pixel}
 use Rattle.mapping.specs.declared.Pixel.the-variants as pixel
 use Rattle.mapping.specs.Mapping.{placed}
-use Rattle.discrete.specs.declared.ValueAnswer.{ValueAnswer}
-use Rattle.discrete.specs.declared.ValueAnswer.the-variants as value
-use Rattle.discrete.specs.Counting.{sizeOf}
-use Rattle.discrete.specs.Answers.{checked, nextIn}
+use Rattle.axis.specs.declared.ValueAnswer.{ValueAnswer}
+use Rattle.axis.specs.declared.ValueAnswer.the-variants as value
+use Rattle.counting.specs.Counting.{sizeOf}
+use Rattle.discrete.specs.Answers.{nextIn}
 use Rattle.segmented.specs.declared.Segment.{Segment}
 use Rattle.segmented.specs.declared.SegmentValue.{SegmentValue}
 use Rattle.segmented.specs.declared.SegmentValue.the-variants.{Exact, CenterOf, Last}
 
 -- ---- the three numbers of a segment value
-abbrev pub valueIn : Segment → Value
-valueIn s = record { head = s .head; tail = s .tail }
+abbrev pub headTail : Segment → Value
+headTail s = record { head = s .head; tail = s .tail }
 
 -- 8. Is the case 1 to 3, and the value one of the kind? The numbers beside the last are not read.
 unfoldable pub segmentOn : Axis → Segment → Bool
-segmentOn a s = within (pos 3) (s .case) (pos 3) || (within (pos 1) (s .case) (pos 2) && valueOn a (valueIn s))
+segmentOn a s = isNumber (s .case) 3 || (within (pos 1) (s .case) (pos 2) && valueOn a (headTail s))
 
+-- the segment value of three numbers
 unfoldable pub segmentOf : Segment → SegmentValue
 segmentOf s =
-    cond (within (pos 1) (s .case) (pos 1)) (Exact (valueIn s))
-    (cond (within (pos 2) (s .case) (pos 2)) (CenterOf (valueIn s))
+    cond (isNumber (s .case) 1) (Exact (headTail s))
+    (cond (isNumber (s .case) 2) (CenterOf (headTail s))
     Last)
 
 -- of a segment value: its value is one of the kind
@@ -53,7 +55,7 @@ segmentMappable a Last = ltb 0 (sizeOf a)
 -- a size that has room for a segment
 pub record Some (size : ℕ) : Type 0 where
   pub least : 0 < size
-  pub most : size ≤ 3652059
+  pub most : size ≤ lastDay
 
 -- ---- pixels
 -- the room of a segment: (W as f32 / size as f32).round() as i32
@@ -68,27 +70,40 @@ inner size l = record { low = l .low; high = l .high -ℤ marginOf size l }
 abbrev pub half : ℤ → ℤ
 half z = quotZ z (pos 2)
 
--- 10, of a pixel and of a sum
-abbrev pub fitting : Bool → ℤ → Pixel
-fitting b p = cond b (pixel.At p) (pixel.Refused 10)
+-- a pixel, and whether each mapping and sum used for it fits i32 and each date mapped on the way is in the calendar
+pub record Worked : Type 0 where
+  pub pixel : ℤ
+  pub fits : Bool
+
+-- the two together
+abbrev pub worked : ℤ → Bool → Worked
+worked p b = record { pixel = p; fits = b }
+
+-- an exact value
+abbrev pub alone : ℤ → Worked
+alone p = worked p (fitsI32 p)
 
 -- midway to the next value
-unfoldable pub between : ℤ → ℤ → Pixel
-between left right = fitting (fitsI32 left && (fitsI32 right && fitsI32 (left +ℤ right))) (half (left +ℤ right))
+abbrev pub between : ℤ → ℤ → Worked
+between left right = worked (half (left +ℤ right)) (fitsI32 left && (fitsI32 right && fitsI32 (left +ℤ right)))
 
 -- half a segment on, where there is no next value
-unfoldable pub beside : ℤ → ℤ → Pixel
-beside left margin = fitting (fitsI32 left && fitsI32 (left +ℤ half margin)) (left +ℤ half margin)
+abbrev pub beside : ℤ → ℤ → Worked
+beside left margin = worked (left +ℤ half margin) (fitsI32 left && fitsI32 (left +ℤ half margin))
 
-abbrev pub centred : Axis → Limits → ℤ → ValueAnswer → Pixel
-centred a l left (value.Refused q) = pixel.Refused q
+-- the centre of a segment that begins at a pixel, by the next value
+abbrev pub centred : Axis → Limits → ℤ → ValueAnswer → Worked
+centred a l left (value.At w) =
+    let c = between left (placed a (inner (sizeOf a) l) w) in worked (c .pixel) (isDay (w .head) && c .fits)
 centred a l left value.None = beside left (marginOf (sizeOf a) l)
-centred a l left (value.At w) = between left (placed a (inner (sizeOf a) l) w)
+centred a l left (value.Refused q) = beside left (marginOf (sizeOf a) l)
 
-unfoldable pub centreOf : Axis → Limits → Value → Pixel
-centreOf a l v = centred a l (placed a (inner (sizeOf a) l) v) (checked (nextIn a v))
+-- the pixel of a segment value
+unfoldable pub segmentWorked : Axis → Limits → SegmentValue → Worked
+segmentWorked a l (Exact v) = alone (placed a (inner (sizeOf a) l) v)
+segmentWorked a l (CenterOf v) = centred a l (placed a (inner (sizeOf a) l) v) (nextIn a v)
+segmentWorked a l Last = worked (l .high) true
 
-unfoldable pub segmentPixel : Axis → Limits → SegmentValue → Pixel
-segmentPixel a l (Exact v) = let p = placed a (inner (sizeOf a) l) v in fitting (fitsI32 p) p
-segmentPixel a l (CenterOf v) = centreOf a l v
-segmentPixel a l Last = pixel.At (l .high)
+-- question 10 alone, as the code asks it
+abbrev pub pixelChecked : Worked → Pixel
+pixelChecked w = cond (w .fits) (pixel.At (w .pixel)) (pixel.Refused 10)

@@ -1,26 +1,29 @@
 // Segments of the kinds that count, as plotters' SegmentedCoord: each value has the room up to the next one. The pixel of
 // an exact value, of a centre and of the last end; sizes, indices and ticks.
 use axis::Axis;
-use axis::BoldPoints;
-use axis::LightPoints;
+use axis::Hint;
 use axis::Limits;
+use axis::ValueAnswer;
 use discrete::NumberAnswer;
-use discrete::ValueAnswer;
 use mapping::Pixel;
+use mapping::Scale;
 use steps::Listed;
 use values::Value;
 ghost use mathlib.Core.Path.{_≡_};
 ghost use mathlib.Core.Bool.{true};
-ghost use Prim.Native.Nat.{_+_, _≤_, _<_};
+ghost use Prim.Native.Nat.{_≤_};
 ghost use lib.ListN.{length};
 ghost use Rattle.laws.specs.Asking.{firstNo};
-ghost use Rattle.axis.specs.Questions.{pixels, valueOn, isIndex, fitsI32};
-ghost use Rattle.mapping.specs.Mapping.{placed};
-ghost use Rattle.discrete.specs.Counting.{Counted, sizeOf};
-ghost use Rattle.discrete.specs.Answers.{sizeQuestions, placeQuestions};
-ghost use Rattle.ticks.specs.Hints.{bold, light};
-ghost use Rattle.segmented.specs.Segments.{segmentOn, SegmentOn, segmentOf, segmentMappable, Some, marginOf, inner, half, fitting, between, beside, centreOf, segmentPixel};
-ghost use Rattle.segmented.specs.Answers.{segmentQuestions, segmentValueQuestions, segmentKindQuestions, segmentMapAnswer, segmentSizeAnswer, segmentIndexIn, segmentIndexAnswer, exactly, segmentAt, segmentFromAnswer, segmentTicksAnswer, segmentTicksWritten};
+ghost use Rattle.calendar.specs.Questions.{lastDay};
+ghost use Rattle.axis.specs.Questions.{pixels, valueOn};
+ghost use Rattle.mapping.specs.Mapping.{scaleOf};
+ghost use Rattle.counting.specs.Counting.{Dated, sizeOf};
+ghost use Rattle.segmented.specs.Segments.{segmentOn, SegmentOn, segmentOf, segmentMappable, Some, marginOf, inner, half};
+ghost use Rattle.segmented.specs.Segments.{alone, between, beside, segmentWorked, pixelChecked};
+ghost use Rattle.segmented.specs.Answers.{segmentQuestions, segmentValueQuestions, segmentKindQuestions};
+ghost use Rattle.segmented.specs.Answers.{segmentMapAnswer, segmentSizeAnswer, segmentIndexIn, segmentIndexAnswer};
+ghost use Rattle.segmented.specs.Answers.{exactly, segmentAt, segmentChecked, segmentFromAnswer};
+ghost use Rattle.segmented.specs.Answers.{segmentTicksAnswer, segmentTicksWritten};
 
 // The three numbers of a segment value: case 1 exact, 2 centre, 3 last.
 pub struct Segment {
@@ -41,7 +44,7 @@ pub enum SegmentAnswer {
     At(SegmentValue),
 }
 
-fn value_in(s: Segment) -> Value
+fn head_tail(s: Segment) -> Value
     ensures { λ r. ⌜ r ≡ record { head = s .head; tail = s .tail } ⌝ }
 {
     Value {
@@ -55,28 +58,28 @@ fn segment_on(a: Axis, s: Segment) -> bool
     ensures { λ r. ⌜ r ≡ segmentOn a s ⌝ }
 {
     ((3 <= s.case) & (s.case <= 3))
-        | (((1 <= s.case) & (s.case <= 2)) & axis::value_on(a, value_in(s)))
+        | (((1 <= s.case) & (s.case <= 2)) & axis::value_on(a, head_tail(s)))
 }
 
 fn segment_of(s: Segment) -> SegmentValue
     ensures { λ r. ⌜ r ≡ segmentOf s ⌝ }
 {
     if (1 <= s.case) & (s.case <= 1) {
-        return SegmentValue::Exact(value_in(s));
+        return SegmentValue::Exact(head_tail(s));
     }
     if (2 <= s.case) & (s.case <= 2) {
-        return SegmentValue::CenterOf(value_in(s));
+        return SegmentValue::CenterOf(head_tail(s));
     }
     SegmentValue::Last
 }
 
-// The f32 quotient of width and size, rounded half away from zero.
+// (width as f32 / size as f32).round() as i32.
 fn margin_of(size: u64, l: Limits) -> i64
     requires { ⌜ Some size × (pixels l ≡ true) ⌝ }
     ensures { λ r. ⌜ r ≡ marginOf size l ⌝ }
 {
     let width = l.high - l.low;
-    floats::signed(width < 0, floats::half_up(floats::size_of(width), size))
+    floats::round_to_i32(width as f32 / size as f32) as i64
 }
 
 // Values are mapped between the low limit and the high one less a segment.
@@ -101,7 +104,7 @@ fn segment_refusal(a: Axis, s: Segment) -> u8
     ensures { λ r. ⌜ r ≡ firstNo (segmentQuestions a s) ⌝ }
 {
     let q = axis::plain_refusal(a, axis::has_index(a));
-    axis::ask(q, 8, segment_on(a, s))
+    axis::then_ask(q, 8, segment_on(a, s))
 }
 
 // One more than the axis has: the last end.
@@ -112,17 +115,17 @@ pub fn size(a: Axis) -> NumberAnswer
     if q != 0 {
         return NumberAnswer::Refused(q);
     }
-    NumberAnswer::Is(discrete::size_of(a) + 1)
+    NumberAnswer::Is(counting::size_of(a) + 1)
 }
 
 fn index_in(a: Axis, v: SegmentValue) -> NumberAnswer
-    requires { ⌜ Counted a × SegmentOn a v ⌝ }
+    requires { ⌜ Dated a × SegmentOn a v ⌝ }
     ensures { λ r. ⌜ r ≡ segmentIndexIn a v ⌝ }
 {
     match v {
         SegmentValue::Exact(w) => discrete::index_in(a, w),
         SegmentValue::CenterOf(w) => discrete::index_in(a, w),
-        SegmentValue::Last => NumberAnswer::Is(discrete::size_of(a)),
+        SegmentValue::Last => NumberAnswer::Is(counting::size_of(a)),
     }
 }
 
@@ -137,6 +140,7 @@ pub fn index_of(a: Axis, s: Segment) -> NumberAnswer
     index_in(a, segment_of(s))
 }
 
+// A value of the axis as a segment's exact one.
 fn exactly(v: ValueAnswer) -> SegmentAnswer
     ensures { λ r. ⌜ r ≡ exactly v ⌝ }
 {
@@ -149,10 +153,10 @@ fn exactly(v: ValueAnswer) -> SegmentAnswer
 
 // Below the size a value, at the size the last end, beyond it none.
 fn segment_at(a: Axis, i: u64) -> SegmentAnswer
-    requires { ⌜ Counted a × (i ≤ 3652059) ⌝ }
-    ensures { λ r. ⌜ r ≡ segmentAt a i ⌝ }
+    requires { ⌜ Dated a × (i ≤ lastDay) ⌝ }
+    ensures { λ r. ⌜ r ≡ segmentChecked (segmentAt a i) ⌝ }
 {
-    let size = discrete::size_of(a);
+    let size = counting::size_of(a);
     if i < size {
         return exactly(discrete::value_at(a, i));
     }
@@ -166,11 +170,11 @@ fn segment_at(a: Axis, i: u64) -> SegmentAnswer
 pub fn from_index(a: Axis, i: i64) -> SegmentAnswer
     ensures { λ r. ⌜ r ≡ segmentFromAnswer a i ⌝ }
 {
-    let q = discrete::place_refusal(a, i);
+    let q = discrete::index_refusal(a, i);
     if q != 0 {
         return SegmentAnswer::Refused(q);
     }
-    segment_at(a, calendar::count(i))
+    segment_at(a, calendar::as_count(i))
 }
 
 // Question 9: the size, and then the question of mapping; the last is asked only for the size.
@@ -187,8 +191,8 @@ fn segment_mappable(a: Axis, size: u64, v: SegmentValue) -> bool
 }
 
 // Question 10 of one mapping.
-fn fitting(p: i64) -> Pixel
-    ensures { λ r. ⌜ r ≡ fitting (fitsI32 p) p ⌝ }
+fn alone(p: i64) -> Pixel
+    ensures { λ r. ⌜ r ≡ pixelChecked (alone p) ⌝ }
 {
     if !axis::fits_i32(p) {
         return Pixel::Refused(10);
@@ -198,7 +202,7 @@ fn fitting(p: i64) -> Pixel
 
 // Midway to the next value.
 fn between(left: i64, right: i64) -> Pixel
-    ensures { λ r. ⌜ r ≡ between left right ⌝ }
+    ensures { λ r. ⌜ r ≡ pixelChecked (between left right) ⌝ }
 {
     if !axis::fits_i32(left) {
         return Pixel::Refused(10);
@@ -215,34 +219,42 @@ fn between(left: i64, right: i64) -> Pixel
 
 // Half a segment on.
 fn beside(left: i64, margin: i64) -> Pixel
-    ensures { λ r. ⌜ r ≡ beside left margin ⌝ }
+    ensures { λ r. ⌜ r ≡ pixelChecked (beside left margin) ⌝ }
 {
     if !axis::fits_i32(left) {
         return Pixel::Refused(10);
     }
-    fitting(left + half(margin))
+    alone(left + half(margin))
 }
 
-// The centre of a value's segment, which ends where the next value stands.
-fn centre(a: Axis, size: u64, l: Limits, v: Value) -> Pixel
-    requires { ⌜ Counted a × (pixels l ≡ true) × Some size × (valueOn a v ≡ true) × (size ≡ sizeOf a) ⌝ }
-    ensures { λ r. ⌜ r ≡ centreOf a l v ⌝ }
+// The scale of all values of a segmented axis.
+fn inner_scale(a: Axis, size: u64, l: Limits) -> Scale
+    requires { ⌜ Dated a × (pixels l ≡ true) × Some size ⌝ }
+    ensures { λ r. ⌜ r ≡ scaleOf a (inner size l) ⌝ }
 {
-    let m = inner(size, l);
-    let left = mapping::pixel_of(a, m, v);
+    mapping::scale_of(a, inner(size, l))
+}
+
+// The centre of a value's segment, which ends where the next value stands. Both are mapped with one scale.
+fn centre(a: Axis, size: u64, l: Limits, v: Value) -> Pixel
+    requires { ⌜ Dated a × (pixels l ≡ true) × Some size × (valueOn a v ≡ true) × (size ≡ sizeOf a) ⌝ }
+    ensures { λ r. ⌜ r ≡ pixelChecked (segmentWorked a l (SegmentValue.CenterOf v)) ⌝ }
+{
+    let s = inner_scale(a, size, l);
+    let left = mapping::pixel_by(s, a, v);
     match discrete::next_in(a, v) {
         ValueAnswer::Refused(q) => Pixel::Refused(q),
         ValueAnswer::None => beside(left, margin_of(size, l)),
-        ValueAnswer::At(w) => between(left, mapping::pixel_of(a, m, w)),
+        ValueAnswer::At(w) => between(left, mapping::pixel_by(s, a, w)),
     }
 }
 
 fn segment_pixel(a: Axis, size: u64, l: Limits, v: SegmentValue) -> Pixel
-    requires { ⌜ Counted a × (pixels l ≡ true) × Some size × SegmentOn a v × (size ≡ sizeOf a) ⌝ }
-    ensures { λ r. ⌜ r ≡ segmentPixel a l v ⌝ }
+    requires { ⌜ Dated a × (pixels l ≡ true) × Some size × SegmentOn a v × (size ≡ sizeOf a) ⌝ }
+    ensures { λ r. ⌜ r ≡ pixelChecked (segmentWorked a l v) ⌝ }
 {
     match v {
-        SegmentValue::Exact(w) => fitting(mapping::pixel_of(a, inner(size, l), w)),
+        SegmentValue::Exact(w) => alone(mapping::pixel_by(inner_scale(a, size, l), a, w)),
         SegmentValue::CenterOf(w) => centre(a, size, l, w),
         SegmentValue::Last => Pixel::At(l.high),
     }
@@ -252,8 +264,8 @@ fn map_refusal(a: Axis, l: Limits, s: Segment) -> u8
     ensures { λ r. ⌜ r ≡ firstNo (segmentValueQuestions a l s) ⌝ }
 {
     let q = axis::plain_refusal(a, axis::has_index(a));
-    let q = axis::ask(q, 7, axis::pixels(l));
-    axis::ask(q, 8, segment_on(a, s))
+    let q = axis::then_ask(q, 7, axis::pixels(l));
+    axis::then_ask(q, 8, segment_on(a, s))
 }
 
 // The pixel of any numbers. The size is asked for only of real values.
@@ -265,7 +277,7 @@ pub fn map(a: Axis, l: Limits, s: Segment) -> Pixel
         return Pixel::Refused(q);
     }
     let v = segment_of(s);
-    let size = discrete::size_of(a);
+    let size = counting::size_of(a);
     if !segment_mappable(a, size, v) {
         return Pixel::Refused(9);
     }
@@ -275,27 +287,18 @@ pub fn map(a: Axis, l: Limits, s: Segment) -> Pixel
 fn kind_refusal(a: Axis) -> u8
     ensures { λ r. ⌜ r ≡ firstNo (segmentKindQuestions a) ⌝ }
 {
-    let q = axis::ask(0, 1, axis::known(a));
-    axis::ask(q, 2, axis::has_index(a))
+    let q = axis::then_ask(0, 1, axis::known(a));
+    axis::then_ask(q, 2, axis::has_index(a))
 }
 
-// The ticks of a bold hint at the front of the lent numbers, and how many; each is the centre of its segment.
-pub fn list_bold(a: Axis, h: BoldPoints, lent: &mut [i64]) -> Listed
-    ensures { λ r. ⌜ (r ≡ segmentTicksAnswer a (bold h) (length (now (lent .entry)))) × (now (lent .exit) ≡ segmentTicksWritten a (bold h) (now (lent .entry))) ⌝ }
+// The ticks at the front of the lent numbers, and how many; each is the centre of its segment.
+pub fn list(a: Axis, h: Hint, lent: &mut [i64]) -> Listed
+    ensures { λ r. ⌜ r ≡ segmentTicksAnswer a h (length (now (lent .entry))) ⌝ }
+    ensures { λ r. ⌜ now (lent .exit) ≡ segmentTicksWritten a h (now (lent .entry)) ⌝ }
 {
     let q = kind_refusal(a);
     if q != 0 {
         return Listed::Refused(q);
     }
-    ticks::list_bold(a, h, lent)
-}
-
-pub fn list_light(a: Axis, h: LightPoints, lent: &mut [i64]) -> Listed
-    ensures { λ r. ⌜ (r ≡ segmentTicksAnswer a (light h) (length (now (lent .entry)))) × (now (lent .exit) ≡ segmentTicksWritten a (light h) (now (lent .entry))) ⌝ }
-{
-    let q = kind_refusal(a);
-    if q != 0 {
-        return Listed::Refused(q);
-    }
-    ticks::list_light(a, h, lent)
+    ticks::list(a, h, lent)
 }

@@ -12,10 +12,10 @@ use lib.IntN.{ℤ}
 use lib.Signed.{mag}
 use lib.ListN.{length, take}
 use Rattle.steps.specs.declared.Steps.{Steps}
-use Rattle.steps.specs.declared.Tick.{Tick}
+use Rattle.values.specs.declared.Value.{Value}
 use Rattle.steps.specs.declared.Listed.the-variants.{Ticks}
-use Rattle.steps.specs.Progression.{fitting, place, valueOf, tickOf, Sound}
-use Rattle.steps.specs.Listing.{pairs, ticks, hasRoom, listedOf, after, front, countOf}
+use Rattle.steps.specs.Progression.{fitting, numberAt, tickOfNumber, tickOf, Sound}
+use Rattle.steps.specs.Listing.{pairs, ticks, hasRoom, listedOf, lentAfter, front, countOf}
 use Rattle.steps.specs.Promise.{Later, wholeSecond, Fine}
 use Rattle.steps.proofs.Fitting.{inside}
 use Rattle.steps.proofs.Places.{next-place}
@@ -30,7 +30,7 @@ pub record Kept (k count n room : ℕ) : Type 0 where
   pub few : count ≤ n + 1
 
 -- ---- a list of pairs, from what is known of the tick at each place
-pub pairs-fine : (f : ℕ → Tick) (count n : ℕ) (start end : Tick) → count ≤ n + 1
+pairs-fine : (f : ℕ → Value) (count n : ℕ) (start end : Value) → count ≤ n + 1
     → ((i : ℕ) → i + 1 < count → Later (f i) (f (i + 1)))
     → ((i : ℕ) → i < count → Later end (f i) → ⊥)
     → ((i : ℕ) → i < count → Later (f i) (wholeSecond start) → ⊥)
@@ -50,39 +50,39 @@ pairs-fine f count n start end few growing to from =
 
 -- ---- any progression: its first tick is not before the whole second of the start, and its numbers have room up to one,
 -- last, whose tick is not after the end
-module _ (s : Steps) (n room last : ℕ) (start end : Tick) (p : 0 < s .per) (k : Kept (s .step) (s .count) n room)
+module _ (s : Steps) (n room last : ℕ) (start end : Value) (p : 0 < s .per) (k : Kept (s .step) (s .count) n room)
     (fits : 0 < room → s .first + room ≤ last + 1)
-    (from : Later (valueOf s (s .first)) (wholeSecond start) → ⊥)
-    (to : Later end (valueOf s last) → ⊥) where
-  step-up : (i : ℕ) → place s i < place s (i + 1)
+    (from : Later (tickOfNumber s (s .first)) (wholeSecond start) → ⊥)
+    (to : Later end (tickOfNumber s last) → ⊥) where
+  step-up : (i : ℕ) → numberAt s i < numberAt s (i + 1)
   step-up i = omega (arith, next-place s i, k .stride)
 
-  in-room : (i : ℕ) → i < s .count → place s i ≤ last
+  in-room : (i : ℕ) → i < s .count → numberAt s i ≤ last
   in-room i h = let a = inside room (s .step) i (k .stride) (rw (k .all) at h) in omega (arith, fits (omega arith))
 
-  not-before : (x : ℕ) → s .first ≤ x → Later (valueOf s x) (wholeSecond start) → ⊥
+  not-before : (x : ℕ) → s .first ≤ x → Later (tickOfNumber s x) (wholeSecond start) → ⊥
   not-before x h l =
       elim (eq-or-lt-of-le h) [
-        | inl e ↦ from (subst (λ (z : ℕ). Later (valueOf s z) (wholeSecond start)) (sym e) l)
+        | inl e ↦ from (subst (λ (z : ℕ). Later (tickOfNumber s z) (wholeSecond start)) (sym e) l)
         | inr q ↦ from (trans (later s (s .first) x p q) l)
       ]
 
-  not-after : (x : ℕ) → x ≤ last → Later end (valueOf s x) → ⊥
+  not-after : (x : ℕ) → x ≤ last → Later end (tickOfNumber s x) → ⊥
   not-after x h l =
       elim (eq-or-lt-of-le h) [
-        | inl e ↦ to (subst (λ (z : ℕ). Later end (valueOf s z)) e l)
+        | inl e ↦ to (subst (λ (z : ℕ). Later end (tickOfNumber s z)) e l)
         | inr q ↦ to (trans l (later s x last p q))
       ]
 
   pub steps-fine : Fine n start end (ticks s)
   steps-fine =
       pairs-fine (tickOf s) (s .count) n start end (k .few)
-      (λ i h. later s (place s i) (place s (i + 1)) p (step-up i))
-      (λ i h. not-after (place s i) (in-room i h))
-      (λ i h. let a : s .first ≤ place s i = omega arith in not-before (place s i) a)
+      (λ i h. later s (numberAt s i) (numberAt s (i + 1)) p (step-up i))
+      (λ i h. not-after (numberAt s i) (in-room i h))
+      (λ i h. let a : s .first ≤ numberAt s i = omega arith in not-before (numberAt s i) a)
 
 -- ---- what a caller reads after the call
-none-fine : (n : ℕ) (start end : Tick) → Fine n start end []
+none-fine : (n : ℕ) (start end : Value) → Fine n start end []
 none-fine n start end = record {
   paired = refl;
   few = omega arith;
@@ -92,7 +92,7 @@ none-fine n start end = record {
 }
 
 -- the part that is handed back; a refused call's is empty
-pub front-fine : (s : Steps) (k n : ℕ) (start end : Tick) → Fine n start end (ticks s) → Fine n start end (front s k)
+front-fine : (s : Steps) (k n : ℕ) (start end : Value) → Fine n start end (ticks s) → Fine n start end (front s k)
 front-fine s k n start end f = go (hasRoom s k)
   where
     go : (b : Bool) → Fine n start end (cond b (ticks s) [])
@@ -100,15 +100,15 @@ front-fine s k n start end f = go (hasRoom s k)
     go false = none-fine n start end
 
 -- the part that the answer counts, of all lent numbers
-pub counted-fine : (s : Steps) (d : List ℤ) (n : ℕ) (start end : Tick) → Fine n start end (ticks s)
-    → Fine n start end (take (2 * countOf (listedOf s (length d))) (after s d))
+counted-fine : (s : Steps) (d : List ℤ) (n : ℕ) (start end : Value) → Fine n start end (ticks s)
+    → Fine n start end (take (2 * countOf (listedOf s (length d))) (lentAfter s d))
 counted-fine s d n start end f = rw (front-is s d) (front-fine s (length d) n start end f)
 
 -- the same where the answer is a count
-pub read-fine : (s : Steps) (d : List ℤ) (n c : ℕ) (start end : Tick) → Fine n start end (ticks s) → listedOf s (length d)
+pub read-fine : (s : Steps) (d : List ℤ) (n c : ℕ) (start end : Value) → Fine n start end (ticks s) → listedOf s (length d)
     ≡ Ticks c
-    → Fine n start end (take (2 * c) (after s d))
-read-fine s d n c start end f e = subst (λ (x : ℕ). Fine n start end (take (2 * x) (after s d))) (ap countOf e)
+    → Fine n start end (take (2 * c) (lentAfter s d))
+read-fine s d n c start end f e = subst (λ (x : ℕ). Fine n start end (take (2 * x) (lentAfter s d))) (ap countOf e)
     (counted-fine s d n start end f)
 
 -- ---- the same facts keep a progression in range
@@ -120,11 +120,12 @@ last-in k (suc c) n room h =
 
 pub kept-sound : (s : Steps) (n room : ℕ) → Kept (s .step) (s .count) n room → 0 < s .per → s .per < 2 ^ 60 →
     mag (s .base) < 2 ^ 60
-    → s .step / s .per < 2 ^ 60 → (s .first + room) / s .per < 2 ^ 60 → (s .months ≡ true → s .first + room < 120000) → Sound s
+    → s .step / s .per < 2 ^ 60 → (s .first + room) / s .per < 2 ^ 60 → (s .«by_month» ≡ true → s .first + room < 120000) →
+    Sound s
 kept-sound s n room k p small base stride top month =
     let l = last-in (s .step) (s .count) n room k in
     let a : s .first + room < 2 ^ 60 * s .per = div-lt-iff-lt-mul p .0 top in
-    let b : place s (s .count - 1) < 2 ^ 60 * s .per = omega arith in
+    let b : numberAt s (s .count - 1) < 2 ^ 60 * s .per = omega arith in
     record {
       divides = p;
       small = small;

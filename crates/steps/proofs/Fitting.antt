@@ -11,11 +11,6 @@ pub inside : (room k i : ℕ) → 0 < k → i < fitting room k → i * k < room
 inside zero k i p h = absurd (not-suc-le-zero h)
 inside (suc r) k i p h = let a : i ≤ r / k = omega arith in omega (arith, le-div-iff-mul-le p .0 a)
 
--- and only then
-pub outside : (room k i : ℕ) → 0 < k → i * k < room → i < fitting room k
-outside zero k i p h = absurd (not-suc-le-zero h)
-outside (suc r) k i p h = let a : i * k ≤ r = omega arith in omega (arith, le-div-iff-mul-le p .1 a)
-
 -- a room of n + 1 steps has no more
 pub few-steps : (room k n : ℕ) → 0 < k → room ≤ (n + 1) * k → fitting room k ≤ n + 1
 few-steps zero k n p h = omega arith

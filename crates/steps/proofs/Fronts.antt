@@ -11,7 +11,7 @@ use borrow.Author.Tests.{leb-true}
 use Rattle.steps.specs.declared.Steps.{Steps}
 use Rattle.steps.specs.declared.Listed.the-variants.{Refused, Ticks}
 use Rattle.steps.specs.Progression.{tickOf}
-use Rattle.steps.specs.Listing.{ticks, hasRoom, listedOf, after, front, countOf}
+use Rattle.steps.specs.Listing.{ticks, hasRoom, listedOf, lentAfter, front, countOf}
 use Rattle.steps.proofs.Pairs.{length-pairs}
 
 module _ (s : Steps) (d : List ℤ) where
@@ -29,5 +29,5 @@ module _ (s : Steps) (d : List ℤ) where
   cut false = refl
 
   -- the front part that the count gives is the list
-  pub front-is : take (2 * countOf (listedOf s (length d))) (after s d) ≡ front s (length d)
+  pub front-is : take (2 * countOf (listedOf s (length d))) (lentAfter s d) ≡ front s (length d)
   front-is = cut (hasRoom s (length d))

@@ -33,7 +33,7 @@ next-year : (p : ℕ) → dayNumber (p + 1 + 1) 1 1 ≡ dayNumber (p + 1) 12 1 +
 unfolding dayNumber yearLength months
 next-year p = rw (add-sub-cancel (p + 1) 1, add-sub-cancel p 1, add-one p) (omega (arith, years-next p))
 
-pub month-next : (m : ℕ) → firstDay (m + 1) ≡ firstDay m + monthLength (m / 12 + 1) (m % 12 + 1)
+month-next : (m : ℕ) → firstDay (m + 1) ≡ firstDay m + monthLength (m / 12 + 1) (m % 12 + 1)
 unfolding firstDay
 month-next m =
     elim (decLe (m % 12) 10) [
@@ -74,7 +74,7 @@ year-many k a b e l h =
     let by100 : b / 100 ≤ b = omega arith in
     rw e (omega (arith, years-closed a b l))
 
-pub year-most : (y m d : ℕ) → Real y m d → dayNumber y m d ≤ 3652425 → y ≤ 10000
+year-most : (y m d : ℕ) → Real y m d → dayNumber y m d ≤ 3652425 → y ≤ 10000
 unfolding dayNumber
 year-most y m d r h =
     elim (decLe y 10000) [
@@ -136,49 +136,14 @@ module _ (day : ℕ) (from : 1 ≤ day) (to : day ≤ 3652425) where
       | inl e ↦ let f : k ≡ monthOf day = omega arith in rw f (omega (arith, day-of-month, p refl))
       | inr g ↦ let f : k < monthOf day = omega arith in omega (arith, first-days k (monthOf day) f, in-month .begun)
     ];
-    known = omega (arith, in-month .known);
   }
   whole false p q =
       let e : monthOf day + 0 ≡ monthOf day = omega arith in
       rw e (record {
         ahead = omega (arith, day-of-month, q refl);
         first = λ k l. omega (arith, first-days k (monthOf day) l, in-month .begun);
-        known = omega (arith, in-month .known);
       })
 
   pub from-month : FromMonth (wholeMonth day) day
   unfolding wholeMonth
   from-month = whole (ltb 1 (dateOf day .day)) (ltb-true _ _) (ltb-false _ _)
-
--- ---- a day lies in one month alone, and one month alone is the first from it on
-not-above : (m k day : ℕ) → firstDay m ≤ day → day < firstDay (k + 1) → m ≤ k
-not-above m k day a b =
-    elim (decLe m k) [
-      | yes l ↦ l
-      | no l ↦ absurd (elim (eq-or-lt-of-le (let g : k + 1 ≤ m = omega arith in g)) [
-        | inl e ↦ clash (rw e at b)
-        | inr q ↦ later (first-days (k + 1) m q)
-      ])
-    ]
-  where
-    clash : day < firstDay m → ⊥
-    clash g = omega arith
-
-    later : firstDay (k + 1) < firstDay m → ⊥
-    later g = omega arith
-
-pub one-month : (m k day : ℕ) → InMonth m day → InMonth k day → m ≡ k
-one-month m k day a b = omega (arith, not-above m k day (a .begun) (b .going), not-above k m day (b .begun) (a .going))
-
-pub one-whole : (m k day : ℕ) → FromMonth m day → FromMonth k day → m ≡ k
-one-whole m k day a b = omega (arith, not-early m k day a b, not-early k m day b a)
-  where
-    not-early : (m k day : ℕ) → FromMonth m day → FromMonth k day → m ≤ k
-    not-early m k day a b = elim (decLe m k) [
-      | yes l ↦ l
-      | no l ↦ absurd (let g : k < m = omega arith in
-          clash (a .first k g) (b .ahead))
-    ]
-      where
-        clash : firstDay k < day → day ≤ firstDay k → ⊥
-        clash p q = omega arith

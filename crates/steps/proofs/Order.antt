@@ -8,12 +8,13 @@ use native.Mathlib.Omega.{arith}
 use lib.Dec.{T}
 use lib.IntN.{ℤ, pos, _+ℤ_}
 use lib.Signed.{_<ℤ_, ltZ, ltZ-yes}
-use Rattle.laws.specs.Numbers.{up, dn}
+use Rattle.laws.specs.Numbers.{posPart, negPart}
+use Rattle.laws.specs.Units.{perSecond}
 use Rattle.laws.proofs.Signed.{add, is-lt, lt-true}
 use Rattle.laws.proofs.Tests.{holds}
 use Rattle.steps.specs.declared.Steps.{Steps}
-use Rattle.steps.specs.declared.Tick.{Tick}
-use Rattle.steps.specs.Progression.{evenTick, valueOf}
+use Rattle.values.specs.declared.Value.{Value}
+use Rattle.steps.specs.Progression.{evenTick, tickOfNumber}
 use Rattle.steps.specs.Promise.{Later, by-head, by-tail, wholeSecond}
 use Rattle.steps.proofs.Months.{first-days}
 
@@ -22,53 +23,41 @@ is-true : (b : Bool) → b ≡ true → T b
 is-true true e = tt
 is-true false e = let z : _≡_ {A = ℕ} 0 1 = cc in absurd (let w : ⊥ = omega arith in w)
 
-pub smaller : (a b : ℤ) → up a + dn b < up b + dn a → a <ℤ b
+pub smaller : (a b : ℤ) → posPart a + negPart b < posPart b + negPart a → a <ℤ b
 smaller a b h = ltZ-yes (is-true (ltZ a b) (is-lt a b h))
 
-pub is-smaller : {a b : ℤ} → a <ℤ b → up a + dn b < up b + dn a
+pub is-smaller : {a b : ℤ} → a <ℤ b → posPart a + negPart b < posPart b + negPart a
 is-smaller {a} {b} h = lt-true a b (holds (ltZ a b) (h .lt))
 
 -- ---- the order
 -- of two ticks at most one is the later
-pub asym : {a b : Tick} → Later a b → Later b a → ⊥
+asym : {a b : Value} → Later a b → Later b a → ⊥
 asym (by-head p) (by-head q) = omega (arith, is-smaller p, is-smaller q)
-asym (by-head p) (by-tail q r) = omega (arith, is-smaller p, ap up q, ap dn q)
-asym (by-tail p q) (by-head r) = omega (arith, is-smaller r, ap up p, ap dn p)
+asym (by-head p) (by-tail q r) = omega (arith, is-smaller p, ap posPart q, ap negPart q)
+asym (by-tail p q) (by-head r) = omega (arith, is-smaller r, ap posPart p, ap negPart p)
 asym (by-tail p q) (by-tail r t) = omega (arith, is-smaller q, is-smaller t)
 
 -- and none is later than itself
-pub irrefl : {a : Tick} → Later a a → ⊥
+irrefl : {a : Value} → Later a a → ⊥
 irrefl l = asym l l
 
 -- what is later than a later tick is later
-pub trans : {a b c : Tick} → Later a b → Later b c → Later a c
+pub trans : {a b c : Value} → Later a b → Later b c → Later a c
 trans {a} {b} {c} (by-head p) (by-head q) = by-head (smaller (a .head) (c .head) (omega (arith, is-smaller p, is-smaller q)))
 trans {a} {b} {c} (by-head p) (by-tail q r) =
-    by-head (smaller (a .head) (c .head) (omega (arith, is-smaller p, ap up q, ap dn q)))
+    by-head (smaller (a .head) (c .head) (omega (arith, is-smaller p, ap posPart q, ap negPart q)))
 trans {a} {b} {c} (by-tail p q) (by-head r) =
-    by-head (smaller (a .head) (c .head) (omega (arith, is-smaller r, ap up p, ap dn p)))
+    by-head (smaller (a .head) (c .head) (omega (arith, is-smaller r, ap posPart p, ap negPart p)))
 trans {a} {b} {c} (by-tail p q) (by-tail r t) =
     by-tail (p ∙ r) (smaller (a .tail) (c .tail) (omega (arith, is-smaller q, is-smaller t)))
 
--- ---- days: ticks with no tail
-abbrev pub day : ℤ → Tick
-day n = record { head = n; tail = pos 0 }
-
-pub day-not-before : (x y : ℤ) → up y + dn x ≤ up x + dn y → Later (day x) (day y) → ⊥
-day-not-before x y h (by-head p) = omega (arith, is-smaller p)
-day-not-before x y h (by-tail p q) = omega (arith, is-smaller q)
-
 -- ---- the whole second in which a span starts
 -- what is not before the start is not before it
-pub not-before-second : (t start : Tick) → dn (start .tail) ≡ 0 → (Later t start → ⊥) → Later t (wholeSecond start) → ⊥
+pub not-before-second : (t start : Value) → negPart (start .tail) ≡ 0 → (Later t start → ⊥) → Later t (wholeSecond start) → ⊥
 not-before-second t start z n (by-head p) = n (by-head p)
 not-before-second t start z n (by-tail p q) =
-    n (by-tail p (smaller (t .tail) (start .tail) (omega (arith, is-smaller q, div-mul-le-self (up (start .tail)) 1000000000))))
-
--- nor is the start's day, in its first second
-pub not-before-midnight : (start : Tick) → up (start .tail) < 1000000000 → Later (day (start .head)) (wholeSecond start) → ⊥
-not-before-midnight start h (by-head p) = omega (arith, is-smaller p)
-not-before-midnight start h (by-tail p q) = omega (arith, is-smaller q)
+    n (by-tail p (smaller (t .tail) (start .tail)
+    (omega (arith, is-smaller q, div-mul-le-self (posPart (start .tail)) perSecond))))
 
 -- ---- progressions
 parts : (x y per : ℕ) → 0 < per → x < y → (x / per < y / per) ⊎ ((x / per ≡ y / per) × (x % per < y % per))
@@ -88,17 +77,17 @@ even-later s x y p h =
     ]
 
 -- a larger number is a later tick
-pub later : (s : Steps) (x y : ℕ) → 0 < s .per → x < y → Later (valueOf s x) (valueOf s y)
-later s x y p h = go (s .months) refl
+pub later : (s : Steps) (x y : ℕ) → 0 < s .per → x < y → Later (tickOfNumber s x) (tickOfNumber s y)
+later s x y p h = go (s .«by_month») refl
   where
-    go : (b : Bool) → s .months ≡ b → Later (valueOf s x) (valueOf s y)
+    go : (b : Bool) → s .«by_month» ≡ b → Later (tickOfNumber s x) (tickOfNumber s y)
     go true e = rw e (by-head (smaller _ _ (omega (arith, first-days x y h))))
     go false e = rw e (even-later s x y p h)
 
 -- and one that is no smaller is no earlier
-pub not-earlier : (s : Steps) (x y : ℕ) → 0 < s .per → x ≤ y → Later (valueOf s y) (valueOf s x) → ⊥
+pub not-earlier : (s : Steps) (x y : ℕ) → 0 < s .per → x ≤ y → Later (tickOfNumber s y) (tickOfNumber s x) → ⊥
 not-earlier s x y p h l =
     elim (eq-or-lt-of-le h) [
-      | inl e ↦ irrefl (subst (λ (z : ℕ). Later (valueOf s y) (valueOf s z)) e l)
+      | inl e ↦ irrefl (subst (λ (z : ℕ). Later (tickOfNumber s y) (tickOfNumber s z)) e l)
       | inr q ↦ asym l (later s x y p q)
     ]

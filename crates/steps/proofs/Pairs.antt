@@ -12,12 +12,12 @@ use lib.ListN.{length, getD, set, drop, length-append, length-set, List·getD-ap
 use lib.Seq.{getD-at}
 use Rattle.laws.proofs.Lent.{length-push, push-two}
 use Rattle.steps.specs.declared.Steps.{Steps}
-use Rattle.steps.specs.declared.Tick.{Tick}
+use Rattle.values.specs.declared.Value.{Value}
 use Rattle.steps.specs.Progression.{tickOf}
 use Rattle.steps.specs.Listing.{pairs, ticks}
 use Rattle.steps.specs.Promise.{nth}
 
-module _ (f : ℕ → Tick) where
+module _ (f : ℕ → Value) where
   pub length-pairs : (n : ℕ) → length (pairs f n) ≡ 2 * n
   length-pairs zero = refl
   length-pairs (suc n) = simp length-append (omega (arith, length-pairs n))
@@ -59,14 +59,14 @@ pub record Written (s : Steps) (d l : List ℤ) (i at : ℕ) : Type 0 where
   pub turns : i ≤ s .count
   pub at-is : at ≡ 2 * i
   pub length-is : length l ≡ length d
-  pub list-is : l ≡ pairs (tickOf s) i ++ drop at d
+  list-is : l ≡ pairs (tickOf s) i ++ drop at d
 
 pub none-written : (s : Steps) (d : List ℤ) → Written s d d 0 0
 none-written s d = record { turns = omega arith; at-is = refl; length-is = refl; list-is = refl }
 
 module _ {s : Steps} {d l : List ℤ} {i at : ℕ} (w : Written s d l i at) where
   -- two stores are one tick more
-  pub one-more : {v : Tick} → i < s .count → 2 * s .count ≤ length d → v ≡ tickOf s i
+  pub one-more : {v : Value} → i < s .count → 2 * s .count ≤ length d → v ≡ tickOf s i
       → Written s d (set (set l at (v .head)) (at + 1) (v .tail)) (i + 1) (at + 2)
   one-more {v} h room e =
       let next : at + 1 < length d = omega (arith, w .at-is) in

@@ -13,6 +13,7 @@ firstDay m = dayNumber (m / 12 + 1) (m % 12 + 1) 1
 abbrev pub monthNumber : ℕ → ℕ → ℕ
 monthNumber y m = 12 * (y - 1) + (m - 1)
 
+-- the month of a day
 unfoldable pub monthOf : ℕ → ℕ
 monthOf day = monthNumber (dateOf day .year) (dateOf day .month)
 
@@ -31,4 +32,3 @@ pub record InMonth (m day : ℕ) : Type 0 where
 pub record FromMonth (m day : ℕ) : Type 0 where
   pub ahead : day ≤ firstDay m
   pub first : (k : ℕ) → k < m → firstDay k < day
-  pub known : m ≤ 120000

@@ -5,7 +5,8 @@ use mathlib.Core.Bool.{true, cond}
 use lib.IntN.{pos, _+ℤ_}
 use lib.Signed.{mag}
 use Rattle.steps.specs.declared.Steps.{Steps}
-use Rattle.steps.specs.declared.Tick.{Tick}
+use Rattle.values.specs.declared.Value.{Value}
+use Rattle.values.specs.Values.{midnight}
 use Rattle.steps.specs.Months.{firstDay}
 
 -- how many i have i * step < room
@@ -14,24 +15,24 @@ fitting zero step = 0
 fitting (suc r) step = r / step + 1
 
 -- the number at place i
-abbrev pub place : Steps → ℕ → ℕ
-place s i = s .first + i * s .step
+abbrev pub numberAt : Steps → ℕ → ℕ
+numberAt s i = s .first + i * s .step
 
 -- the first day of the month x
-abbrev pub monthTick : ℕ → Tick
-monthTick x = record { head = pos (firstDay x); tail = pos 0 }
+abbrev pub monthTick : ℕ → Value
+monthTick x = midnight (pos (firstDay x))
 
 -- whole heads from base on, and the rest
-abbrev pub evenTick : Steps → ℕ → Tick
+abbrev pub evenTick : Steps → ℕ → Value
 evenTick s x = record { head = s .base +ℤ pos (x / s .per); tail = pos (x % s .per) }
 
 -- the tick of the number x
-abbrev pub valueOf : Steps → ℕ → Tick
-valueOf s x = cond (s .months) (monthTick x) (evenTick s x)
+abbrev pub tickOfNumber : Steps → ℕ → Value
+tickOfNumber s x = cond (s .«by_month») (monthTick x) (evenTick s x)
 
 -- the tick at place i
-abbrev pub tickOf : Steps → ℕ → Tick
-tickOf s i = valueOf s (place s i)
+abbrev pub tickOf : Steps → ℕ → Value
+tickOf s i = tickOfNumber s (numberAt s i)
 
 -- the numbers are in the ranges in which the listing neither wraps nor leaves the calendar
 pub record Sound (s : Steps) : Type 0 where
@@ -39,5 +40,5 @@ pub record Sound (s : Steps) : Type 0 where
   pub small : s .per < 2 ^ 60
   pub base : mag (s .base) < 2 ^ 60
   pub stride : s .step / s .per < 2 ^ 60
-  pub last : place s (s .count - 1) / s .per < 2 ^ 60
-  pub month : s .months ≡ true → place s (s .count - 1) < 120000
+  pub last : numberAt s (s .count - 1) / s .per < 2 ^ 60
+  pub month : s .«by_month» ≡ true → numberAt s (s .count - 1) < 120000

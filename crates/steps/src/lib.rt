@@ -1,29 +1,23 @@
-// Tick lists: the numbers of a progression, the tick of each, and the listing of their pairs in lent numbers.
+// Value lists: the numbers of a progression, the tick of each, and the listing of their pairs in lent numbers.
 // What a month is to a tick list stands here too; which progression a kind lists does not.
 ghost use mathlib.Core.Path.{_≡_};
 ghost use mathlib.Core.Bool.{true, false};
 ghost use mathlib.Core.List.{_++_};
-ghost use Prim.Native.Nat.{_+_, _-_, _*_, _<_, _≤_};
+ghost use Prim.Native.Nat.{_*_, _<_, _≤_};
 ghost use lib.ListN.{length, drop};
-ghost use denote.Ref.{ptr};
 ghost use Rattle.steps.specs.Months.{firstDay, monthNumber, monthOf, wholeMonth};
 ghost use Rattle.steps.specs.Progression.{fitting, Sound};
-ghost use Rattle.steps.specs.Listing.{ticks, hasRoom, listedOf, after, front, countOf};
+ghost use Rattle.steps.specs.Listing.{ticks, hasRoom, listedOf, lentAfter, countOf};
 
-// The numbers first, first + step, .. : count of them. With months set a number is a month, counted from 0001-01,
+// The numbers first, first + step, .. : count of them. With by_month set a number is a month, counted from 0001-01,
 // which is 0. Else a head has per numbers, and base is the head at which they start.
 pub struct Steps {
-    pub months: bool,
+    pub by_month: bool,
     pub base: i64,
     pub per: u64,
     pub first: u64,
     pub step: u64,
     pub count: u64,
-}
-
-pub struct Tick {
-    pub head: i64,
-    pub tail: i64,
 }
 
 // A refusal's number, or how many ticks were listed.
@@ -33,7 +27,7 @@ pub enum Listed {
 }
 
 // The day number of the first day of a month.
-pub fn first_day(m: u64) -> u64
+fn first_day(m: u64) -> u64
     requires { ⌜ m < 120000 ⌝ }
     ensures { λ r. ⌜ r ≡ firstDay m ⌝ }
 {
@@ -81,16 +75,6 @@ pub fn how_many(room: u64, step: u64) -> u64
     (room - 1) / step + 1
 }
 
-// How much a exceeds b, or 0.
-pub fn less(a: u64, b: u64) -> u64
-    ensures { λ r. ⌜ r ≡ a - b ⌝ }
-{
-    if a < b {
-        return 0;
-    }
-    a - b
-}
-
 // Question 11: are k lent numbers two for each tick?
 fn has_room(s: Steps, k: u64) -> bool
     ensures { λ r. ⌜ r ≡ hasRoom s k ⌝ }
@@ -120,7 +104,7 @@ pub fn count_of(a: Listed) -> u64
 
 // A day number for each tick; months have no common length.
 fn list_months(s: Steps, lent: &mut [i64])
-    requires { ⌜ (Sound s × (s .months ≡ true)) × (2 * s .count ≤ length (now lent)) ⌝ }
+    requires { ⌜ (Sound s × (s .«by_month» ≡ true)) × (2 * s .count ≤ length (now lent)) ⌝ }
     ensures { λ r. ⌜ now (lent .exit) ≡ ticks s ++ drop (2 * s .count) (now (lent .entry)) ⌝ }
 {
     let months = s.count;
@@ -138,7 +122,7 @@ fn list_months(s: Steps, lent: &mut [i64])
 
 // No division for each tick: the step's whole heads and its rest are added, and a head is carried.
 fn list_even(s: Steps, lent: &mut [i64])
-    requires { ⌜ (Sound s × (s .months ≡ false)) × (2 * s .count ≤ length (now lent)) ⌝ }
+    requires { ⌜ (Sound s × (s .«by_month» ≡ false)) × (2 * s .count ≤ length (now lent)) ⌝ }
     ensures { λ r. ⌜ now (lent .exit) ≡ ticks s ++ drop (2 * s .count) (now (lent .entry)) ⌝ }
 {
     let n = s.count;
@@ -169,25 +153,15 @@ fn list_even(s: Steps, lent: &mut [i64])
 // Sets the pairs of the list at the front of the lent numbers, unless these are too few.
 pub fn list(s: Steps, lent: &mut [i64]) -> Listed
     requires { ⌜ Sound s ⌝ }
-    ensures { λ r. ⌜ (r ≡ listedOf s (length (now (lent .entry)))) × (now (lent .exit) ≡ after s (now (lent .entry))) ⌝ }
+    ensures { λ r. ⌜ (r ≡ listedOf s (length (now (lent .entry)))) × (now (lent .exit) ≡ lentAfter s (now (lent .entry))) ⌝ }
 {
     if !has_room(s, lent.len() as u64) {
         return Listed::Refused(11);
     }
-    if s.months {
+    if s.by_month {
         list_months(s, lent);
         return Listed::Ticks(s.count);
     }
     list_even(s, lent);
     Listed::Ticks(s.count)
-}
-
-// The part of the lent numbers that holds the list; an empty part where they are too few.
-pub fn key_points(s: Steps, lent: &mut [i64]) -> &mut [i64]
-    requires { ⌜ Sound s ⌝ }
-    ensures { λ r. ⌜ (now r ≡ front s (length (now (lent .entry)))) × (ptr r ≡ ptr (lent .entry)) ⌝ }
-{
-    let n = count_of(list(s, lent));
-    let k = (2 * n) as usize;
-    &mut lent[..k]
 }

@@ -6,12 +6,14 @@ use Prim.Native.Nat.{ℕ, zero, suc, _+_, _*_}
 use lib.Dec.{leb, ltb, eqb}
 use lib.IntN.{ℤ, pos}
 use lib.ListN.{length, drop}
+use Rattle.laws.specs.Units.{perSecond}
 use Rattle.calendar.specs.Questions.{numberOf}
 use Rattle.calendar.specs.declared.DayAnswer.{DayAnswer}
 use Rattle.calendar.specs.declared.DayAnswer.the-variants as day
 use Rattle.values.specs.declared.Value.{Value}
-use Rattle.axis.specs.declared.Axis.{Axis}
-use Rattle.text_read.specs.Fields.{space, untilOf, fieldOf, readNumber, readDate, readStamp}
+use Rattle.axis.specs.Axes.{axisOf}
+use Rattle.text_read.specs.Bytes.{spaceByte}
+use Rattle.text_read.specs.Fields.{untilOf, fieldOf, readNumber, readDate, readStamp}
 use Rattle.text_read.specs.declared.Day.{Day}
 use Rattle.text_read.specs.declared.Moment.{Moment}
 use Rattle.text_read.specs.declared.NumberField.{NumberField}
@@ -40,6 +42,7 @@ names =
     107 ∷ 105 ∷ 110 ∷ 100 ∷ 32 ∷ 115 ∷ 116 ∷ 97 ∷ 114 ∷ 116 ∷ 32 ∷ 101 ∷ 110 ∷ 100 ∷ 32 ∷ 104 ∷ 105 ∷ 110 ∷ 116
     ∷ 32 ∷ 108 ∷ 111 ∷ 119 ∷ 32 ∷ 104 ∷ 105 ∷ 103 ∷ 104 ∷ []
 
+-- is it the names line?
 abbrev pub isNames : List ℕ → Bool
 isNames s = sameAs s names
 
@@ -66,17 +69,17 @@ kindOf w = placeIn 1 kinds w
 
 -- ---- fields
 -- how often c stands in s
-unfoldable pub countOf : ℕ → List ℕ → ℕ
-countOf c [] = 0
-countOf c (b ∷ s) = cond (eqb b c) (suc (countOf c s)) (countOf c s)
+unfoldable pub occurrences : ℕ → List ℕ → ℕ
+occurrences c [] = 0
+occurrences c (b ∷ s) = cond (eqb b c) (suc (occurrences c s)) (occurrences c s)
 
 -- at most 120 bytes, and six fields
 unfoldable pub inForm : List ℕ → Bool
-inForm s = leb (length s) 120 && eqb (countOf space s) 5
+inForm s = leb (length s) 120 && eqb (occurrences spaceByte s) 5
 
 -- what stands after the first space
 abbrev pub restOf : List ℕ → List ℕ
-restOf s = drop (untilOf space s + 1) s
+restOf s = drop (untilOf spaceByte s + 1) s
 
 -- the line from its field k on; the kind is its field 0
 abbrev pub fieldsFrom : ℕ → List ℕ → List ℕ
@@ -88,6 +91,7 @@ fieldsFrom (suc k) s = restOf (fieldsFrom k s)
 abbrev pub unreal : Value
 unreal = record { head = pos 0; tail = pos 0 }
 
+-- a day that is real, with a nanosecond of it
 abbrev pub dayAt : DayAnswer → ℕ → Value
 dayAt (day.Answered n) nano = record { head = pos n; tail = pos nano }
 dayAt (day.Refused q) nano = unreal
@@ -96,6 +100,7 @@ dayAt (day.Refused q) nano = unreal
 unfoldable pub onDay : Day → ℕ → Value
 onDay d nano = dayAt (numberOf (record { year = pos (d .year); month = pos (d .month); day = pos (d .day) })) nano
 
+-- a date as a value
 abbrev pub dateValue : Day → Value
 dateValue d = onDay d 0
 
@@ -105,62 +110,66 @@ isTime m = (ltb (m .hour) 24 && ltb (m .minute) 60) && ltb (m .second) 60
 
 -- the second of the day, in nanoseconds
 unfoldable pub stampValue : Moment → Value
-stampValue m = cond (isTime m) (onDay (m .date) (((m .hour * 60 + m .minute) * 60 + m .second) * 1000000000)) unreal
+stampValue m = cond (isTime m) (onDay (m .date) (((m .hour * 60 + m .minute) * 60 + m .second) * perSecond)) unreal
 
 -- whole seconds
 abbrev pub spanValue : ℤ → Value
 spanValue n = record { head = n; tail = pos 0 }
 
+-- a field that is a date
 abbrev pub ofDate : DateField → ValueField
 ofDate (date.Read d) = value.Read (dateValue d)
 ofDate date.Unread = value.Unread
 
+-- a field that is a date-time
 abbrev pub ofStamp : StampField → ValueField
 ofStamp (stamp.Read m) = value.Read (stampValue m)
 ofStamp stamp.Unread = value.Unread
 
+-- a field that is a span
 abbrev pub ofSpan : NumberField → ValueField
 ofSpan (number.Read n) = value.Read (spanValue n)
 ofSpan number.Unread = value.Unread
 
 -- dates on kinds 1 to 3, date-times on 4 to 6, seconds on 7
-unfoldable pub valueOf : ℕ → List ℕ → ValueField
-valueOf kind s = cond (leb kind 3) (ofDate (readDate s)) (cond (leb kind 6) (ofStamp (readStamp s)) (ofSpan (readNumber s)))
+unfoldable pub readValue : ℕ → List ℕ → ValueField
+readValue kind s = cond (leb kind 3) (ofDate (readDate s)) (cond (leb kind 6) (ofStamp (readStamp s)) (ofSpan (readNumber s)))
 
 -- ---- the line
-abbrev pub axisOf : ℕ → Value → Value → Axis
-axisOf kind a b = record {
-  kind = pos kind;
-  «start_head» = a .head;
-  «start_tail» = a .tail;
-  «end_head» = b .head;
-  «end_tail» =
-      b .tail;
+abbrev pub request : ℕ → Value → Value → ℤ → ℤ → ℤ → Request
+request kind a b n l h = record {
+  axis = axisOf (pos kind) (a .head) (a .tail) (b .head) (b .tail);
+  hint = record { n = n };
+  limits = record { low = l; high = h };
 }
 
-abbrev pub request : ℕ → Value → Value → ℤ → ℤ → ℤ → Request
-request kind a b n l h = record { axis = axisOf kind a b; hint = record { n = n }; limits = record { low = l; high = h } }
+-- what a field that reads makes of the line
+abbrev pub ifValue : ValueField → (Value → Line) → Line
+ifValue (value.Read v) f = f v
+ifValue value.Unread f = line.Unread
 
-abbrev pub allOf : ℕ → ValueField → ValueField → NumberField → NumberField → NumberField → Line
-allOf kind (value.Read a) (value.Read b) (number.Read n) (number.Read l) (number.Read h) = line.Read (request kind a b n l h)
-allOf kind (value.Read a) (value.Read b) (number.Read n) (number.Read l) number.Unread = line.Unread
-allOf kind (value.Read a) (value.Read b) (number.Read n) number.Unread h = line.Unread
-allOf kind (value.Read a) (value.Read b) number.Unread l h = line.Unread
-allOf kind (value.Read a) value.Unread n l h = line.Unread
-allOf kind value.Unread b n l h = line.Unread
+-- the same of a number
+abbrev pub ifNumber : NumberField → (ℤ → Line) → Line
+ifNumber (number.Read n) f = f n
+ifNumber number.Unread f = line.Unread
 
--- the kind is known, and every field has its form
-unfoldable pub requestOf : ℕ → ValueField → ValueField → NumberField → NumberField → NumberField → Line
-requestOf kind a b n l h = cond (eqb kind 0) line.Unread (allOf kind a b n l h)
+-- start, end, hint, low and high, each in its form
+abbrev pub requestOf : ℕ → ValueField → ValueField → NumberField → NumberField → NumberField → Line
+requestOf kind start end hint low high =
+    ifValue start (λ a. ifValue end (λ b.
+    ifNumber hint (λ n. ifNumber low (λ l. ifNumber high (λ h. line.Read (request kind a b n l h))))))
 
--- start, end, hint, low and high
+-- all fields of a line of a kind
 abbrev pub fieldsOf : ℕ → List ℕ → Line
 fieldsOf kind s =
-    requestOf kind (valueOf kind (fieldsFrom 1 s)) (valueOf kind (fieldsFrom 2 s))
+    requestOf kind (readValue kind (fieldsFrom 1 s)) (readValue kind (fieldsFrom 2 s))
     (readNumber (fieldsFrom 3 s))
     (readNumber (fieldsFrom 4 s))
     (readNumber (fieldsFrom 5 s))
 
--- the request that a line makes, or that it does not read
+-- the request that a line makes, or that it does not read: it is in form, and its kind is known
 unfoldable pub readLine : List ℕ → Line
-readLine s = cond (inForm s) (fieldsOf (kindOf (fieldOf s)) s) line.Unread
+readLine s =
+    cond (inForm s)
+    (cond (eqb (kindOf (fieldOf s)) 0) line.Unread (fieldsOf (kindOf (fieldOf s)) s))
+    line.Unread

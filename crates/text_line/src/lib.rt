@@ -12,10 +12,12 @@ use text_read::NumberField;
 use text_read::StampField;
 use values::Value;
 ghost use mathlib.Core.Path.{_≡_};
+ghost use mathlib.Core.Bool.{cond};
 ghost use Prim.Native.Nat.{_≤_, _<_};
+ghost use Rattle.laws.specs.Units.{perDay};
 ghost use Rattle.text_read.specs.Fields.{fieldOf, Typed};
-ghost use Rattle.text_line.specs.Line.{sameAs, isNames, countOf, inForm, kindOf, restOf};
-ghost use Rattle.text_line.specs.Line.{onDay, isTime, stampValue, valueOf, axisOf, requestOf, readLine};
+ghost use Rattle.text_line.specs.Line.{sameAs, isNames, occurrences, inForm, kindOf, restOf};
+ghost use Rattle.text_line.specs.Line.{onDay, isTime, stampValue, readValue, requestOf, readLine};
 
 // The numbers of a line. No question was asked of them yet.
 pub struct Request {
@@ -60,8 +62,8 @@ pub fn is_names(s: &[u8]) -> bool
 }
 
 // How often c stands in s.
-fn count(s: &[u8], c: u8) -> usize
-    ensures { λ r. ⌜ r ≡ countOf c (now (s .entry)) ⌝ }
+fn occurrences(s: &[u8], c: u8) -> usize
+    ensures { λ r. ⌜ r ≡ occurrences c (now (s .entry)) ⌝ }
 {
     let mut n: usize = 0;
     let mut i: usize = 0;
@@ -78,47 +80,39 @@ fn count(s: &[u8], c: u8) -> usize
 fn in_form(s: &[u8]) -> bool
     ensures { λ r. ⌜ r ≡ inForm (now (s .entry)) ⌝ }
 {
-    (s.len() <= 120) & (count(s, b' ') == 5)
+    (s.len() <= 120) & (occurrences(s, b' ') == 5)
+}
+
+// The number where the two are the same, and the other one where not.
+fn if_same(a: &[u8], b: &[u8], number: u64, other: u64) -> u64
+    ensures { λ r. ⌜ r ≡ cond (sameAs (now (a .entry)) (now (b .entry))) number other ⌝ }
+{
+    if same(a, b) { number } else { other }
 }
 
 // The kind that the word names, or 0.
-fn named(w: &[u8]) -> u64
+fn kind_of(w: &[u8]) -> u64
     ensures { λ r. ⌜ r ≡ kindOf (now (w .entry)) ⌝ }
 {
-    if same(w, b"date") {
-        return 1;
-    }
-    if same(w, b"month") {
-        return 2;
-    }
-    if same(w, b"year") {
-        return 3;
-    }
-    if same(w, b"stamp") {
-        return 4;
-    }
-    if same(w, b"stampmonth") {
-        return 5;
-    }
-    if same(w, b"stampyear") {
-        return 6;
-    }
-    if same(w, b"span") {
-        return 7;
-    }
-    0
+    let k = if_same(w, b"span", 7, 0);
+    let k = if_same(w, b"stampyear", 6, k);
+    let k = if_same(w, b"stampmonth", 5, k);
+    let k = if_same(w, b"stamp", 4, k);
+    let k = if_same(w, b"year", 3, k);
+    let k = if_same(w, b"month", 2, k);
+    if_same(w, b"date", 1, k)
 }
 
 // The kind that the field at the front of s names, or 0.
-fn kind(s: &[u8]) -> u64
+fn read_kind(s: &[u8]) -> u64
     ensures { λ r. ⌜ r ≡ kindOf (fieldOf (now (s .entry))) ⌝ }
 {
     let k = text_read::until(s, b' ');
-    named(&s[..k])
+    kind_of(&s[..k])
 }
 
 // The part after the first space, or an empty part.
-fn after(s: &[u8]) -> &[u8]
+fn rest_of(s: &[u8]) -> &[u8]
     ensures { λ r. ⌜ now r ≡ restOf (now (s .entry)) ⌝ }
 {
     let k = text_read::until(s, b' ');
@@ -131,7 +125,7 @@ fn after(s: &[u8]) -> &[u8]
 
 // A day and a nanosecond of it. A date that is not real gets 0 and 0, which is no value of kinds 1 to 6.
 fn on_day(d: Day, nano: u64) -> Value
-    requires { ⌜ Typed d × (nano < 86400000000000) ⌝ }
+    requires { ⌜ Typed d × (nano < perDay) ⌝ }
     ensures { λ r. ⌜ r ≡ onDay d nano ⌝ }
 {
     let t = Ymd {
@@ -167,8 +161,8 @@ fn stamp_value(m: Moment) -> Value
 }
 
 // A start or an end of the kind, from the field's start.
-fn value(kind: u64, s: &[u8]) -> ValueField
-    ensures { λ r. ⌜ r ≡ valueOf kind (now (s .entry)) ⌝ }
+fn read_value(kind: u64, s: &[u8]) -> ValueField
+    ensures { λ r. ⌜ r ≡ readValue kind (now (s .entry)) ⌝ }
 {
     if kind <= 3 {
         let DateField::Read(d) = text_read::date(s) else {
@@ -188,20 +182,7 @@ fn value(kind: u64, s: &[u8]) -> ValueField
     ValueField::Read(Value { head: n, tail: 0 })
 }
 
-fn axis_of(kind: u64, a: Value, b: Value) -> Axis
-    requires { ⌜ kind ≤ 7 ⌝ }
-    ensures { λ r. ⌜ r ≡ axisOf kind a b ⌝ }
-{
-    Axis {
-        kind: kind as i64,
-        start_head: a.head,
-        start_tail: a.tail,
-        end_head: b.head,
-        end_tail: b.tail,
-    }
-}
-
-// The request, if the kind is known and every field has its form.
+// The request, if every field has its form.
 fn together(
     kind: u64,
     start: ValueField,
@@ -213,9 +194,6 @@ fn together(
     requires { ⌜ kind ≤ 7 ⌝ }
     ensures { λ r. ⌜ r ≡ requestOf kind start end hint low high ⌝ }
 {
-    if kind == 0 {
-        return Line::Unread;
-    }
     let ValueField::Read(a) = start else {
         return Line::Unread;
     };
@@ -232,7 +210,7 @@ fn together(
         return Line::Unread;
     };
     Line::Read(Request {
-        axis: axis_of(kind, a, b),
+        axis: axis::axis_of(kind as i64, a.head, a.tail, b.head, b.tail),
         hint: BoldPoints { n: n },
         limits: Limits { low: l, high: h },
     })
@@ -244,14 +222,17 @@ pub fn read_line(s: &[u8]) -> Line
     if !in_form(s) {
         return Line::Unread;
     }
-    let a = after(s);
-    let b = after(a);
-    let c = after(b);
-    let d = after(c);
-    let e = after(d);
-    let k = kind(s);
-    let start = value(k, a);
-    let end = value(k, b);
+    let k = read_kind(s);
+    if k == 0 {
+        return Line::Unread;
+    }
+    let a = rest_of(s);
+    let b = rest_of(a);
+    let c = rest_of(b);
+    let d = rest_of(c);
+    let e = rest_of(d);
+    let start = read_value(k, a);
+    let end = read_value(k, b);
     let hint = text_read::number(c);
     let low = text_read::number(d);
     let high = text_read::number(e);

@@ -6,6 +6,7 @@ use mathlib.Core.List.{List, [], _∷_, _++_}
 use Prim.Native.Nat.{ℕ, zero, suc, _≤_, _<_}
 use lib.Dec.{eqb}
 use lib.ListN.{length, take, drop}
+use Rattle.text_read.specs.Bytes.{lineFeed}
 use Rattle.text_line.specs.Line.{isNames}
 use Rattle.text_write.specs.Rows.{refusalText}
 use Rattle.text_rows.specs.Answers.{rowsOf}
@@ -33,21 +34,21 @@ endedText (suc n) (b ∷ s) = refusalText (suc n) 12
 unfoldable pub toCome : ℕ → List ℕ → List ℕ → List ℕ
 toCome number begun [] = endedText number begun
 toCome number begun (b ∷ s) =
-    cond (eqb b 10)
+    cond (eqb b lineFeed)
     (finishedText number begun ++ cond (goesOn number begun) (toCome (suc number) [] s) [])
     (toCome number (begun ++ (b ∷ [])) s)
 
 -- the bytes of a line are kept in the front of `kept`; 121 of them tell that it is too long
-pub record Ready (s : State) (kept : List ℕ) : Type 0 where
+pub record Keeps (s : State) (kept : List ℕ) : Type 0 where
   pub most : s .len ≤ 121
-  pub size : length kept ≡ 121
+  pub same-size : length kept ≡ 121
 
 -- After a turn over a chunk: some of it is used, and whatever input comes after the chunk, what was still to be printed is
 -- what the turn wrote and what is to come after it
 pub record Turned (s : State) (kept chunk : List ℕ) (r : Taken) (after out : List ℕ) : Type 0 where
-  pub ready : Ready (r .state) after
+  pub keeps : Keeps (r .state) after
   pub some : 0 < length chunk → 1 ≤ r .used
-  pub within : r .used ≤ length chunk
+  pub no-more : r .used ≤ length chunk
   pub room : r .written ≤ length out
   pub output : s .number < 18446744073709551615 → (more : List ℕ)
       → toCome (s .number) (take (s .len) kept) (chunk ++ more)

@@ -5,7 +5,7 @@ ghost use Prim.Native.Nat.{_+_, _≤_, _<_};
 ghost use lib.ListN.{length, take};
 ghost use Rattle.text_write.specs.Texts.{Wrote};
 ghost use Rattle.text_plate.specs.Plate.{outputNames, noNames};
-ghost use Rattle.text_plate.specs.Turns.{finishedText, goesOn, endedText, Ready, Turned};
+ghost use Rattle.text_plate.specs.Turns.{finishedText, goesOn, endedText, Keeps, Turned};
 
 // The number of the line that was begun, 0 for the names line, and how many of its bytes are kept.
 pub struct State {
@@ -24,7 +24,7 @@ pub struct Taken {
 }
 
 // The names line of the output.
-fn names(out: &mut [u8]) -> usize
+fn output_names(out: &mut [u8]) -> usize
     requires { ⌜ 16 ≤ length (now out) ⌝ }
     ensures { λ r. ⌜ Wrote outputNames 0 (now (out .entry)) r (now (out .exit)) ⌝ }
     ensures { λ r. ⌜ (r ≡ 16) × (length (now (out .exit)) ≡ length (now (out .entry))) ⌝ }
@@ -37,7 +37,7 @@ fn no_names(out: &mut [u8]) -> usize
     ensures { λ r. ⌜ Wrote noNames 0 (now (out .entry)) r (now (out .exit)) ⌝ }
     ensures { λ r. ⌜ (r ≤ 81) × (length (now (out .exit)) ≡ length (now (out .entry))) ⌝ }
 {
-    let at = names(out);
+    let at = output_names(out);
     text_write::refusal_row(out, at, 0, 12)
 }
 
@@ -51,7 +51,7 @@ fn finished(number: u64, text: &[u8], lent: &mut [i64], out: &mut [u8]) -> usize
         return text_rows::rows(number, text, lent, out);
     }
     if text_line::is_names(text) {
-        return names(out);
+        return output_names(out);
     }
     no_names(out)
 }
@@ -82,7 +82,7 @@ pub fn ended(number: u64, text: &[u8], out: &mut [u8]) -> usize
 }
 
 // No input has so many lines that the last number is reached.
-fn next(number: u64) -> u64
+fn next_number(number: u64) -> u64
     ensures { λ r. ⌜ (number < 18446744073709551615 → r ≡ number + 1) ⌝ }
 {
     if number < 18446744073709551615 {
@@ -93,7 +93,7 @@ fn next(number: u64) -> u64
 
 // A turn over a chunk.
 pub fn turn(s: State, kept: &mut [u8], chunk: &[u8], lent: &mut [i64], out: &mut [u8]) -> Taken
-    requires { ⌜ Ready s (now kept) × ((length (now lent) ≡ 8194) × (266305 ≤ length (now out))) ⌝ }
+    requires { ⌜ Keeps s (now kept) × ((length (now lent) ≡ 8194) × (266305 ≤ length (now out))) ⌝ }
     ensures { λ r. ⌜ Turned s (now (kept .entry)) (now (chunk .entry)) r (now (kept .exit)) (now (out .exit)) ⌝ }
 {
     let f = feed::feed(kept, s.len, chunk);
@@ -113,7 +113,7 @@ pub fn turn(s: State, kept: &mut [u8], chunk: &[u8], lent: &mut [i64], out: &mut
     let k = finished(s.number, &kept[..n], lent, out);
     Taken {
         state: State {
-            number: next(s.number),
+            number: next_number(s.number),
             len: 0,
         },
         goes: goes,

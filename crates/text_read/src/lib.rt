@@ -4,8 +4,9 @@ ghost use mathlib.Core.Path.{_≡_};
 ghost use Prim.Native.Nat.{_+_, _≤_};
 ghost use lib.ListN.{length, take};
 ghost use Rattle.text_read.specs.Fields.{untilOf, isDigit, digitsOf, readNumber, threeOf, tripleOf, readDate, readStamp};
+ghost use Rattle.text_read.specs.Fields.{TypedWhole, TypedThree, TypedDate, TypedStamp};
 
-pub enum Whole {
+enum Whole {
     Value(u64),
     Unread,
 }
@@ -67,15 +68,16 @@ fn is_digit(b: u8) -> bool
     (b'0' <= b) & (b <= b'9')
 }
 
-fn wide(b: u8) -> u64
+fn widened(b: u8) -> u64
     ensures { λ r. ⌜ r ≡ b ⌝ }
 {
     b as u64
 }
 
 // 1 to 12 digits and nothing else: their value.
-pub fn digits(s: &[u8]) -> Whole
+fn digits(s: &[u8]) -> Whole
     ensures { λ r. ⌜ r ≡ digitsOf (now (s .entry)) ⌝ }
+    ensures { λ r. ⌜ TypedWhole r ⌝ }
 {
     if s.len() < 1 {
         return Whole::Unread;
@@ -90,7 +92,7 @@ pub fn digits(s: &[u8]) -> Whole
         if !is_digit(b) {
             return Whole::Unread;
         }
-        n = n * 10 + (wide(b) - 48);
+        n = n * 10 + widened(b - b'0');
         i += 1;
     }
     Whole::Value(n)
@@ -118,7 +120,9 @@ pub fn number(s: &[u8]) -> NumberField
 
 // All three, or none.
 fn all_three(a: Whole, b: Whole, c: Whole) -> Three
+    requires { ⌜ TypedWhole a × (TypedWhole b × TypedWhole c) ⌝ }
     ensures { λ r. ⌜ r ≡ threeOf a b c ⌝ }
+    ensures { λ r. ⌜ TypedThree r ⌝ }
 {
     let Whole::Value(x) = a else {
         return Three::Unread;
@@ -136,6 +140,7 @@ fn all_three(a: Whole, b: Whole, c: Whole) -> Three
 fn triple(s: &[u8], w: usize, sep: u8) -> Three
     requires { ⌜ (w ≤ 4) × (w + 6 ≤ length (now s)) ⌝ }
     ensures { λ r. ⌜ r ≡ tripleOf w sep (now (s .entry)) ⌝ }
+    ensures { λ r. ⌜ TypedThree r ⌝ }
 {
     if s[w] != sep {
         return Three::Unread;
@@ -156,6 +161,7 @@ fn triple(s: &[u8], w: usize, sep: u8) -> Three
 // YYYY-MM-DD.
 pub fn date(s: &[u8]) -> DateField
     ensures { λ r. ⌜ r ≡ readDate (now (s .entry)) ⌝ }
+    ensures { λ r. ⌜ TypedDate r ⌝ }
 {
     if until(s, b' ') != 10 {
         return DateField::Unread;
@@ -173,6 +179,7 @@ pub fn date(s: &[u8]) -> DateField
 // YYYY-MM-DDThh:mm:ss.
 pub fn stamp(s: &[u8]) -> StampField
     ensures { λ r. ⌜ r ≡ readStamp (now (s .entry)) ⌝ }
+    ensures { λ r. ⌜ TypedStamp r ⌝ }
 {
     if until(s, b' ') != 19 {
         return StampField::Unread;

@@ -10,10 +10,13 @@ use native.Mathlib.Omega.{arith}
 use lib.IntN.{ℤ, pos}
 use lib.Signed.{_<ℤ_, leZ}
 use lib.ListN.{length, take}
+use borrow.Author.Tests.{le-leb}
 use Rattle.laws.specs.Asking.{firstNo}
-use Rattle.laws.specs.Numbers.{up, dn}
+use Rattle.laws.specs.Numbers.{posPart, negPart}
+use Rattle.laws.proofs.Asked.{refused-by}
 use Rattle.laws.proofs.Signed.{le-true}
-use Rattle.values.specs.Values.{isDuration, isDay}
+use Rattle.values.specs.Values.{isDuration}
+use Rattle.calendar.specs.Questions.{isDay}
 use Rattle.values.proofs.Numbers.{is-le, is-gt}
 use Rattle.values.proofs.Values.{day-value}
 use Rattle.axis.specs.declared.Axis.{Axis}
@@ -24,20 +27,22 @@ use Rattle.axis.specs.Questions.{ends}
 use Rattle.axis.proofs.Axes.{both-ends}
 use Rattle.mapping.specs.Mapping.{mapped}
 use Rattle.steps.specs.declared.Listed.the-variants.{Refused, Ticks}
-use Rattle.steps.specs.Listing.{countOf}
+use Rattle.steps.specs.Progression.{tickOf}
+use Rattle.steps.specs.Listing.{ticks, listedOf}
+use Rattle.steps.proofs.Pairs.{length-pairs}
 use Rattle.steps.specs.Promise.{nth, by-head, Fine}
 use Rattle.steps.proofs.Order.{smaller}
-use Rattle.plans.specs.Plans.{tick, Accepted}
-use Rattle.ticks.specs.Hints.{bold, limit, planFor}
-use Rattle.ticks.specs.Answers.{tickQuestions, answered, ticksAnswer, ticksWritten, ticksHanded}
-use Rattle.ticks.proofs.Hints.{listing-accepted}
-use Rattle.ticks.proofs.Answers.{handed-is}
-use Rattle.ticks.proofs.Promise.{list-fine}
+use Rattle.plans.specs.Plans.{Accepted}
+use Rattle.axis.specs.declared.Hint.the-variants.{Bold}
+use Rattle.ticks.specs.Hints.{limit, planFor}
+use Rattle.ticks.specs.Answers.{tickQuestions, ticksAnswer, ticksHanded}
+use Rattle.ticks.proofs.Hints.{accepted}
+use Rattle.ticks.proofs.Promise.{plan-fine}
 use Rattle.text_line.specs.declared.Request.{Request}
 use Rattle.text_line.specs.declared.Line.the-variants.{Read, Unread}
 use Rattle.text_line.specs.Line.{readLine}
 use Rattle.text_write.specs.Rows.{refusalText, rowText}
-use Rattle.text_rows.specs.Answers.{valueAt, ticksText, Printable, listText, requestText, rowsOf}
+use Rattle.text_rows.specs.Answers.{ticksText, Printable, listText, requestText, rowsOf}
 
 module _ (number : ℕ) (a : Axis) (l : Limits) (list : List ℤ) where
   pub no-ticks : ticksText number a l list 0 ≡ []
@@ -45,20 +50,20 @@ module _ (number : ℕ) (a : Axis) (l : Limits) (list : List ℤ) where
   no-ticks = refl
 
   pub one-more : (k : ℕ) → ticksText number a l list (k + 1) ≡ ticksText number a l list k ++ rowText number (a .kind)
-      (valueAt list k) (mapped a l (valueAt list k))
+      (nth list k) (mapped a l (nth list k))
   unfolding ticksText
   one-more k = rw (add-one k)
 
 -- what is not smaller is at least as large
-at-least : (x y : ℤ) → (x <ℤ y → ⊥) → up y + dn x ≤ up x + dn y
+at-least : (x y : ℤ) → (x <ℤ y → ⊥) → posPart y + negPart x ≤ posPart x + negPart y
 at-least x y n =
-    elim (decLe (up y + dn x) (up x + dn y)) [
+    elim (decLe (posPart y + negPart x) (posPart x + negPart y)) [
       | yes l ↦ l
       | no l ↦ absurd (n (smaller x y (omega arith)))
     ]
 
 -- over days, a tick between the ends is on a day
-module _ (a : Axis) (n : ℕ) (real : ends a ≡ true) (list : List ℤ) (f : Fine n (tick (start a)) (tick (end a)) list) where
+module _ (a : Axis) (n : ℕ) (real : ends a ≡ true) (list : List ℤ) (f : Fine n (start a) (end a) list) where
   on-day : (i : ℕ) → 2 * i < length list → leZ (a .kind) (pos 6) ≡ true → isDay (nth list i .head) ≡ true
   on-day i l e =
       let no : isDuration (a .kind) ≡ false = rw (is-gt (pos 7) (a .kind) (omega (arith, le-true (a .kind) (pos 6) e))) in
@@ -68,45 +73,47 @@ module _ (a : Axis) (n : ℕ) (real : ends a ≡ true) (list : List ℤ) (f : Fi
       let to = at-least (a .«end_head») (nth list i .head) (λ w. f .to i l (by-head w)) in
       rw (is-le (pos 1) (nth list i .head) (omega arith), is-le (nth list i .head) (pos 3652059) (omega arith))
 
-module _ (a : Axis) (h : BoldPoints) (d : List ℤ) (c : ℕ) (e : ticksAnswer a (bold h) (length d) ≡ Ticks c) where
-  accepted : firstNo (tickQuestions a (bold h)) ≡ 0
+module _ (a : Axis) (h : BoldPoints) (z : firstNo (tickQuestions a (Bold h)) ≡ 0) where
+  fine-axis : Accepted a (posPart (h .n))
+  fine-axis = accepted a (Bold h) z
+
+  -- at most 4,097 ticks, so 8,194 numbers have room for them
+  room : 2 * planFor a (Bold h) .count ≤ 8194
+  room =
+      let s = planFor a (Bold h) in
+      omega (arith, plan-fine a (Bold h) z .few, length-pairs (tickOf s) (s .count), fine-axis .most)
+
+  pub has-list : ticksAnswer a (Bold h) 8194 ≡ Ticks (planFor a (Bold h) .count)
   unfolding ticksAnswer
-  accepted = go (firstNo (tickQuestions a (bold h))) e
-    where
-      go : (q : ℕ) → answered q (planFor a (bold h)) (length d) ≡ Ticks c → q ≡ 0
-      go zero x = refl
-      go (suc q) x = let w : _≡_ {A = ℕ} 0 1 = cc in absurd (let z : ⊥ = omega arith in z)
+  has-list = rw (z, le-leb (2 * planFor a (Bold h) .count) 8194 room)
 
-  handed-fine : Fine (limit (bold h)) (tick (start a)) (tick (end a)) (ticksHanded a (bold h) (length d))
-  handed-fine =
-      subst (λ (l : List ℤ). Fine (limit (bold h)) (tick (start a)) (tick (end a)) l)
-      (ap (λ (k : ℕ). take (2 * k) (ticksWritten a (bold h) d)) (sym (ap countOf e)) ∙ handed-is a (bold h) d)
-      (list-fine a (bold h) d c e)
+  handed : ticksHanded a (Bold h) 8194 ≡ ticks (planFor a (Bold h))
+  unfolding ticksHanded
+  handed = rw (z, le-leb (2 * planFor a (Bold h) .count) 8194 room)
 
-  -- at most 4,097 ticks, and 65 bytes for each
-  pub printable : (room : ℕ) → 266305 ≤ room → Printable (a .kind) (ticksHanded a (bold h) (length d)) room
-  printable room l =
-      let q : Accepted a (up (h .n)) = listing-accepted a (bold h) accepted in
-      let f = handed-fine in
-      record {
+  -- and 65 bytes for each
+  pub printable : (space : ℕ) → 266305 ≤ space → Printable (a .kind) (ticksHanded a (Bold h) 8194) space
+  printable space l =
+      let f = plan-fine a (Bold h) z in
+      rw handed (record {
         ticks = λ i k. record {
-          day = λ x. on-day a (limit (bold h)) (q .real) (ticksHanded a (bold h) (length d)) f i
+          day = λ x. on-day a (limit (Bold h)) (fine-axis .real) (ticks (planFor a (Bold h))) f i
               (omega arith) x;
         };
-        most = omega (arith, f .few, q .most);
-      }
+        most = omega (arith, f .few, fine-axis .most);
+      })
 
 -- ---- the lines that answer a request, and a line
 module _ (number : ℕ) (q : Request) where
-  pub request-refused : (n : ℕ) → ticksAnswer (q .axis) (bold (q .hint)) 8194 ≡ Refused n → requestText number q
-      ≡ refusalText number n
-  unfolding requestText
-  request-refused n e = rw e
+  pub request-refused : (n : ℕ) → n ≡ firstNo (tickQuestions (q .axis) (Bold (q .hint))) → (n ≡ 0 → ⊥) →
+      requestText number q ≡ refusalText number n
+  unfolding requestText ticksAnswer
+  request-refused n e k = rw (← refused-by Refused (listedOf (planFor (q .axis) (Bold (q .hint))) 8194) _ n e k)
 
-  pub request-listed : (c : ℕ) → ticksAnswer (q .axis) (bold (q .hint)) 8194 ≡ Ticks c → requestText number q
-      ≡ listText number (q .axis) (q .limits) (ticksHanded (q .axis) (bold (q .hint)) 8194)
+  pub request-listed : firstNo (tickQuestions (q .axis) (Bold (q .hint))) ≡ 0 → requestText number q
+      ≡ listText number (q .axis) (q .limits) (ticksHanded (q .axis) (Bold (q .hint)) 8194)
   unfolding requestText
-  request-listed c e = rw e
+  request-listed z = rw (has-list (q .axis) (q .hint) z)
 
 module _ (number : ℕ) (s : List ℕ) where
   pub line-read : (q : Request) → readLine s ≡ Read q → rowsOf number s ≡ requestText number q

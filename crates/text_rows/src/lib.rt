@@ -1,7 +1,7 @@
 // A line of plate's input, and the lines of output that answer it, in a lent buffer.
 use axis::Axis;
+use axis::Hint;
 use axis::Limits;
-use steps::Listed;
 use text_line::Line;
 use text_line::Request;
 use values::Value;
@@ -11,12 +11,13 @@ ghost use lib.ListN.{length, take};
 ghost use Rattle.text_write.specs.Texts.{Wrote};
 ghost use Rattle.text_rows.specs.Answers.{Printable, listText, requestText, rowsOf};
 
-// A line for each tick of a list.
+// A line for each tick of a list. What mapping asks of the axis and the limits, and their scale, is the same for all.
 fn list_rows(number: u64, a: Axis, l: Limits, list: &mut [i64], out: &mut [u8]) -> usize
     requires { ⌜ Printable (a .kind) (now list) (length (now out)) ⌝ }
     ensures { λ r. ⌜ Wrote (listText number a l (now (list .entry))) 0 (now (out .entry)) r (now (out .exit)) ⌝ }
     ensures { λ r. ⌜ (r ≤ length (now (out .exit))) × (length (now (out .exit)) ≡ length (now (out .entry))) ⌝ }
 {
+    let m = mapping::prepare(a, l);
     let n = list.len() / 2;
     let mut i: usize = 0;
     let mut at: usize = 0;
@@ -27,29 +28,30 @@ fn list_rows(number: u64, a: Axis, l: Limits, list: &mut [i64], out: &mut [u8]) 
             head: list[head],
             tail: list[tail],
         };
-        let p = mapping::map(a, l, v);
+        let p = mapping::map_ready(m, a, l, v);
         at = text_write::row(out, at, number, a.kind, v, p);
         i += 1;
     }
     at
 }
 
-// An empty part does not tell a refusal from a list without ticks, so the count is asked first.
+// An empty part does not tell a refusal from a list without ticks, so the questions are asked first. 8,194 numbers have
+// room for every list.
 fn request_rows(number: u64, q: Request, lent: &mut [i64], out: &mut [u8]) -> usize
     requires { ⌜ (length (now lent) ≡ 8194) × (266305 ≤ length (now out)) ⌝ }
     ensures { λ r. ⌜ Wrote (requestText number q) 0 (now (out .entry)) r (now (out .exit)) ⌝ }
     ensures { λ r. ⌜ (r ≤ length (now (out .exit))) × (length (now (out .exit)) ≡ length (now (out .entry))) ⌝ }
 {
     let a = q.axis;
-    let h = q.hint;
+    let b = q.hint;
     let l = q.limits;
-    match ticks::count_bold(a, h, 8194) {
-        Listed::Refused(n) => text_write::refusal_row(out, 0, number, n),
-        Listed::Ticks(_) => {
-            let list = ticks::key_points_bold(a, h, lent);
-            list_rows(number, a, l, list, out)
-        }
+    let h = Hint::Bold(b);
+    let n = ticks::refusal(a, h);
+    if n != 0 {
+        return text_write::refusal_row(out, 0, number, n);
     }
+    let list = ticks::key_points(a, h, lent);
+    list_rows(number, a, l, list, out)
 }
 
 // The answer to the line of that number.

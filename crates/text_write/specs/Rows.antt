@@ -5,11 +5,12 @@ use mathlib.Core.List.{List, [], _∷_, _++_}
 use Prim.Native.Nat.{ℕ}
 use lib.IntN.{ℤ, pos}
 use lib.Signed.{leZ}
-use Rattle.laws.specs.Numbers.{up}
+use Rattle.laws.specs.Numbers.{posPart}
 use Rattle.values.specs.declared.Value.{Value}
-use Rattle.values.specs.Values.{isDay}
+use Rattle.calendar.specs.Questions.{isDay}
 use Rattle.mapping.specs.declared.Pixel.{Pixel}
 use Rattle.mapping.specs.declared.Pixel.the-variants.{Refused, At}
+use Rattle.text_read.specs.Bytes.{lineFeed, spaceByte, exclamation, minusByte}
 use Rattle.text_write.specs.Texts.{decimalText, signedText, dateText, dateTimeText}
 
 -- what has a text: on the kinds 1 to 6 the head is a day of the calendar
@@ -19,19 +20,21 @@ pub record Writable (kind : ℤ) (v : Value) : Type 0 where
 -- kinds 1 to 3 are over dates, 4 to 6 over date-times, 7 over durations, of which the head is in whole seconds
 unfoldable pub tickText : ℤ → Value → List ℕ
 tickText kind v =
-    cond (leZ kind (pos 3)) (dateText (up (v .head)))
-    (cond (leZ kind (pos 6)) (dateTimeText (up (v .head)) (up (v .tail)))
+    cond (leZ kind (pos 3)) (dateText (posPart (v .head)))
+    (cond (leZ kind (pos 6)) (dateTimeText (posPart (v .head)) (posPart (v .tail)))
     (signedText (v .head)))
 
 -- the pixel, or '!' and the refusal's number
 abbrev pub markText : Pixel → List ℕ
 markText (At n) = signedText n
-markText (Refused q) = (33 ∷ []) ++ decimalText q
+markText (Refused q) = (exclamation ∷ []) ++ decimalText q
 
 -- number, space, tick, space, mark, LF
 abbrev pub rowText : ℕ → ℤ → Value → Pixel → List ℕ
-rowText number kind v p = decimalText number ++ (32 ∷ []) ++ tickText kind v ++ (32 ∷ []) ++ markText p ++ (10 ∷ [])
+rowText number kind v p =
+    decimalText number ++ (spaceByte ∷ []) ++ tickText kind v ++ (spaceByte ∷ []) ++ markText p ++ (lineFeed ∷ [])
 
 -- the same of a line that has no list: '-' for the tick
 abbrev pub refusalText : ℕ → ℕ → List ℕ
-refusalText number q = decimalText number ++ (32 ∷ []) ++ (45 ∷ []) ++ (32 ∷ []) ++ markText (Refused q) ++ (10 ∷ [])
+refusalText number q =
+    decimalText number ++ (spaceByte ∷ minusByte ∷ spaceByte ∷ []) ++ markText (Refused q) ++ (lineFeed ∷ [])

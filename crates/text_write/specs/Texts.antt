@@ -4,21 +4,24 @@ use mathlib.Core.Bool.{cond}
 use mathlib.Core.List.{List, [], _∷_, _++_}
 use Prim.Native.Nat.{ℕ, zero, suc, _+_, _/_, _%_}
 use lib.Dec.{ltb}
-use lib.IntN.{ℤ, pos, negsuc}
+use lib.IntN.{ℤ, pos, natAbs}
+use lib.Signed.{ltZ}
 use lib.ListN.{length}
 use lib.Seq.{sets}
+use Rattle.laws.specs.Units.{perSecond}
 use Rattle.calendar.specs.declared.Date.{Date}
 use Rattle.calendar.specs.Gregorian.{dateOf}
+use Rattle.text_read.specs.Bytes.{minusByte, zeroByte, colonByte, tByte}
 
 -- after a writer that was given the place `at` and the buffer `before`: the buffer is `before` with the text stored from
 -- `at` on, and r is the place after the text
 pub record Wrote (text : List ℕ) (at : ℕ) (before : List ℕ) (r : ℕ) (after : List ℕ) : Type 0 where
-  pub next : r ≡ at + length text
+  pub reached : r ≡ at + length text
   pub stored : after ≡ sets before at text
 
 -- a digit's byte
 abbrev pub digit : ℕ → ℕ
-digit n = 48 + n % 10
+digit n = zeroByte + n % 10
 
 -- the last w digits of n
 unfoldable pub fixedText : ℕ → ℕ → List ℕ
@@ -34,14 +37,17 @@ upToText (suc k) n = cond (ltb n 10) (digit n ∷ []) (upToText k (n / 10) ++ (d
 abbrev pub decimalText : ℕ → List ℕ
 decimalText n = upToText 20 n
 
--- a minus where the number is below 0
+-- a minus where the number is below 0, and the digits
 abbrev pub signedText : ℤ → List ℕ
-signedText (pos n) = decimalText n
-signedText (negsuc n) = 45 ∷ decimalText (suc n)
+signedText n = cond (ltZ n (pos 0)) (minusByte ∷ []) [] ++ decimalText (natAbs n)
+
+-- w digits of a, the separator, two digits of b, the separator, two digits of c
+abbrev pub tripleText : ℕ → ℕ → ℕ → ℕ → ℕ → List ℕ
+tripleText w sep a b c = fixedText w a ++ (sep ∷ []) ++ fixedText 2 b ++ (sep ∷ []) ++ fixedText 2 c
 
 -- YYYY-MM-DD
 abbrev pub ymdText : Date → List ℕ
-ymdText d = fixedText 4 (d .year) ++ (45 ∷ []) ++ fixedText 2 (d .month) ++ (45 ∷ []) ++ fixedText 2 (d .day)
+ymdText d = tripleText 4 minusByte (d .year) (d .month) (d .day)
 
 -- of a day number
 abbrev pub dateText : ℕ → List ℕ
@@ -49,8 +55,8 @@ dateText n = ymdText (dateOf n)
 
 -- hh:mm:ss of a second of the day
 abbrev pub timeText : ℕ → List ℕ
-timeText s = fixedText 2 (s / 3600) ++ (58 ∷ []) ++ fixedText 2 (s / 60 % 60) ++ (58 ∷ []) ++ fixedText 2 (s % 60)
+timeText s = tripleText 2 colonByte (s / 3600) (s / 60 % 60) (s % 60)
 
 -- YYYY-MM-DDThh:mm:ss of a day number and a nanosecond of the day, rounded down to the second
 abbrev pub dateTimeText : ℕ → ℕ → List ℕ
-dateTimeText n nano = dateText n ++ (84 ∷ []) ++ timeText (nano / 1000000000)
+dateTimeText n nano = dateText n ++ (tByte ∷ []) ++ timeText (nano / perSecond)

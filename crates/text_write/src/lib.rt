@@ -6,12 +6,13 @@ ghost use mathlib.Core.Path.{_≡_};
 ghost use mathlib.Core.List.{_∷_, []};
 ghost use Prim.Native.Nat.{_+_, _≤_, _<_};
 ghost use lib.ListN.{length};
-ghost use Rattle.laws.specs.Numbers.{up};
+ghost use Rattle.laws.specs.Numbers.{posPart};
+ghost use Rattle.calendar.specs.Questions.{lastDay};
 ghost use Rattle.text_write.specs.Texts.{Wrote, fixedText, upToText, decimalText, signedText};
-ghost use Rattle.text_write.specs.Texts.{dateText, timeText, dateTimeText};
+ghost use Rattle.text_write.specs.Texts.{tripleText, dateText, timeText, dateTimeText};
 ghost use Rattle.text_write.specs.Rows.{Writable, tickText, markText, rowText, refusalText};
 
-pub fn byte(out: &mut [u8], at: usize, b: u8) -> usize
+fn byte(out: &mut [u8], at: usize, b: u8) -> usize
     requires { ⌜ at < length (now out) ⌝ }
     ensures { λ r. ⌜ Wrote (b ∷ []) at (now (out .entry)) r (now (out .exit)) ⌝ }
     ensures { λ r. ⌜ (r ≡ at + 1) × (length (now (out .exit)) ≡ length (now (out .entry))) ⌝ }
@@ -35,7 +36,7 @@ pub fn bytes(out: &mut [u8], at: usize, text: &[u8]) -> usize
 }
 
 // The last w digits of n.
-pub fn fixed(out: &mut [u8], at: usize, w: usize, n: u64) -> usize
+fn fixed(out: &mut [u8], at: usize, w: usize, n: u64) -> usize
     requires { ⌜ at + w ≤ length (now out) ⌝ }
     ensures { λ r. ⌜ Wrote (fixedText w n) at (now (out .entry)) r (now (out .exit)) ⌝ }
     ensures { λ r. ⌜ (r ≡ at + w) × (length (now (out .exit)) ≡ length (now (out .entry))) ⌝ }
@@ -44,7 +45,7 @@ pub fn fixed(out: &mut [u8], at: usize, w: usize, n: u64) -> usize
         return at;
     }
     let p = fixed(out, at, w - 1, n / 10);
-    byte(out, p, 48 + (n % 10) as u8)
+    byte(out, p, b'0' + (n % 10) as u8)
 }
 
 // n with no zeros in front, where k digits suffice.
@@ -57,13 +58,13 @@ fn up_to(out: &mut [u8], at: usize, k: usize, n: u64) -> usize
         return at;
     }
     if n < 10 {
-        return byte(out, at, 48 + (n % 10) as u8);
+        return byte(out, at, b'0' + (n % 10) as u8);
     }
     let p = up_to(out, at, k - 1, n / 10);
-    byte(out, p, 48 + (n % 10) as u8)
+    byte(out, p, b'0' + (n % 10) as u8)
 }
 
-pub fn decimal(out: &mut [u8], at: usize, n: u64) -> usize
+fn decimal(out: &mut [u8], at: usize, n: u64) -> usize
     requires { ⌜ at + 20 ≤ length (now out) ⌝ }
     ensures { λ r. ⌜ Wrote (decimalText n) at (now (out .entry)) r (now (out .exit)) ⌝ }
     ensures { λ r. ⌜ (r ≤ at + 20) × (length (now (out .exit)) ≡ length (now (out .entry))) ⌝ }
@@ -71,31 +72,40 @@ pub fn decimal(out: &mut [u8], at: usize, n: u64) -> usize
     up_to(out, at, 20, n)
 }
 
-pub fn signed(out: &mut [u8], at: usize, n: i64) -> usize
+fn signed(out: &mut [u8], at: usize, n: i64) -> usize
     requires { ⌜ at + 21 ≤ length (now out) ⌝ }
     ensures { λ r. ⌜ Wrote (signedText n) at (now (out .entry)) r (now (out .exit)) ⌝ }
     ensures { λ r. ⌜ (r ≤ at + 21) × (length (now (out .exit)) ≡ length (now (out .entry))) ⌝ }
 {
+    let m = floats::unsigned_abs(n);
     if n < 0 {
-        let m = (-(n + 1)) as u64 + 1;
-        let p = byte(out, at, 45);
+        let p = byte(out, at, b'-');
         return decimal(out, p, m);
     }
-    decimal(out, at, n as u64)
+    decimal(out, at, m)
+}
+
+// w digits of a, the separator, two digits of b, the separator, two digits of c.
+fn triple(out: &mut [u8], at: usize, w: usize, sep: u8, a: u64, b: u64, c: u64) -> usize
+    requires { ⌜ at + (w + 6) ≤ length (now out) ⌝ }
+    ensures { λ r. ⌜ Wrote (tripleText w sep a b c) at (now (out .entry)) r (now (out .exit)) ⌝ }
+    ensures { λ r. ⌜ (r ≡ at + (w + 6)) × (length (now (out .exit)) ≡ length (now (out .entry))) ⌝ }
+{
+    let p = fixed(out, at, w, a);
+    let p = byte(out, p, sep);
+    let p = fixed(out, p, 2, b);
+    let p = byte(out, p, sep);
+    fixed(out, p, 2, c)
 }
 
 // YYYY-MM-DD
-pub fn date(out: &mut [u8], at: usize, day: u64) -> usize
-    requires { ⌜ ((1 ≤ day) × (day ≤ 3652059)) × (at + 10 ≤ length (now out)) ⌝ }
+fn date(out: &mut [u8], at: usize, day: u64) -> usize
+    requires { ⌜ ((1 ≤ day) × (day ≤ lastDay)) × (at + 10 ≤ length (now out)) ⌝ }
     ensures { λ r. ⌜ Wrote (dateText day) at (now (out .entry)) r (now (out .exit)) ⌝ }
     ensures { λ r. ⌜ (r ≡ at + 10) × (length (now (out .exit)) ≡ length (now (out .entry))) ⌝ }
 {
     let d = calendar::date_of(day);
-    let a = fixed(out, at, 4, d.year);
-    let b = byte(out, a, 45);
-    let c = fixed(out, b, 2, d.month);
-    let e = byte(out, c, 45);
-    fixed(out, e, 2, d.day)
+    triple(out, at, 4, b'-', d.year, d.month, d.day)
 }
 
 // hh:mm:ss
@@ -104,51 +114,56 @@ fn time(out: &mut [u8], at: usize, seconds: u64) -> usize
     ensures { λ r. ⌜ Wrote (timeText seconds) at (now (out .entry)) r (now (out .exit)) ⌝ }
     ensures { λ r. ⌜ (r ≡ at + 8) × (length (now (out .exit)) ≡ length (now (out .entry))) ⌝ }
 {
-    let a = fixed(out, at, 2, seconds / 3600);
-    let b = byte(out, a, 58);
-    let c = fixed(out, b, 2, seconds / 60 % 60);
-    let d = byte(out, c, 58);
-    fixed(out, d, 2, seconds % 60)
+    triple(
+        out,
+        at,
+        2,
+        b':',
+        seconds / 3600,
+        seconds / 60 % 60,
+        seconds % 60,
+    )
 }
 
 // YYYY-MM-DDThh:mm:ss
-pub fn date_time(out: &mut [u8], at: usize, day: u64, nano: u64) -> usize
-    requires { ⌜ ((1 ≤ day) × (day ≤ 3652059)) × (at + 19 ≤ length (now out)) ⌝ }
+fn date_time(out: &mut [u8], at: usize, day: u64, nano: u64) -> usize
+    requires { ⌜ ((1 ≤ day) × (day ≤ lastDay)) × (at + 19 ≤ length (now out)) ⌝ }
     ensures { λ r. ⌜ Wrote (dateTimeText day nano) at (now (out .entry)) r (now (out .exit)) ⌝ }
     ensures { λ r. ⌜ (r ≡ at + 19) × (length (now (out .exit)) ≡ length (now (out .entry))) ⌝ }
 {
     let a = date(out, at, day);
-    let b = byte(out, a, 84);
+    let b = byte(out, a, b'T');
     time(out, b, nano / 1000000000)
 }
 
 // How far above 0.
-fn above(n: i64) -> u64
-    ensures { λ r. ⌜ r ≡ up n ⌝ }
+fn pos_part(n: i64) -> u64
+    ensures { λ r. ⌜ r ≡ posPart n ⌝ }
 {
     if n < 0 {
         return 0;
     }
-    calendar::count(n)
+    calendar::as_count(n)
 }
 
 // The value in its kind's form.
-pub fn tick(out: &mut [u8], at: usize, kind: i64, v: Value) -> usize
+fn tick(out: &mut [u8], at: usize, kind: i64, v: Value) -> usize
     requires { ⌜ Writable kind v × (at + 21 ≤ length (now out)) ⌝ }
     ensures { λ r. ⌜ Wrote (tickText kind v) at (now (out .entry)) r (now (out .exit)) ⌝ }
     ensures { λ r. ⌜ (r ≤ at + 21) × (length (now (out .exit)) ≡ length (now (out .entry))) ⌝ }
 {
+    let day = pos_part(v.head);
     if kind <= 3 {
-        return date(out, at, above(v.head));
+        return date(out, at, day);
     }
     if kind <= 6 {
-        return date_time(out, at, above(v.head), above(v.tail));
+        return date_time(out, at, day, pos_part(v.tail));
     }
     signed(out, at, v.head)
 }
 
 // The pixel, or '!' and the refusal.
-pub fn mark(out: &mut [u8], at: usize, p: Pixel) -> usize
+fn mark(out: &mut [u8], at: usize, p: Pixel) -> usize
     requires { ⌜ at + 21 ≤ length (now out) ⌝ }
     ensures { λ r. ⌜ Wrote (markText p) at (now (out .entry)) r (now (out .exit)) ⌝ }
     ensures { λ r. ⌜ (r ≤ at + 21) × (length (now (out .exit)) ≡ length (now (out .entry))) ⌝ }
@@ -156,7 +171,7 @@ pub fn mark(out: &mut [u8], at: usize, p: Pixel) -> usize
     match p {
         Pixel::At(n) => signed(out, at, n),
         Pixel::Refused(q) => {
-            let b = byte(out, at, 33);
+            let b = byte(out, at, b'!');
             decimal(out, b, q as u64)
         }
     }
@@ -169,11 +184,11 @@ pub fn row(out: &mut [u8], at: usize, number: u64, kind: i64, v: Value, p: Pixel
     ensures { λ r. ⌜ (r ≤ at + 65) × (length (now (out .exit)) ≡ length (now (out .entry))) ⌝ }
 {
     let a = decimal(out, at, number);
-    let b = byte(out, a, 32);
+    let b = byte(out, a, b' ');
     let c = tick(out, b, kind, v);
-    let d = byte(out, c, 32);
+    let d = byte(out, c, b' ');
     let e = mark(out, d, p);
-    byte(out, e, 10)
+    byte(out, e, b'\n')
 }
 
 // A line of the output for a line that has no list.
@@ -183,9 +198,7 @@ pub fn refusal_row(out: &mut [u8], at: usize, number: u64, q: u8) -> usize
     ensures { λ r. ⌜ (r ≤ at + 65) × (length (now (out .exit)) ≡ length (now (out .entry))) ⌝ }
 {
     let a = decimal(out, at, number);
-    let b = byte(out, a, 32);
-    let c = byte(out, b, 45);
-    let d = byte(out, c, 32);
-    let e = mark(out, d, Pixel::Refused(q));
-    byte(out, e, 10)
+    let b = bytes(out, a, b" - ");
+    let c = mark(out, b, Pixel::Refused(q));
+    byte(out, c, b'\n')
 }

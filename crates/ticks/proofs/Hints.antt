@@ -1,7 +1,8 @@
 -- What the questions say of an axis and its hint, and of the finer axis. Assumes nothing.
 use mathlib.Core.Path.{_≡_, refl, sym, _∙_, subst}
 use mathlib.Core.Logic.{inl, inr}
-use mathlib.Core.Bool.{Bool, true, false, cond, _&&_, _||_}
+use mathlib.Core.Bool.{Bool, true, false, _&&_, _||_}
+use mathlib.Core.List.{[], _∷_, _++_}
 use Prim.Native.Nat.{ℕ, _*_, _≤_, _<_}
 use native.Mathlib.Omega.{arith}
 use lib.Dec.{leb}
@@ -9,227 +10,176 @@ use lib.IntN.{ℤ, pos, _-ℤ_}
 use mir.Syntax.{w64}
 use mir.Val.{SFits}
 use borrow.Author.Tests.{le-leb, lt-leb}
-use Rattle.laws.specs.Numbers.{within, up, dn}
-use Rattle.laws.specs.Asking.{firstNo}
+use Rattle.laws.specs.Numbers.{within, posPart, negPart}
+use Rattle.laws.specs.Asking.{ask, firstNo}
 use Rattle.laws.proofs.Asked.{told}
 use Rattle.laws.proofs.Signed.{same, count-fits}
-use Rattle.laws.proofs.Tests.{both-true}
+use Rattle.laws.proofs.Tests.{both-true, and-false}
 use Rattle.values.specs.declared.Value.{Value}
 use Rattle.values.specs.Values.{isDuration, isValue}
 use Rattle.values.proofs.Numbers.{within-true, either-true}
 use Rattle.axis.specs.declared.Axis.{Axis}
 use Rattle.axis.specs.declared.BoldPoints.{BoldPoints}
 use Rattle.axis.specs.declared.LightPoints.{LightPoints}
+use Rattle.axis.specs.declared.Hint.{Hint}
+use Rattle.axis.specs.declared.Hint.the-variants.{Bold, Light}
 use Rattle.axis.specs.Axes.{start, end}
-use Rattle.axis.specs.Questions.{known, ends, inOrder, hasPeriod}
+use Rattle.axis.specs.Questions.{isKind, known, ends, inOrder, hasPeriod, hintOn, axisQuestions}
 use Rattle.axis.proofs.Axes.{both-ends}
-use Rattle.axis.proofs.Questions.{other-kind, Hint, bold-range, light-range}
-use Rattle.plans.specs.Plans.{monthly, yearly, Accepted}
-use Rattle.plans.proofs.Plans.{monthly-dated, yearly-dated}
-use Rattle.ticks.specs.Hints as hints
-use Rattle.ticks.specs.Hints.{bold, light, size, finer, refined, listing, limit}
+use Rattle.axis.proofs.Questions as asks
+use Rattle.axis.proofs.Questions.{other-kind, bold-range, light-range}
+use Rattle.counting.specs.Counting.{monthly, yearly, sizeOf}
+use Rattle.counting.proofs.Counting.{monthly-dated, yearly-dated}
+use Rattle.plans.specs.Plans.{Accepted}
+use Rattle.plans.proofs.Cases.{choose}
+use Rattle.ticks.specs.Hints.{finer, refined, axisFor, limit}
 use Rattle.ticks.specs.Answers.{tickQuestions, periodQuestions}
 
--- ---- the kinds that have a finer one
-data Coarse : ℤ → Type 0 where
-  two : Coarse (pos 2)
-  three : Coarse (pos 3)
-  five : Coarse (pos 5)
-  six : Coarse (pos 6)
+-- ---- the kinds that have a finer one, which is over the same values
+record Coarse (k : ℤ) : Type 0 where
+  known : within (pos 1) (k -ℤ pos 1) (pos 7) ≡ true
+  value : (v : Value) → isValue k v ≡ true → isValue (k -ℤ pos 1) v ≡ true
+  days : isDuration (k -ℤ pos 1) ≡ false
+  many : within (pos 4) (k -ℤ pos 1) (pos 7) ≡ true → within (pos 4) k (pos 7) ≡ true
+  fits : SFits w64 (k -ℤ pos 1)
 
-kind-is : (k m : ℤ) → within m k m ≡ true → m ≡ k
-kind-is k m e = let r = within-true m k m e in same m k (omega arith)
-
-coarse : (a : Axis) → monthly a || yearly a ≡ true → Coarse (a .kind)
-unfolding monthly yearly
-coarse a e =
-    elim (either-true (within (pos 2) (a .kind) (pos 2) || within (pos 5) (a .kind) (pos 5)) (within (pos 3) (a .kind) (pos 3)
-    || within (pos 6) (a .kind) (pos 6)) e) [
-      | inl x ↦
-          elim (either-true (within (pos 2) (a .kind) (pos 2)) (within (pos 5) (a .kind) (pos 5)) x) [
-            | inl y ↦ subst (λ (k : ℤ). Coarse k) (kind-is (a .kind) (pos 2) y) two
-            | inr y ↦ subst (λ (k : ℤ). Coarse k) (kind-is (a .kind) (pos 5) y) five
-          ]
-      | inr x ↦
-          elim (either-true (within (pos 3) (a .kind) (pos 3)) (within (pos 6) (a .kind) (pos 6)) x) [
-            | inl y ↦ subst (λ (k : ℤ). Coarse k) (kind-is (a .kind) (pos 3) y) three
-            | inr y ↦ subst (λ (k : ℤ). Coarse k) (kind-is (a .kind) (pos 6) y) six
-          ]
-    ]
-
-pub no-duration : (a : Axis) → monthly a || yearly a ≡ true → isDuration (a .kind) ≡ false
-no-duration a e =
-    elim (either-true (monthly a) (yearly a) e) [
-      | inl x ↦ monthly-dated a x
-      | inr x ↦ yearly-dated a x
-    ]
-
--- the finer kind is over the same values
-finer-known : {k : ℤ} → Coarse k → within (pos 1) (k -ℤ pos 1) (pos 7) ≡ true
-finer-known two = refl
-finer-known three = refl
-finer-known five = refl
-finer-known six = refl
-
-finer-value : {k : ℤ} → Coarse k → (v : Value) → isValue k v ≡ true → isValue (k -ℤ pos 1) v ≡ true
+two : Coarse (pos 2)
 unfolding isValue
-finer-value two v e = e
-finer-value three v e = e
-finer-value five v e = e
-finer-value six v e = e
+two = record { known = refl; value = λ v e. e; days = refl; many = λ e. e; fits = count-fits 1 (omega arith) }
 
-finer-days : {k : ℤ} → Coarse k → isDuration (k -ℤ pos 1) ≡ false
-finer-days two = refl
-finer-days three = refl
-finer-days five = refl
-finer-days six = refl
+three : Coarse (pos 3)
+unfolding isValue
+three = record { known = refl; value = λ v e. e; days = refl; many = λ e. e; fits = count-fits 2 (omega arith) }
 
-finer-many : {k : ℤ} → Coarse k → within (pos 4) (k -ℤ pos 1) (pos 7) ≡ true → within (pos 4) k (pos 7) ≡ true
-finer-many two e = e
-finer-many three e = e
-finer-many five e = refl
-finer-many six e = e
+five : Coarse (pos 5)
+unfolding isValue
+five = record { known = refl; value = λ v e. e; days = refl; many = λ e. refl; fits = count-fits 4 (omega arith) }
 
-finer-fits : {k : ℤ} → Coarse k → SFits w64 (k -ℤ pos 1)
-finer-fits two = count-fits 1 (omega arith)
-finer-fits three = count-fits 2 (omega arith)
-finer-fits five = count-fits 4 (omega arith)
-finer-fits six = count-fits 5 (omega arith)
+six : Coarse (pos 6)
+unfolding isValue
+six = record { known = refl; value = λ v e. e; days = refl; many = λ e. e; fits = count-fits 5 (omega arith) }
 
-pub kind-fits : (a : Axis) → monthly a || yearly a ≡ true → SFits w64 (a .kind -ℤ pos 1)
-kind-fits a e = finer-fits (coarse a e)
+module _ (a : Axis) where
+  of-kind : (P : ℤ → Type 0) (m : ℕ) → isKind m a ≡ true → P (pos m) → P (a .kind)
+  of-kind P m e p = let r = within-true (pos m) (a .kind) (pos m) e in subst P (same (pos m) (a .kind) (omega arith)) p
 
-finer-accepted : (a : Axis) (n : ℕ) → monthly a || yearly a ≡ true → Accepted a n → Accepted (finer a) n
-unfolding known ends inOrder
-finer-accepted a n e q =
-    let c = coarse a e in
-    let v = both-ends a (q .real) in
-    record {
-      kind = finer-known c;
-      real = rw (finer-value c (start a) (v .first), finer-value c (end a) (v .second));
-      order = q .order;
-      near = sym (other-kind (finer a) (finer-days c));
-      most = q .most;
-      some = λ m. q .some (finer-many c m);
-    }
+  module _ (e : monthly a || yearly a ≡ true) where
+    coarse : Coarse (a .kind)
+    unfolding monthly yearly
+    coarse =
+        elim (either-true (monthly a) (yearly a) e) [
+          | inl x ↦ elim (either-true (isKind 2 a) (isKind 5 a) x) [
+            | inl y ↦ of-kind Coarse 2 y two
+            | inr y ↦ of-kind Coarse 5 y five
+          ]
+          | inr x ↦ elim (either-true (isKind 3 a) (isKind 6 a) x) [
+            | inl y ↦ of-kind Coarse 3 y three
+            | inr y ↦ of-kind Coarse 6 y six
+          ]
+        ]
 
-pub refined-accepted : (a : Axis) (n b : ℕ) → Accepted a n → Accepted (refined b a) n
-unfolding refined
-refined-accepted a n b q = go ((monthly a || yearly a) && leb (size a) (2 * b)) refl
-  where
-    go : (t : Bool) → (monthly a || yearly a) && leb (size a) (2 * b) ≡ t → Accepted (cond t (finer a) a) n
-    go true e = finer-accepted a n (both-true (monthly a || yearly a) (leb (size a) (2 * b)) e .0) q
-    go false e = q
+    pub no-duration : isDuration (a .kind) ≡ false
+    no-duration = elim (either-true (monthly a) (yearly a) e) [ inl x ↦ monthly-dated a x | inr x ↦ yearly-dated a x ]
 
--- ---- the ends stay
-pub refined-ends : (a : Axis) (b : ℕ) → (start (refined b a) ≡ start a) × (end (refined b a) ≡ end a)
-unfolding refined
-refined-ends a b = go ((monthly a || yearly a) && leb (size a) (2 * b))
-  where
-    go : (t : Bool) → (start (cond t (finer a) a) ≡ start a) × (end (cond t (finer a) a) ≡ end a)
-    go true = (refl, refl)
-    go false = (refl, refl)
+    pub kind-fits : SFits w64 (a .kind -ℤ pos 1)
+    kind-fits = coarse .fits
 
--- ---- as the code finds it
+    finer-accepted : (n : ℕ) → Accepted a n → Accepted (finer a) n
+    unfolding known ends inOrder
+    finer-accepted n q =
+        let v = both-ends a (q .real) in
+        record {
+          kind = coarse .known;
+          real = rw (coarse .value (start a) (v .first), coarse .value (end a) (v .second));
+          order = q .order;
+          near = sym (other-kind (finer a) (coarse .days));
+          most = q .most;
+          some = λ m. q .some (coarse .many m);
+        }
+
 module _ (a : Axis) (b : ℕ) where
+  pub refined-accepted : (n : ℕ) → Accepted a n → Accepted (refined b a) n
+  unfolding refined
+  refined-accepted n q =
+      choose (λ (x : Axis). Accepted x n) ((monthly a || yearly a) && leb (sizeOf a) (2 * b))
+      (λ e. finer-accepted a (both-true (monthly a || yearly a) (leb (sizeOf a) (2 * b)) e .0) n q) (λ _. q)
+
+  -- the ends stay
+  refined-ends : (start (refined b a) ≡ start a) × (end (refined b a) ≡ end a)
+  unfolding refined
+  refined-ends =
+      choose (λ (x : Axis). (start x ≡ start a) × (end x ≡ end a)) ((monthly a || yearly a) && leb (sizeOf a) (2 * b))
+      (λ _. (refl, refl)) (λ _. (refl, refl))
+
+  -- ---- as the code finds it
   pub stays-fine : monthly a || yearly a ≡ false → a ≡ refined b a
   unfolding refined
   stays-fine e = rw e
 
-  pub stays-coarse : 2 * b < size a → a ≡ refined b a
+  pub stays-coarse : 2 * b < sizeOf a → a ≡ refined b a
   unfolding refined
-  stays-coarse h = go (monthly a || yearly a)
-    where
-      go : (t : Bool) → a ≡ cond (t && leb (size a) (2 * b)) (finer a) a
-      go true = rw (lt-leb (size a) (2 * b) h)
-      go false = refl
+  stays-coarse h = rw (lt-leb (sizeOf a) (2 * b) h, and-false (monthly a || yearly a))
 
-  pub goes-finer : monthly a || yearly a ≡ true → size a ≤ 2 * b → finer a ≡ refined b a
+  pub goes-finer : monthly a || yearly a ≡ true → sizeOf a ≤ 2 * b → finer a ≡ refined b a
   unfolding refined
-  goes-finer e h = rw (e, le-leb (size a) (2 * b) h)
+  goes-finer e h = rw (e, le-leb (sizeOf a) (2 * b) h)
 
 -- ---- what no refusal says
-pub bold-accepted : (a : Axis) (h : BoldPoints) → firstNo (tickQuestions a (bold h)) ≡ 0 → Accepted a (up (h .n))
-    × (dn (h .n) ≡ 0)
-bold-accepted a h e =
-    let row = tickQuestions a (bold h) in
-    let r = bold-range a h (told 6 row tt e) in (
-      record {
-        kind = told 1 row tt e;
-        real = told 3 row tt e;
-        order = told 4 row tt e;
-        near = told 5 row tt e;
-        most =
-            r .most;
-        some = r .some;
-      },
-      r .none-below,
-    )
-
-pub record LightAccepted (a : Axis) (h : LightPoints) : Type 0 where
-  pub axis : Accepted a (up (h .n))
-  pub limit-dn : dn (h .n) ≡ 0
-  pub bold-dn : dn (h .bold) ≡ 0
-  pub bold-most : up (h .bold) ≤ 4096
-
-pub light-accepted : (a : Axis) (h : LightPoints) → firstNo (tickQuestions a (light h)) ≡ 0 → LightAccepted a h
-light-accepted a h e =
-    let row = tickQuestions a (light h) in
-    let (r, z, m) = light-range a h (told 6 row tt e) in
+-- of an axis and of question 6, where N is n
+row-accepted : (a : Axis) (has hint : Bool) (n : ℤ) → firstNo (axisQuestions has a ++ (ask 6 hint ∷ [])) ≡ 0 →
+    (hint ≡ true → asks.Hint a n) → Accepted a (posPart n)
+row-accepted a has hint n e f =
+    let row = axisQuestions has a ++ (ask 6 hint ∷ []) in
+    let r = f (told 6 row tt e) in
     record {
-      axis = record {
-        kind = told 1 row tt e;
-        real = told 3 row tt e;
-        order = told 4 row tt e;
-        near = told 5 row tt e;
-        most =
-            r .most;
-        some = r .some;
-      };
-      limit-dn = r .none-below;
-      bold-dn = z;
-      bold-most = m;
+      kind = told 1 row tt e;
+      real = told 3 row tt e;
+      order = told 4 row tt e;
+      near = told 5 row tt e;
+      most = r .most;
+      some = r .some;
     }
 
-pub period-accepted : (a : Axis) (h : BoldPoints) → firstNo (periodQuestions a h) ≡ 0 → Accepted a (up (h .n))
-    × (hasPeriod a ≡ true) × (dn (h .n) ≡ 0)
-period-accepted a h e =
-    let row = periodQuestions a h in
-    let r = bold-range a h (told 6 row tt e) in (
-      record {
-        kind = told 1 row tt e;
-        real = told 3 row tt e;
-        order = told 4 row tt e;
-        near = told 5 row tt e;
-        most =
-            r .most;
-        some = r .some;
-      },
-      told 2 row tt e,
-      r .none-below,
-    )
+module _ (a : Axis) where
+  pub accepted : (h : Hint) → firstNo (tickQuestions a h) ≡ 0 → Accepted a (limit h)
+  accepted (Bold h) e = row-accepted a true (hintOn a (Bold h)) (h .n) e (bold-range a h)
+  accepted (Light h) e = row-accepted a true (hintOn a (Light h)) (h .n) e (λ y. light-range a h y .0)
 
--- either hint: the axis that lists
-pub listing-accepted : (a : Axis) (h : hints.Hint) → firstNo (tickQuestions a h) ≡ 0 → Accepted (listing a h) (limit h)
-listing-accepted a (bold h) e = bold-accepted a h e .0
-listing-accepted a (light h) e =
-    let l = light-accepted a h e in
-    let b = up (h .bold) in
-    refined-accepted (refined b a) (up (h .n)) b (refined-accepted a (up (h .n)) b (l .axis))
+  -- the hint's numbers
+  pub bold-count : (h : BoldPoints) → firstNo (tickQuestions a (Bold h)) ≡ 0 → negPart (h .n) ≡ 0
+  bold-count h e = bold-range a h (told 6 (tickQuestions a (Bold h)) tt e) .none-below
 
-pub listing-ends : (a : Axis) (h : hints.Hint) → (start (listing a h) ≡ start a) × (end (listing a h) ≡ end a)
-listing-ends a (bold h) = (refl, refl)
-listing-ends a (light h) =
-    let b = up (h .bold) in
-    let x = refined-ends (refined b a) b in
-    let y = refined-ends a b in
-    (x .0 ∙ y .0, x .1 ∙ y .1)
+  pub light-counts : (h : LightPoints) → firstNo (tickQuestions a (Light h)) ≡ 0 →
+      (negPart (h .n) ≡ 0) × (negPart (h .bold) ≡ 0) × (posPart (h .bold) ≤ 4096)
+  light-counts h e = let (r, z, m) = light-range a h (told 6 (tickQuestions a (Light h)) tt e) in (r .none-below, z, m)
 
--- kinds 4 and 7 have a hint of 1 at least
-pub period-some : (a : Axis) (n : ℕ) → Accepted a n → hasPeriod a ≡ true → 1 ≤ n
-unfolding hasPeriod
-period-some a n q e =
-    elim (either-true (within (pos 4) (a .kind) (pos 4)) (within (pos 7) (a .kind) (pos 7)) e) [
-      | inl x ↦ q .some (rw (← kind-is (a .kind) (pos 4) x) refl)
-      | inr x ↦ q .some (rw (← kind-is (a .kind) (pos 7) x) refl)
-    ]
+  -- the axis that lists
+  pub listing-accepted : (h : Hint) → firstNo (tickQuestions a h) ≡ 0 → Accepted (axisFor a h) (limit h)
+  listing-accepted (Bold h) e = accepted (Bold h) e
+  listing-accepted (Light h) e =
+      let b = posPart (h .bold) in
+      refined-accepted (refined b a) b (posPart (h .n)) (refined-accepted a b (posPart (h .n)) (accepted (Light h) e))
+
+  pub listing-ends : (h : Hint) → (start (axisFor a h) ≡ start a) × (end (axisFor a h) ≡ end a)
+  listing-ends (Bold h) = (refl, refl)
+  listing-ends (Light h) =
+      let b = posPart (h .bold) in
+      let x = refined-ends (refined b a) b in
+      let y = refined-ends a b in
+      (x .0 ∙ y .0, x .1 ∙ y .1)
+
+  -- ---- the period: kinds 4 and 7 have a hint of 1 at least
+  many : hasPeriod a ≡ true → within (pos 4) (a .kind) (pos 7) ≡ true
+  unfolding hasPeriod
+  many e =
+      elim (either-true (isKind 4 a) (isKind 7 a) e) [
+        | inl x ↦ of-kind a (λ (k : ℤ). within (pos 4) k (pos 7) ≡ true) 4 x refl
+        | inr x ↦ of-kind a (λ (k : ℤ). within (pos 4) k (pos 7) ≡ true) 7 x refl
+      ]
+
+  pub period-accepted : (h : BoldPoints) → firstNo (periodQuestions a h) ≡ 0 →
+      Accepted a (posPart (h .n)) × (1 ≤ posPart (h .n)) × (negPart (h .n) ≡ 0)
+  period-accepted h e =
+      let row = periodQuestions a h in
+      let q = row-accepted a (hasPeriod a) (hintOn a (Bold h)) (h .n) e (bold-range a h) in
+      (q, q .some (many (told 2 row tt e)), bold-range a h (told 6 row tt e) .none-below)

@@ -6,44 +6,44 @@ use Prim.Native.Nat.{ℕ, zero, suc, _*_}
 use native.Mathlib.Omega.{arith}
 use lib.IntN.{ℤ}
 use lib.ListN.{length, take}
-use Rattle.laws.specs.Asking.{firstNo}
+use Rattle.laws.specs.Asking.{firstNo, unless}
 use Rattle.values.specs.declared.Value.{Value}
 use Rattle.axis.specs.declared.Axis.{Axis}
+use Rattle.axis.specs.declared.Hint.{Hint}
 use Rattle.axis.specs.Axes.{start, end}
-use Rattle.steps.specs.declared.Listed.the-variants.{Ticks}
+use Rattle.steps.specs.declared.Listed.the-variants.{Refused, Ticks}
 use Rattle.steps.specs.Progression.{Sound}
-use Rattle.steps.specs.Listing.{ticks}
+use Rattle.steps.specs.Listing.{ticks, listedOf, lentAfter}
 use Rattle.steps.specs.Promise.{Fine}
 use Rattle.steps.proofs.Demand.{read-fine}
-use Rattle.plans.specs.Plans.{tick}
 use Rattle.plans.proofs.Promise.{Good, plan-good}
-use Rattle.ticks.specs.Hints.{Hint, limit, listing, planFor}
-use Rattle.ticks.specs.Answers.{tickQuestions, answered, written, ticksAnswer, ticksWritten}
+use Rattle.ticks.specs.Hints.{limit, axisFor, planFor}
+use Rattle.ticks.specs.Answers.{tickQuestions, ticksAnswer, ticksWritten}
 use Rattle.ticks.proofs.Hints.{listing-accepted, listing-ends}
 
 module _ (a : Axis) (h : Hint) (z : firstNo (tickQuestions a h) ≡ 0) where
-  good : Good (listing a h) (limit h) (planFor a h)
-  good = plan-good (listing a h) (limit h) (listing-accepted a h z)
+  good : Good (axisFor a h) (limit h) (planFor a h)
+  good = plan-good (axisFor a h) (limit h) (listing-accepted a h z)
 
   -- the plan is in the ranges in which it is listed
   pub plan-sound : Sound (planFor a h)
   plan-sound = good .sound
 
   -- at most N + 1 ticks, each later than the one before, none after the end, none before the whole second of the start
-  pub plan-fine : Fine (limit h) (tick (start a)) (tick (end a)) (ticks (planFor a h))
+  pub plan-fine : Fine (limit h) (start a) (end a) (ticks (planFor a h))
   plan-fine =
       let (s, e) = listing-ends a h in
-      subst (λ (v : Value). Fine (limit h) (tick v) (tick (end a)) (ticks (planFor a h))) s
-      (subst (λ (v : Value). Fine (limit h) (tick (start (listing a h))) (tick v) (ticks (planFor a h))) e (good .fine))
+      subst (λ (v : Value). Fine (limit h) v (end a) (ticks (planFor a h))) s
+      (subst (λ (v : Value). Fine (limit h) (start (axisFor a h)) v (ticks (planFor a h))) e (good .fine))
 
 -- the ticks that are read from the lent numbers after an accepted call
 pub list-fine : (a : Axis) (h : Hint) (d : List ℤ) (c : ℕ) → ticksAnswer a h (length d) ≡ Ticks c →
-    Fine (limit h) (tick (start a)) (tick (end a)) (take (2 * c) (ticksWritten a h d))
+    Fine (limit h) (start a) (end a) (take (2 * c) (ticksWritten a h d))
 unfolding ticksAnswer ticksWritten
 list-fine a h d c = go (firstNo (tickQuestions a h)) (plan-fine a h)
   where
-    go : (q : ℕ) → (q ≡ 0 → Fine (limit h) (tick (start a)) (tick (end a)) (ticks (planFor a h))) →
-        answered q (planFor a h) (length d) ≡ Ticks c → Fine (limit h) (tick (start a)) (tick (end a))
-        (take (2 * c) (written q (planFor a h) d))
-    go zero f e = read-fine (planFor a h) d (limit h) c (tick (start a)) (tick (end a)) (f refl) e
+    go : (q : ℕ) → (q ≡ 0 → Fine (limit h) (start a) (end a) (ticks (planFor a h))) →
+        unless q Refused (listedOf (planFor a h) (length d)) ≡ Ticks c → Fine (limit h) (start a) (end a)
+        (take (2 * c) (unless q (λ n. d) (lentAfter (planFor a h) d)))
+    go zero f e = read-fine (planFor a h) d (limit h) c (start a) (end a) (f refl) e
     go (suc q) f e = let w : _≡_ {A = ℕ} 0 1 = cc in absurd (let x : ⊥ = omega arith in x)

@@ -1,56 +1,35 @@
--- Hints, and a light hint's way to the finer axis. Definitions only.
+-- What a hint lists: at most N + 1 ticks, and with a light hint those of a finer axis. Definitions only.
 use mathlib.Core.Bool.{cond, _&&_, _||_}
-use Prim.Native.Nat.{ℕ, _+_, _-_, _*_}
+use Prim.Native.Nat.{ℕ, _*_}
 use lib.Dec.{leb}
 use lib.IntN.{pos, _-ℤ_}
-use Rattle.laws.specs.Numbers.{up}
-use Rattle.calendar.specs.declared.Date.{Date}
-use Rattle.calendar.specs.Gregorian.{dateOf}
+use Rattle.laws.specs.Numbers.{posPart}
 use Rattle.axis.specs.declared.Axis.{Axis}
-use Rattle.axis.specs.declared.BoldPoints.{BoldPoints}
-use Rattle.axis.specs.declared.LightPoints.{LightPoints}
+use Rattle.axis.specs.declared.Hint.{Hint}
+use Rattle.axis.specs.declared.Hint.the-variants.{Bold, Light}
+use Rattle.axis.specs.Axes.{axisOf}
+use Rattle.counting.specs.Counting.{monthly, yearly, sizeOf}
 use Rattle.steps.specs.declared.Steps.{Steps}
-use Rattle.plans.specs.Days.{fromDay, toDay}
-use Rattle.plans.specs.Plans.{monthly, yearly, planOf}
-
--- what discrete calls the size of a monthly or a yearly axis
-abbrev pub months : Date → Date → ℕ
-months s e = 12 * (e .year - s .year) + e .month + 1 - s .month
-
-abbrev pub years : Date → Date → ℕ
-years s e = e .year + 1 - s .year
-
-unfoldable pub size : Axis → ℕ
-size a = cond (monthly a) (months (dateOf (fromDay a)) (dateOf (toDay a))) (years (dateOf (fromDay a)) (dateOf (toDay a)))
+use Rattle.plans.specs.Plans.{planOf}
 
 -- months for years, and dates or date-times for months
 abbrev pub finer : Axis → Axis
-finer a =
-    record {
-      kind = a .kind -ℤ pos 1;
-      «start_head» = a .«start_head»;
-      «start_tail» = a .«start_tail»;
-      «end_head» = a .«end_head»;
-      «end_tail» = a .«end_tail»;
-    }
+finer a = axisOf (a .kind -ℤ pos 1) (a .«start_head») (a .«start_tail») (a .«end_head») (a .«end_tail»)
 
 -- the finer axis, if the size is at most twice the bold count
 unfoldable pub refined : ℕ → Axis → Axis
-refined bold a = cond ((monthly a || yearly a) && leb (size a) (2 * bold)) (finer a) a
-
-pub data Hint : Type 0 where
-  bold : BoldPoints → Hint
-  light : LightPoints → Hint
+refined bold a = cond ((monthly a || yearly a) && leb (sizeOf a) (2 * bold)) (finer a) a
 
 -- N
 abbrev pub limit : Hint → ℕ
-limit (bold h) = up (h .n)
-limit (light h) = up (h .n)
+limit (Bold h) = posPart (h .n)
+limit (Light h) = posPart (h .n)
 
 -- the axis that lists: years go to months with the same hint, which go to dates if they fit too
-abbrev pub listing : Axis → Hint → Axis
-listing a (bold h) = a
-listing a (light h) = refined (up (h .bold)) (refined (up (h .bold)) a)
+abbrev pub axisFor : Axis → Hint → Axis
+axisFor a (Bold h) = a
+axisFor a (Light h) = refined (posPart (h .bold)) (refined (posPart (h .bold)) a)
 
+-- the list that a hint gets
 abbrev pub planFor : Axis → Hint → Steps
-planFor a h = planOf (listing a h) (limit h)
+planFor a h = planOf (axisFor a h) (limit h)

@@ -2,7 +2,7 @@
 // numbers. Count and list come from one plan.
 use axis::Axis;
 use axis::BoldPoints;
-use axis::LightPoints;
+use axis::Hint;
 use steps::Listed;
 use steps::Steps;
 ghost use mathlib.Core.Path.{_≡_};
@@ -12,8 +12,7 @@ ghost use lib.ListN.{length};
 ghost use denote.Ref.{ptr};
 ghost use Rattle.laws.specs.Asking.{firstNo};
 ghost use Rattle.axis.specs.Questions.{ends};
-ghost use Rattle.plans.specs.Days.{Dated};
-ghost use Rattle.ticks.specs.Hints.{size, refined, bold, light, planFor};
+ghost use Rattle.ticks.specs.Hints.{refined, planFor};
 ghost use Rattle.ticks.specs.Answers.{tickQuestions, ticksAnswer, ticksWritten, ticksHanded};
 ghost use Rattle.ticks.specs.Answers.{periodQuestions, periodAnswer};
 
@@ -24,126 +23,78 @@ pub enum PeriodAnswer {
     Is(u64),
 }
 
-// How many months or years an axis counts.
-fn size(a: Axis) -> u64
-    requires { ⌜ Dated a ⌝ }
-    ensures { λ r. ⌜ r ≡ size a ⌝ }
-{
-    let s = calendar::date_of(plans::from_day(a));
-    let e = calendar::date_of(plans::to_day(a));
-    if plans::monthly(a) {
-        return steps::less(12 * steps::less(e.year, s.year) + e.month + 1, s.month);
-    }
-    steps::less(e.year + 1, s.year)
-}
-
 // The finer axis, if the size is at most twice the bold count.
 fn refined(bold: u64, a: Axis) -> Axis
     requires { ⌜ (bold ≤ 4096) × (ends a ≡ true) ⌝ }
     ensures { λ r. ⌜ r ≡ refined bold a ⌝ }
 {
-    if !(plans::monthly(a) | plans::yearly(a)) {
+    if !(counting::monthly(a) | counting::yearly(a)) {
         return a;
     }
-    if 2 * bold < size(a) {
+    if 2 * bold < counting::size_of(a) {
         return a;
     }
-    Axis {
-        kind: a.kind - 1,
-        start_head: a.start_head,
-        start_tail: a.start_tail,
-        end_head: a.end_head,
-        end_tail: a.end_tail,
-    }
+    axis::axis_of(
+        a.kind - 1,
+        a.start_head,
+        a.start_tail,
+        a.end_head,
+        a.end_tail,
+    )
 }
 
 // The questions before the list's length is known.
-fn bold_refusal(a: Axis, h: BoldPoints) -> u8
-    ensures { λ r. ⌜ r ≡ firstNo (tickQuestions a (bold h)) ⌝ }
+pub fn refusal(a: Axis, h: Hint) -> u8
+    ensures { λ r. ⌜ r ≡ firstNo (tickQuestions a h) ⌝ }
 {
     let q = axis::axis_refusal(a, true);
-    axis::ask(q, 6, axis::bold_hint(a, h))
+    axis::then_ask(q, 6, axis::hint_on(a, h))
 }
 
-fn light_refusal(a: Axis, h: LightPoints) -> u8
-    ensures { λ r. ⌜ r ≡ firstNo (tickQuestions a (light h)) ⌝ }
+// With a light hint years may go to months, and these to dates or date-times.
+fn plan_for(a: Axis, h: Hint) -> Steps
+    requires { ⌜ firstNo (tickQuestions a h) ≡ 0 ⌝ }
+    ensures { λ r. ⌜ r ≡ planFor a h ⌝ }
 {
-    let q = axis::axis_refusal(a, true);
-    axis::ask(q, 6, axis::light_hint(a, h))
+    match h {
+        Hint::Bold(b) => plans::plan_of(a, calendar::as_count(b.n)),
+        Hint::Light(l) => {
+            let bold = calendar::as_count(l.bold);
+            let once = refined(bold, a);
+            plans::plan_of(refined(bold, once), calendar::as_count(l.n))
+        }
+    }
 }
 
-fn bold_plan(a: Axis, h: BoldPoints) -> Steps
-    requires { ⌜ firstNo (tickQuestions a (bold h)) ≡ 0 ⌝ }
-    ensures { λ r. ⌜ r ≡ planFor a (bold h) ⌝ }
+// How many ticks a hint gets, where lent_len numbers are lent.
+pub fn count(a: Axis, h: Hint, lent_len: u64) -> Listed
+    ensures { λ r. ⌜ r ≡ ticksAnswer a h «lent_len» ⌝ }
 {
-    plans::plan_of(a, calendar::count(h.n))
-}
-
-// Years may go to months, and these to dates or date-times.
-fn light_plan(a: Axis, h: LightPoints) -> Steps
-    requires { ⌜ firstNo (tickQuestions a (light h)) ≡ 0 ⌝ }
-    ensures { λ r. ⌜ r ≡ planFor a (light h) ⌝ }
-{
-    let bold = calendar::count(h.bold);
-    let once = refined(bold, a);
-    plans::plan_of(refined(bold, once), calendar::count(h.n))
-}
-
-// How many ticks a bold hint gets, where lent_len numbers are lent.
-pub fn count_bold(a: Axis, h: BoldPoints, lent_len: u64) -> Listed
-    ensures { λ r. ⌜ r ≡ ticksAnswer a (bold h) «lent_len» ⌝ }
-{
-    let q = bold_refusal(a, h);
+    let q = refusal(a, h);
     if q != 0 {
         return Listed::Refused(q);
     }
-    steps::count(bold_plan(a, h), lent_len)
-}
-
-pub fn count_light(a: Axis, h: LightPoints, lent_len: u64) -> Listed
-    ensures { λ r. ⌜ r ≡ ticksAnswer a (light h) «lent_len» ⌝ }
-{
-    let q = light_refusal(a, h);
-    if q != 0 {
-        return Listed::Refused(q);
-    }
-    steps::count(light_plan(a, h), lent_len)
+    steps::count(plan_for(a, h), lent_len)
 }
 
 // The same, and the list at the front of the lent numbers.
-pub fn list_bold(a: Axis, h: BoldPoints, lent: &mut [i64]) -> Listed
-    ensures { λ r. ⌜ (r ≡ ticksAnswer a (bold h) (length (now (lent .entry)))) × (now (lent .exit) ≡ ticksWritten a (bold h) (now (lent .entry))) ⌝ }
+pub fn list(a: Axis, h: Hint, lent: &mut [i64]) -> Listed
+    ensures { λ r. ⌜ r ≡ ticksAnswer a h (length (now (lent .entry))) ⌝ }
+    ensures { λ r. ⌜ now (lent .exit) ≡ ticksWritten a h (now (lent .entry)) ⌝ }
 {
-    let q = bold_refusal(a, h);
+    let q = refusal(a, h);
     if q != 0 {
         return Listed::Refused(q);
     }
-    steps::list(bold_plan(a, h), lent)
-}
-
-pub fn list_light(a: Axis, h: LightPoints, lent: &mut [i64]) -> Listed
-    ensures { λ r. ⌜ (r ≡ ticksAnswer a (light h) (length (now (lent .entry)))) × (now (lent .exit) ≡ ticksWritten a (light h) (now (lent .entry))) ⌝ }
-{
-    let q = light_refusal(a, h);
-    if q != 0 {
-        return Listed::Refused(q);
-    }
-    steps::list(light_plan(a, h), lent)
+    steps::list(plan_for(a, h), lent)
 }
 
 // The part of the lent numbers that holds the list; empty when refused.
-pub fn key_points_bold(a: Axis, h: BoldPoints, lent: &mut [i64]) -> &mut [i64]
-    ensures { λ r. ⌜ (now r ≡ ticksHanded a (bold h) (length (now (lent .entry)))) × (ptr r ≡ ptr (lent .entry)) ⌝ }
+pub fn key_points(a: Axis, h: Hint, lent: &mut [i64]) -> &mut [i64]
+    ensures { λ r. ⌜ now r ≡ ticksHanded a h (length (now (lent .entry))) ⌝ }
+    ensures { λ r. ⌜ ptr r ≡ ptr (lent .entry) ⌝ }
 {
-    let n = steps::count_of(list_bold(a, h, lent));
-    let k = (2 * n) as usize;
-    &mut lent[..k]
-}
-
-pub fn key_points_light(a: Axis, h: LightPoints, lent: &mut [i64]) -> &mut [i64]
-    ensures { λ r. ⌜ (now r ≡ ticksHanded a (light h) (length (now (lent .entry)))) × (ptr r ≡ ptr (lent .entry)) ⌝ }
-{
-    let n = steps::count_of(list_light(a, h, lent));
+    let n = steps::count_of(list(a, h, lent));
     let k = (2 * n) as usize;
     &mut lent[..k]
 }
@@ -152,7 +103,7 @@ fn period_refusal(a: Axis, h: BoldPoints) -> u8
     ensures { λ r. ⌜ r ≡ firstNo (periodQuestions a h) ⌝ }
 {
     let q = axis::axis_refusal(a, axis::has_period(a));
-    axis::ask(q, 6, axis::bold_hint(a, h))
+    axis::then_ask(q, 6, axis::hint_on(a, Hint::Bold(h)))
 }
 
 // The nanoseconds from tick to tick on kinds 4 and 7.
@@ -163,7 +114,7 @@ pub fn period_per_point(a: Axis, h: BoldPoints) -> PeriodAnswer
     if q != 0 {
         return PeriodAnswer::Refused(q);
     }
-    let k = plans::period_in(a, calendar::count(h.n));
+    let k = plans::period_in(a, calendar::as_count(h.n));
     if 0 < k {
         return PeriodAnswer::Is(k);
     }

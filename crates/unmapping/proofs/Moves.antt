@@ -11,7 +11,7 @@ use lib.IntN.{ℤ, pos, negsuc, negℤ, natAbs, _+ℤ_, _*ℤ_}
 use lib.Signed.{ltZ, leZ, quotZ, remZ}
 use lib.Ieee.{unlike}
 use borrow.Author.Tests.{eqb-true, eqb-false, ltb-true, leb-true, ne-eqb, le-leb, lt-leb}
-use Rattle.laws.specs.Numbers.{up, dn}
+use Rattle.laws.specs.Numbers.{isNumber, posPart, negPart}
 use Rattle.laws.proofs.Signed.{add, mul-up, mul-dn, neg-up, neg-dn, same, is-ge}
 use Rattle.laws.proofs.Tests.{both-true, and-false}
 use Rattle.floats.specs.Rounding.{withSign}
@@ -22,7 +22,7 @@ use Rattle.values.proofs.Numbers.{or-false}
 use Rattle.values.proofs.Values.{DayValue}
 use Rattle.values.proofs.Fits.{fits-yes}
 use Rattle.unmapping.proofs.DateTimes.{instant}
-use Rattle.unmapping.specs.Unmapping.{isZero, productFits, byNanoseconds, daysBy, movedBy}
+use Rattle.unmapping.specs.Unmapping.{productFits, byNanoseconds, byDays, movedBy}
 use Rattle.unmapping.specs.Sizes.{sizesFit, sizeMoved}
 
 -- ---- quotients and sums below 0
@@ -49,16 +49,16 @@ sum-neg a b =
     ))
 
 -- ---- the test of the product, on sizes
-zero-test : (n : ℕ) → isZero (pos n) ≡ eqb n 0
+zero-test : (n : ℕ) → isNumber (pos n) 0 ≡ eqb n 0
 zero-test n = go (eqb n 0) refl
   where
-    go : (b : Bool) → eqb n 0 ≡ b → isZero (pos n) ≡ b
+    go : (b : Bool) → eqb n 0 ≡ b → isNumber (pos n) 0 ≡ b
     go true e = let z = eqb-true n 0 e in rw (le-leb 0 n (omega arith), le-leb n 0 (omega arith))
     go false e = let z = eqb-false n 0 e in rw (le-leb 0 n (omega arith), lt-leb n 0 (omega arith))
 
 -- a factor below 0 passes only as 0
 down-test : (a F : ℕ) (r : Bool) → F ≤ 9223372036854775807
-    → isZero (negℤ (pos F)) || (ltZ (pos a) (quotZ (pos 9223372036854775807) (negℤ (pos F)))
+    → isNumber (negℤ (pos F)) 0 || (ltZ (pos a) (quotZ (pos 9223372036854775807) (negℤ (pos F)))
     || (r && leZ (pos a) (quotZ (pos 9223372036854775807) (negℤ (pos F))))) ≡ eqb F 0
 down-test a zero r h = refl
 down-test a (suc f) r h = go (9223372036854775807 / suc f) (at-least-one (omega arith))
@@ -75,7 +75,7 @@ pub product-fits : (s : ℕ) (w o : ℤ) → s ≤ 9223372036854775807 → 0 < n
     → productFits o (quotZ (pos s) w) (remZ (pos s) w) ≡ sizesFit (ltZ w (pos 0)) (natAbs o) (s / natAbs w) (s % natAbs w)
 product-fits s (pos w) o h l =
     rw (zero-test (s / w), zero-test (s % w), is-ge (pos w) (pos 0) (omega arith))
-product-fits s (negsuc w) o h l = down-test (natAbs o) (s / suc w) (isZero (pos (s % suc w)))
+product-fits s (negsuc w) o h l = down-test (natAbs o) (s / suc w) (isNumber (pos (s % suc w)) 0)
     (omega (arith, div-le-self s (suc w))) ∙ sym (or-false (eqb (s / suc w) 0))
 
 -- ---- where it passes, the product fits
@@ -146,10 +146,10 @@ days-is (pos n) k = rw (is-ge (pos n) (pos 0) (omega arith))
 days-is (negsuc n) k = refl
 
 -- ---- the branches of unmapping
-pub moved-long : (d w o : ℤ) → fitsI64 d ≡ false → daysBy (wholeDays d) w o *ℤ pos 86400000000000 ≡ movedBy d w o
+pub moved-long : (d w o : ℤ) → fitsI64 d ≡ false → byDays (wholeDays d) w o *ℤ pos 86400000000000 ≡ movedBy d w o
 unfolding movedBy
 moved-long d w o e = sym (ap (λ (b : Bool). cond (b && productFits o (quotZ d w) (remZ d w)) (byNanoseconds d w o)
-    (daysBy (wholeDays d) w o *ℤ pos 86400000000000)) e)
+    (byDays (wholeDays d) w o *ℤ pos 86400000000000)) e)
 
 module _ (s : ℕ) (w o : ℤ) (h : s ≤ 9223372036854775807) (l : 0 < natAbs w) where
   tested : fitsI64 (pos s) && productFits o (quotZ (pos s) w) (remZ (pos s) w) ≡ sizesFit (ltZ w (pos 0)) (natAbs o)
@@ -158,17 +158,17 @@ module _ (s : ℕ) (w o : ℤ) (h : s ≤ 9223372036854775807) (l : 0 < natAbs w
       ∙ product-fits s w o h l
 
   pub branch : (b : Bool) → sizesFit (ltZ w (pos 0)) (natAbs o) (s / natAbs w) (s % natAbs w) ≡ b
-      → movedBy (pos s) w o ≡ cond b (byNanoseconds (pos s) w o) (daysBy (wholeDays (pos s)) w o *ℤ pos 86400000000000)
+      → movedBy (pos s) w o ≡ cond b (byNanoseconds (pos s) w o) (byDays (wholeDays (pos s)) w o *ℤ pos 86400000000000)
   unfolding movedBy
-  branch b e = ap (λ (t : Bool). cond t (byNanoseconds (pos s) w o) (daysBy (wholeDays (pos s)) w o *ℤ pos 86400000000000))
+  branch b e = ap (λ (t : Bool). cond t (byNanoseconds (pos s) w o) (byDays (wholeDays (pos s)) w o *ℤ pos 86400000000000))
       (tested ∙ e)
 
 -- ---- the start of an axis, as parts
-pub size-up : (z : ℤ) → dn z ≡ 0 → natAbs z ≡ up z
+pub size-up : (z : ℤ) → negPart z ≡ 0 → natAbs z ≡ posPart z
 size-up (pos n) e = refl
 size-up (negsuc n) e = absurd (let w : ⊥ = omega arith in w)
 
-pub whole : (z : ℤ) → dn z ≡ 0 → pos (natAbs z) ≡ z
+pub whole : (z : ℤ) → negPart z ≡ 0 → pos (natAbs z) ≡ z
 whole (pos n) e = refl
 whole (negsuc n) e = absurd (let w : ⊥ = omega arith in w)
 

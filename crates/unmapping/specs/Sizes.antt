@@ -2,15 +2,21 @@
 use mathlib.Core.Bool.{Bool, not, _&&_, _||_}
 use Prim.Native.Nat.{ℕ, _+_, _*_, _/_, _%_, _≤_, _<_}
 use lib.Dec.{eqb, ltb, leb}
-use lib.IntN.{natAbs}
+use lib.IntN.{ℤ, natAbs}
+use Rattle.laws.specs.Units.{perDay}
+use Rattle.calendar.specs.Questions.{lastDay}
+use Rattle.axis.specs.declared.ValueAnswer.{ValueAnswer}
+use Rattle.axis.specs.declared.ValueAnswer.the-variants.{At}
+use Rattle.axis.specs.Questions.{checked}
 use Rattle.unmapping.specs.declared.Offset.{Offset}
+use Rattle.unmapping.specs.Unmapping.{dateTimeAt}
 
 -- a date-time, and days and nanoseconds to move it by
 pub record Sums (day nano days rest : ℕ) : Type 0 where
-  pub day-most : day ≤ 3652059
-  pub nano-most : nano < 86400000000000
-  pub days-most : days ≤ 3652059
-  pub rest-most : rest < 86400000000000
+  pub day-most : day ≤ lastDay
+  pub nano-most : nano < perDay
+  pub days-most : days ≤ lastDay
+  pub rest-most : rest < perDay
 
 -- the Rust's test of the product; down: the width is below 0
 abbrev pub sizesFit : Bool → ℕ → ℕ → ℕ → Bool
@@ -32,8 +38,8 @@ pub record OnWidth (o : Offset) : Type 0 where
 
 -- a date-time's parts
 pub record InDay (day nano : ℕ) : Type 0 where
-  pub day-most : day ≤ 3652059
-  pub nano-most : nano < 86400000000000
+  pub day-most : day ≤ lastDay
+  pub nano-most : nano < perDay
 
 -- sizes whose products fit 64 bits
 pub record Moves (s w size : ℕ) : Type 0 where
@@ -41,3 +47,7 @@ pub record Moves (s w size : ℕ) : Type 0 where
   pub width-most : w ≤ 65534
   pub size-most : size ≤ 65534
   pub product-fits : size * (s / w) ≤ 9223372036854775807
+
+-- question 10 of the date-time, as the functions answer it
+unfoldable pub dateTimeAnswer : ℤ → ValueAnswer
+dateTimeAnswer z = checked (At (dateTimeAt z))

@@ -2,24 +2,22 @@
 // by whole days in floats. Signs apart, all of it is done on counts.
 use axis::Axis;
 use axis::Limits;
+use axis::ValueAnswer;
 use values::Value;
 ghost use mathlib.Core.Path.{_≡_};
 ghost use mathlib.Core.Bool.{true, false};
 ghost use Prim.Native.Nat.{_+_, _*_, _/_, _%_, _<_};
 ghost use lib.IntN.{pos, natAbs, _+ℤ_, _-ℤ_, _*ℤ_};
 ghost use lib.Signed.{ltZ};
+ghost use Rattle.laws.specs.Units.{perDay};
 ghost use Rattle.floats.specs.Rounding.{withSign};
 ghost use Rattle.values.specs.Values.{isDuration};
 ghost use Rattle.values.specs.Differences.{nanoseconds};
 ghost use Rattle.axis.specs.Axes.{start, spanOf};
-ghost use Rattle.axis.specs.Questions.{ends, inOrder};
-ghost use Rattle.unmapping.specs.Unmapping.{Unmappable, unmapCoord, movedBy, byNanoseconds, daysBy, dateTimeAnswer};
-ghost use Rattle.unmapping.specs.Sizes.{sizesFit, sizeMoved, Sums, InDay, OnWidth, Moves};
-
-pub enum Unmapped {
-    Refused(u8),
-    At(Value),
-}
+ghost use Rattle.axis.specs.declared.ValueAnswer.the-variants.{At};
+ghost use Rattle.axis.specs.Questions.{ends, inOrder, checked};
+ghost use Rattle.unmapping.specs.Unmapping.{Unmappable, unmapCoord, movedBy, byNanoseconds, byDays};
+ghost use Rattle.unmapping.specs.Sizes.{sizesFit, sizeMoved, Sums, InDay, OnWidth, Moves, dateTimeAnswer};
 
 // Pixels from the low limit, and the width, which is not 0.
 pub struct Offset {
@@ -28,72 +26,72 @@ pub struct Offset {
 }
 
 // The date-time of a day and a nanosecond of it, if it is one of question 3.
-fn date_time(day: u64, nano: u64) -> Unmapped
-    requires { ⌜ nano < 86400000000000 ⌝ }
-    ensures { λ r. ⌜ r ≡ dateTimeAnswer (pos (day * 86400000000000 + nano)) ⌝ }
+fn on_calendar(day: u64, nano: u64) -> ValueAnswer
+    requires { ⌜ nano < perDay ⌝ }
+    ensures { λ r. ⌜ r ≡ dateTimeAnswer (pos (day * perDay + nano)) ⌝ }
 {
     if (1 <= day) & (day <= 3652059) {
-        return Unmapped::At(Value {
+        return ValueAnswer::At(Value {
             head: day as i64,
             tail: nano as i64,
         });
     }
-    Unmapped::Refused(10)
+    ValueAnswer::Refused(10)
 }
 
 // Days and nanoseconds after a date-time.
-fn after(day: u64, nano: u64, days: u64, rest: u64) -> Unmapped
+fn days_after(day: u64, nano: u64, days: u64, rest: u64) -> ValueAnswer
     requires { ⌜ Sums day nano days rest ⌝ }
-    ensures { λ r. ⌜ r ≡ dateTimeAnswer (pos (day * 86400000000000 + nano) +ℤ pos (days * 86400000000000 + rest)) ⌝ }
+    ensures { λ r. ⌜ r ≡ dateTimeAnswer (pos (day * perDay + nano) +ℤ pos (days * perDay + rest)) ⌝ }
 {
     if nano + rest >= 86400000000000 {
-        return date_time(day + days + 1, nano + rest - 86400000000000);
+        return on_calendar(day + days + 1, nano + rest - 86400000000000);
     }
-    date_time(day + days, nano + rest)
+    on_calendar(day + days, nano + rest)
 }
 
 // Days and nanoseconds before a date-time.
-fn before(day: u64, nano: u64, days: u64, rest: u64) -> Unmapped
+fn days_before(day: u64, nano: u64, days: u64, rest: u64) -> ValueAnswer
     requires { ⌜ Sums day nano days rest ⌝ }
-    ensures { λ r. ⌜ r ≡ dateTimeAnswer (pos (day * 86400000000000 + nano) -ℤ pos (days * 86400000000000 + rest)) ⌝ }
+    ensures { λ r. ⌜ r ≡ dateTimeAnswer (pos (day * perDay + nano) -ℤ pos (days * perDay + rest)) ⌝ }
 {
     if nano < rest {
         if day <= days + 1 {
-            return Unmapped::Refused(10);
+            return ValueAnswer::Refused(10);
         }
-        return date_time(day - days - 1, nano + 86400000000000 - rest);
+        return on_calendar(day - days - 1, nano + 86400000000000 - rest);
     }
     if day <= days {
-        return Unmapped::Refused(10);
+        return ValueAnswer::Refused(10);
     }
-    date_time(day - days, nano - rest)
+    on_calendar(day - days, nano - rest)
 }
 
 // A number of nanoseconds after a date-time, or before it.
-fn nanoseconds_away(day: u64, nano: u64, back: bool, n: u64) -> Unmapped
+fn nanoseconds_away(day: u64, nano: u64, back: bool, n: u64) -> ValueAnswer
     requires { ⌜ InDay day nano ⌝ }
-    ensures { λ r. ⌜ r ≡ dateTimeAnswer (pos (day * 86400000000000 + nano) +ℤ withSign back n) ⌝ }
+    ensures { λ r. ⌜ r ≡ dateTimeAnswer (pos (day * perDay + nano) +ℤ withSign back n) ⌝ }
 {
     let days = n / 86400000000000;
     let rest = n % 86400000000000;
     if back {
-        return before(day, nano, days, rest);
+        return days_before(day, nano, days, rest);
     }
-    after(day, nano, days, rest)
+    days_after(day, nano, days, rest)
 }
 
 // A number of days after a date-time, or before it.
-fn days_away(day: u64, nano: u64, back: bool, n: u64) -> Unmapped
+fn days_away(day: u64, nano: u64, back: bool, n: u64) -> ValueAnswer
     requires { ⌜ InDay day nano ⌝ }
-    ensures { λ r. ⌜ r ≡ dateTimeAnswer (pos (day * 86400000000000 + nano) +ℤ withSign back (n * 86400000000000)) ⌝ }
+    ensures { λ r. ⌜ r ≡ dateTimeAnswer (pos (day * perDay + nano) +ℤ withSign back (n * perDay)) ⌝ }
 {
     if n > 3652059 {
-        return Unmapped::Refused(10);
+        return ValueAnswer::Refused(10);
     }
     if back {
-        return before(day, nano, n, 0);
+        return days_before(day, nano, n, 0);
     }
-    after(day, nano, n, 0)
+    days_after(day, nano, n, 0)
 }
 
 // The Rust's test that pixels × factor fits, on sizes; rest is what the division by the width left.
@@ -115,48 +113,54 @@ fn size_moved(s: u64, w: u64, size: u64) -> u64
 }
 
 // A span of s nanoseconds over the width.
-fn by_nanoseconds(day: u64, nano: u64, o: Offset, s: u64) -> Unmapped
-    requires { ⌜ InDay day nano × OnWidth o × (s < 9223372036854775808) × (sizesFit (ltZ (o .width) (pos 0)) (natAbs (o .pixels)) (s / natAbs (o .width)) (s % natAbs (o .width)) ≡ true) ⌝ }
-    ensures { λ r. ⌜ r ≡ dateTimeAnswer (pos (day * 86400000000000 + nano) +ℤ byNanoseconds (pos s) (o .width) (o .pixels)) ⌝ }
+fn by_nanoseconds(day: u64, nano: u64, o: Offset, s: u64) -> ValueAnswer
+    requires { ⌜ InDay day nano × OnWidth o × (s < 9223372036854775808)
+        × (sizesFit (ltZ (o .width) (pos 0)) (natAbs (o .pixels)) (s / natAbs (o .width)) (s % natAbs (o .width)) ≡ true) ⌝ }
+    ensures { λ r. ⌜ r ≡ dateTimeAnswer (pos (day * perDay + nano) +ℤ byNanoseconds (pos s) (o .width) (o .pixels)) ⌝ }
 {
-    let n = size_moved(s, floats::size_of(o.width), floats::size_of(o.pixels));
+    let n = size_moved(
+        s,
+        floats::unsigned_abs(o.width),
+        floats::unsigned_abs(o.pixels),
+    );
     nanoseconds_away(day, nano, (o.pixels < 0) != (o.width < 0), n)
 }
 
 // A span of whole days over the width.
-fn by_days(day: u64, nano: u64, o: Offset, span: i64) -> Unmapped
+fn by_days(day: u64, nano: u64, o: Offset, span: i64) -> ValueAnswer
     requires { ⌜ InDay day nano ⌝ }
-    ensures { λ r. ⌜ r ≡ dateTimeAnswer (pos (day * 86400000000000 + nano) +ℤ daysBy span (o .width) (o .pixels) *ℤ pos 86400000000000) ⌝ }
+    ensures { λ r. ⌜ r ≡ dateTimeAnswer (pos (day * perDay + nano) +ℤ byDays span (o .width) (o .pixels) *ℤ pos perDay) ⌝ }
 {
     let n = floats::to_i64(
         floats::from_i64(o.pixels) * floats::from_i64(span) / floats::from_i64(o.width),
     );
-    days_away(day, nano, n < 0, floats::size_of(n))
+    days_away(day, nano, n < 0, floats::unsigned_abs(n))
 }
 
 // Does the product of pixels and nanoseconds fit?
 fn product_fits(o: Offset, s: u64) -> bool
     requires { ⌜ OnWidth o ⌝ }
-    ensures { λ r. ⌜ r ≡ sizesFit (ltZ (o .width) (pos 0)) (natAbs (o .pixels)) (s / natAbs (o .width)) (s % natAbs (o .width)) ⌝ }
+    ensures { λ r. ⌜ r ≡ sizesFit (ltZ (o .width) (pos 0)) (natAbs (o .pixels)) (s / natAbs (o .width))
+        (s % natAbs (o .width)) ⌝ }
 {
-    let size = floats::size_of(o.pixels);
-    let w = floats::size_of(o.width);
+    let size = floats::unsigned_abs(o.pixels);
+    let w = floats::unsigned_abs(o.width);
     sizes_fit(o.width < 0, size, s / w, s % w)
 }
 
 // The date-time at an offset. The Rust's test never passes with a factor below 0, so that swapped limits and a span of at
 // least their width in nanoseconds go by whole days.
-fn date_time_at(a: Axis, o: Offset) -> Unmapped
+fn date_time_at(a: Axis, o: Offset) -> ValueAnswer
     requires { ⌜ (isDuration (a .kind) ≡ false) × (ends a ≡ true) × (inOrder a ≡ true) × OnWidth o ⌝ }
     ensures { λ r. ⌜ r ≡ dateTimeAnswer (nanoseconds (a .kind) (start a) +ℤ movedBy (spanOf a) (o .width) (o .pixels)) ⌝ }
 {
-    let day = floats::size_of(a.start_head);
-    let nano = floats::size_of(a.start_tail);
+    let day = floats::unsigned_abs(a.start_head);
+    let nano = floats::unsigned_abs(a.start_tail);
     let span = axis::span(a);
     if !span.fits {
         return by_days(day, nano, o, axis::span_days(a));
     }
-    let s = floats::size_of(span.value);
+    let s = floats::unsigned_abs(span.value);
     if product_fits(o, s) {
         return by_nanoseconds(day, nano, o, s);
     }
@@ -164,9 +168,9 @@ fn date_time_at(a: Axis, o: Offset) -> Unmapped
 }
 
 // The date-time under a pixel, kind 4, as TimeValue::unmap_coord.
-pub fn unmap_coord(a: Axis, l: Limits, pixel: i64) -> Unmapped
+pub fn unmap_coord(a: Axis, l: Limits, pixel: i64) -> ValueAnswer
     requires { ⌜ Unmappable a l pixel ⌝ }
-    ensures { λ r. ⌜ r ≡ unmapCoord a l pixel ⌝ }
+    ensures { λ r. ⌜ r ≡ checked (At (unmapCoord a l pixel)) ⌝ }
 {
     let o = Offset {
         pixels: pixel - l.low,

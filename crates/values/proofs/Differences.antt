@@ -8,7 +8,7 @@ use lib.IntN.{ℤ, pos, _+ℤ_, _-ℤ_, _*ℤ_, +ℤ-idr}
 use lib.Signed.{ltZ, leZ, quotZ}
 use mir.Syntax.{w64}
 use mir.Val.{SFits}
-use Rattle.laws.specs.Numbers.{up, dn}
+use Rattle.laws.specs.Numbers.{posPart, negPart}
 use Rattle.laws.proofs.Signed.{lt-true, lt-false, le-true, le-false, add, sub, mul-up, mul-dn, quot-up, quot-dn, fits, same}
 use Rattle.laws.proofs.Tests.{both-true, either-false}
 use Rattle.values.specs.declared.Value.{Value}
@@ -21,18 +21,19 @@ use Rattle.values.proofs.Joining.{joint, Ahead, ahead}
 use Rattle.values.proofs.Values.{date-value, day-value, duration-value}
 
 -- ---- heads and tails
-far : (x y : ℤ) (m : ℕ) → up x + dn y ≤ m + (up y + dn x) → up y + dn x ≤ m + (up x + dn y) →
-    (dn (y -ℤ x) ≤ m) × (up (y -ℤ x) ≤ m)
+far : (x y : ℤ) (m : ℕ) → posPart x + negPart y ≤ m + (posPart y + negPart x) → posPart y + negPart x ≤ m
+    + (posPart x + negPart y) →
+    (negPart (y -ℤ x) ≤ m) × (posPart (y -ℤ x) ≤ m)
 far x y m a b = bounded (y -ℤ x) m m (omega (arith, sub y x)) (omega (arith, sub y x))
 
 pub record Near (a b : Value) (heads tails : ℕ) : Type 0 where
-  pub heads-dn : dn (b .head -ℤ a .head) ≤ heads
-  pub heads-up : up (b .head -ℤ a .head) ≤ heads
-  pub tails-dn : dn (b .tail -ℤ a .tail) < tails
-  pub tails-up : up (b .tail -ℤ a .tail) < tails
+  pub heads-dn : negPart (b .head -ℤ a .head) ≤ heads
+  pub heads-up : posPart (b .head -ℤ a .head) ≤ heads
+  pub tails-dn : negPart (b .tail -ℤ a .tail) < tails
+  pub tails-up : posPart (b .tail -ℤ a .tail) < tails
 
 module _ (kind : ℤ) (a b : Value) (v : Both kind a b) where
-  pub days-near : isDuration kind ≡ false → Near a b 3652058 86400000000000
+  days-near : isDuration kind ≡ false → Near a b 3652058 86400000000000
   days-near e =
       let x = day-value kind a (v .first) e in
       let y = day-value kind b (v .second) e in
@@ -40,7 +41,7 @@ module _ (kind : ℤ) (a b : Value) (v : Both kind a b) where
       let t = far (a .tail) (b .tail) 86399999999999 (omega arith) (omega arith) in
       record { heads-dn = h .0; heads-up = h .1; tails-dn = omega arith; tails-up = omega arith }
 
-  pub durations-near : isDuration kind ≡ true → Near a b 631152000000 1000000000
+  durations-near : isDuration kind ≡ true → Near a b 631152000000 1000000000
   durations-near e =
       let x = duration-value kind a (v .first) e in
       let y = duration-value kind b (v .second) e in
@@ -54,9 +55,9 @@ module _ (kind : ℤ) (a b : Value) (v : Both kind a b) where
       from : (m n : ℕ) → Near a b m n → m ≤ 631152000000 → n ≤ 86400000000000 → SFits w64 (b .head -ℤ a .head)
           × SFits w64 (b .tail -ℤ a .tail)
       from m n r l k = (
-        fits (b .head -ℤ a .head) (up (b .head -ℤ a .head)) (dn (b .head -ℤ a .head)) refl (omega arith)
+        fits (b .head -ℤ a .head) (posPart (b .head -ℤ a .head)) (negPart (b .head -ℤ a .head)) refl (omega arith)
             (omega arith),
-        fits (b .tail -ℤ a .tail) (up (b .tail -ℤ a .tail)) (dn (b .tail -ℤ a .tail)) refl (omega arith)
+        fits (b .tail -ℤ a .tail) (posPart (b .tail -ℤ a .tail)) (negPart (b .tail -ℤ a .tail)) refl (omega arith)
             (omega arith),
       )
 
@@ -65,8 +66,9 @@ module _ (kind : ℤ) (a b : Value) (v : Both kind a b) where
       go false e = from 3652058 86400000000000 (days-near e) (omega arith) (omega arith)
 
 -- ---- nanoseconds: of the heads' difference and the tails'
-apart-by : (a b : Value) (k : ℕ) → up (b .head -ℤ a .head) * k + (dn (b .head) * k + up (a .head) * k) ≡ up (b .head) * k
-    + dn (a .head) * k + dn (b .head -ℤ a .head) * k
+apart-by : (a b : Value) (k : ℕ) → posPart (b .head -ℤ a .head) * k + (negPart (b .head) * k + posPart (a .head) * k)
+    ≡ posPart (b .head) * k
+    + negPart (a .head) * k + negPart (b .head -ℤ a .head) * k
     → (b .head -ℤ a .head) *ℤ pos k +ℤ (b .tail -ℤ a .tail) ≡ (b .head *ℤ pos k +ℤ b .tail) -ℤ (a .head *ℤ pos k +ℤ a .tail)
 apart-by a b k e =
     let h = b .head -ℤ a .head in
@@ -148,16 +150,6 @@ module _ (kind : ℤ) (a b : Value) (v : Both kind a b) where
         sum-is = sym (durations-apart kind a b e);
       }
 
--- dates have no tails
-pub dates-apart : (kind : ℤ) (a b : Value) → Both kind a b → leZ kind (pos 3) ≡ true → difference kind a b
-    ≡ (b .head -ℤ a .head) *ℤ pos 86400000000000
-dates-apart kind a b v e =
-    let n : isDuration kind ≡ false =
-    ap (λ (t : Bool). t && leZ kind (pos 7)) (is-gt (pos 7) kind (omega (arith, le-true kind (pos 3) e))) in
-    let x = date-value kind a (v .first) e in
-    let y = date-value kind b (v .second) e in
-    days-apart kind a b n ∙ (rw (x .no-tail, y .no-tail) (+ℤ-idr ((b .head -ℤ a .head) *ℤ pos 86400000000000)))
-
 -- ---- whole days of a duration: by whole seconds
 pub by-seconds : (x : ℤ) → quotZ (quotZ x (pos 1000000000)) (pos 86400) ≡ quotZ x (pos 86400000000000)
 by-seconds x =
@@ -173,44 +165,23 @@ by-seconds x =
       quot-dn x 86400000000000,
     ))
 
--- no two values of a kind are further apart
-pub whole-range : (kind : ℤ) (a b : Value) → Both kind a b → (dn (wholeDays (difference kind a b)) ≤ 7305000)
-    × (up (wholeDays (difference kind a b)) ≤ 7305000)
-whole-range kind a b v = go (isDuration kind) refl
-  where
-    from : (h t : ℤ) (k : ℕ) → difference kind a b ≡ h *ℤ pos k +ℤ t → dn h * k + dn t ≤ 631152000000999999999 →
-        up h * k + up t ≤ 631152000000999999999 → (dn (wholeDays (difference kind a b)) ≤ 7305000)
-        × (up (wholeDays (difference kind a b)) ≤ 7305000)
-    from h t k e l m =
-        let x = difference kind a b in
-        let r = bounded x 631152000000999999999 631152000000999999999 (omega (arith, joint h t k, ap up e, ap dn e))
-        (omega (arith, joint h t k, ap up e, ap dn e)) in
-        (omega (arith, quot-dn x 86400000000000), omega (arith, quot-up x 86400000000000))
-
-    go : (t : Bool) → isDuration kind ≡ t → (dn (wholeDays (difference kind a b)) ≤ 7305000)
-        × (up (wholeDays (difference kind a b)) ≤ 7305000)
-    go true e = let n = durations-near kind a b v e in
-        from (b .head -ℤ a .head) (b .tail -ℤ a .tail) 1000000000 (durations-apart kind a b e) (omega arith) (omega arith)
-    go false e = let n = days-near kind a b v e in
-        from (b .head -ℤ a .head) (b .tail -ℤ a .tail) 86400000000000 (days-apart kind a b e) (omega arith) (omega arith)
-
 -- ---- the order of values is that of their nanoseconds
 module _ (kind : ℤ) (a b : Value) (v : Both kind a b) where
-  order : (s : ℕ) → s ≤ 1 → Ahead (b .head -ℤ a .head) (b .tail -ℤ a .tail) s → dn (difference kind a b)
-      + s ≤ up (difference kind a b)
+  order : (s : ℕ) → s ≤ 1 → Ahead (b .head -ℤ a .head) (b .tail -ℤ a .tail) s → negPart (difference kind a b)
+      + s ≤ posPart (difference kind a b)
   order s l o = go (isDuration kind) refl
     where
       at : (p : Parts) → p .heads ≡ b .head -ℤ a .head → p .tails ≡ b .tail -ℤ a .tail → Of kind a b p →
-          dn (difference kind a b) + s ≤ up (difference kind a b)
+          negPart (difference kind a b) + s ≤ posPart (difference kind a b)
       at p h t q = rw (q .sum-is) at (ahead (p .heads) (p .tails) (p .unit) (p .most) s l (q .sound .known)
           (q .sound .tails-dn) (rw (h, t) o))
 
-      go : (d : Bool) → isDuration kind ≡ d → dn (difference kind a b) + s ≤ up (difference kind a b)
+      go : (d : Bool) → isDuration kind ≡ d → negPart (difference kind a b) + s ≤ posPart (difference kind a b)
       go true e = at _ refl refl (seconds-of kind a b v e)
       go false e = at _ refl refl (days-of kind a b v e)
 
   -- from an earlier value to a later one is more than nothing
-  pub later-apart : earlier a b ≡ true → (dn (difference kind a b) ≡ 0) × (1 ≤ up (difference kind a b))
+  pub later-apart : earlier a b ≡ true → (negPart (difference kind a b) ≡ 0) × (1 ≤ posPart (difference kind a b))
   unfolding earlier
   later-apart e =
       let h = sub (b .head) (a .head) in
@@ -222,11 +193,11 @@ module _ (kind : ℤ) (a b : Value) (v : Both kind a b) where
             inr (omega (arith, le-true (a .head) (b .head) x), omega (arith, lt-true (a .tail) (b .tail) z)))
       ] in
       let k = order 1 (omega arith) o in
-      let z : dn (difference kind a b) ≡ 0 = not-below (difference kind a b) (omega arith) in
+      let z : negPart (difference kind a b) ≡ 0 = not-below (difference kind a b) (omega arith) in
       (z, omega arith)
 
   -- to a value that is no earlier it is not below nothing
-  pub no-earlier-apart : earlier b a ≡ false → dn (difference kind a b) ≡ 0
+  pub no-earlier-apart : earlier b a ≡ false → negPart (difference kind a b) ≡ 0
   unfolding earlier
   no-earlier-apart e =
       let h = sub (b .head) (a .head) in

@@ -7,7 +7,7 @@ use lib.IntN.{ℤ, pos, negsuc}
 use lib.Signed.{leZ}
 use mir.Syntax.{w64}
 use mir.Val.{SFits}
-use Rattle.laws.specs.Numbers.{up, dn}
+use Rattle.laws.specs.Numbers.{posPart, negPart}
 use Rattle.laws.proofs.Signed.{up-fits, dn-fits}
 use Rattle.laws.proofs.Tests.{and-false}
 use Rattle.values.specs.declared.Nanoseconds.{Nanoseconds}
@@ -15,13 +15,13 @@ use Rattle.values.specs.Differences.{fitsI64, nanosecondsOf}
 use Rattle.values.proofs.Numbers.{is-le, is-gt, within-true, bounded}
 
 -- ---- by where the number lies
-pub fits-yes : (x : ℤ) → up x ≤ 9223372036854775807 → dn x ≤ 9223372036854775808 → fitsI64 x ≡ true
+pub fits-yes : (x : ℤ) → posPart x ≤ 9223372036854775807 → negPart x ≤ 9223372036854775808 → fitsI64 x ≡ true
 fits-yes x h l = rw (is-le (negsuc 9223372036854775807) x (omega arith), is-le x (pos 9223372036854775807) (omega arith))
 
-above : (x : ℤ) → 9223372036854775807 + dn x < up x → fitsI64 x ≡ false
+above : (x : ℤ) → 9223372036854775807 + negPart x < posPart x → fitsI64 x ≡ false
 above x h = rw (is-gt x (pos 9223372036854775807) (omega arith), and-false (leZ (negsuc 9223372036854775807) x))
 
-below : (x : ℤ) → 9223372036854775808 + up x < dn x → fitsI64 x ≡ false
+below : (x : ℤ) → 9223372036854775808 + posPart x < negPart x → fitsI64 x ≡ false
 below x h = rw (is-gt (negsuc 9223372036854775807) x (omega arith))
 
 answer : (x n : ℤ) (f : Bool) → fitsI64 x ≡ f → cond f x (pos 0) ≡ n → record { fits = f; value = n } ≡ nanosecondsOf x
@@ -31,14 +31,14 @@ answer x n f a b = sym (λ i. record { fits = a i; value = (ap (λ (t : Bool). c
 pub yes : (x : ℤ) → SFits w64 x → record { fits = true; value = x } ≡ nanosecondsOf x
 yes x f = answer x x true (fits-yes x (omega (arith, up-fits x f)) (dn-fits x f)) refl
 
-pub too-high : (x : ℤ) → 9223372036854775807 + dn x < up x → record { fits = false; value = pos 0 } ≡ nanosecondsOf x
+pub too-high : (x : ℤ) → 9223372036854775807 + negPart x < posPart x → record { fits = false; value = pos 0 } ≡ nanosecondsOf x
 too-high x h = answer x (pos 0) false (above x h) refl
 
-pub too-low : (x : ℤ) → 9223372036854775808 + up x < dn x → record { fits = false; value = pos 0 } ≡ nanosecondsOf x
+pub too-low : (x : ℤ) → 9223372036854775808 + posPart x < negPart x → record { fits = false; value = pos 0 } ≡ nanosecondsOf x
 too-low x h = answer x (pos 0) false (below x h) refl
 
 -- ---- what a caller reads
-pub fits-range : (x : ℤ) → fitsI64 x ≡ true → (dn x ≤ 9223372036854775808) × (up x ≤ 9223372036854775807)
+pub fits-range : (x : ℤ) → fitsI64 x ≡ true → (negPart x ≤ 9223372036854775808) × (posPart x ≤ 9223372036854775807)
 fits-range x e = let (a, b) = within-true (negsuc 9223372036854775807) x (pos 9223372036854775807) e in
     bounded x 9223372036854775808 9223372036854775807 (omega arith) (omega arith)
 

@@ -7,37 +7,38 @@ use native.Mathlib.Omega.{arith}
 use lib.IntN.{ℤ, pos, negsuc}
 use lib.Signed.{leZ}
 use borrow.Author.Tests.{le-leb, lt-leb}
-use Rattle.laws.specs.Numbers.{within, up, dn}
+use Rattle.laws.specs.Numbers.{within, posPart, negPart}
 use Rattle.laws.proofs.Signed.{le-true}
 use Rattle.laws.proofs.Tests.{both-true}
 
 -- a test's value from the numbers
-pub is-le : (a b : ℤ) → up a + dn b ≤ up b + dn a → leZ a b ≡ true
+pub is-le : (a b : ℤ) → posPart a + negPart b ≤ posPart b + negPart a → leZ a b ≡ true
 is-le (pos a) (pos b) h = le-leb a b (omega arith)
 is-le (pos a) (negsuc b) h = absurd (let z : ⊥ = omega arith in z)
 is-le (negsuc a) (pos b) h = refl
 is-le (negsuc a) (negsuc b) h = le-leb b a (omega arith)
 
-pub is-gt : (a b : ℤ) → up b + dn a < up a + dn b → leZ a b ≡ false
+pub is-gt : (a b : ℤ) → posPart b + negPart a < posPart a + negPart b → leZ a b ≡ false
 is-gt (pos a) (pos b) h = lt-leb a b (omega arith)
 is-gt (pos a) (negsuc b) h = refl
 is-gt (negsuc a) (pos b) h = absurd (let z : ⊥ = omega arith in z)
 is-gt (negsuc a) (negsuc b) h = lt-leb b a (omega arith)
 
-pub within-true : (l x h : ℤ) → within l x h ≡ true → (up l + dn x ≤ up x + dn l) × (up x + dn h ≤ up h + dn x)
+pub within-true : (l x h : ℤ) → within l x h ≡ true → (posPart l + negPart x ≤ posPart x + negPart l)
+    × (posPart x + negPart h ≤ posPart h + negPart x)
 within-true l x h e = let (p, q) = both-true (leZ l x) (leZ x h) e in (le-true l x p, le-true x h q)
 
-pub not-below : (z : ℤ) → dn z ≤ up z → dn z ≡ 0
+pub not-below : (z : ℤ) → negPart z ≤ posPart z → negPart z ≡ 0
 not-below (pos n) h = refl
 not-below (negsuc n) h = absurd (let w : ⊥ = omega arith in w)
 
-pub not-above : (z : ℤ) → up z ≤ dn z → up z ≡ 0
+pub not-above : (z : ℤ) → posPart z ≤ negPart z → posPart z ≡ 0
 not-above (pos zero) h = refl
 not-above (pos (suc n)) h = absurd (let w : ⊥ = omega arith in w)
 not-above (negsuc n) h = refl
 
 -- a range of the whole number is one of each part
-pub bounded : (z : ℤ) (l m : ℕ) → dn z ≤ l + up z → up z ≤ m + dn z → (dn z ≤ l) × (up z ≤ m)
+pub bounded : (z : ℤ) (l m : ℕ) → negPart z ≤ l + posPart z → posPart z ≤ m + negPart z → (negPart z ≤ l) × (posPart z ≤ m)
 bounded (pos n) l m a b = (omega arith, omega arith)
 bounded (negsuc n) l m a b = (omega arith, omega arith)
 

@@ -7,11 +7,12 @@ use lib.IntN.{ℤ, pos, negsuc}
 use lib.Signed.{leZ}
 use mir.Syntax.{w64}
 use mir.Val.{SFits}
-use Rattle.laws.specs.Numbers.{within, up, dn}
+use Rattle.laws.specs.Numbers.{within, posPart, negPart}
 use Rattle.laws.proofs.Signed.{le-true, le-false, same}
 use Rattle.laws.proofs.Tests.{both-true, and-true}
 use Rattle.values.specs.declared.Value.{Value}
-use Rattle.values.specs.Values.{isDuration, isDay, aDate, aDateTime, aDuration, isValue}
+use Rattle.values.specs.Values.{isDuration, aDate, aDateTime, aDuration, isValue}
+use Rattle.calendar.specs.Questions.{isDay}
 use Rattle.values.proofs.Numbers.{is-le, is-gt, within-true, not-below, bounded, or-false}
 
 -- ---- a kind has one row of the definition
@@ -57,31 +58,31 @@ pub record InRange (v : Value) : Type 0 where
   pub tail : SFits w64 (v .tail)
 
 pub record DateValue (v : Value) : Type 0 where
-  pub head-dn : dn (v .head) ≡ 0
-  pub head-least : 1 ≤ up (v .head)
-  pub head-most : up (v .head) ≤ 3652059
+  pub head-dn : negPart (v .head) ≡ 0
+  pub head-least : 1 ≤ posPart (v .head)
+  pub head-most : posPart (v .head) ≤ 3652059
   pub no-tail : v .tail ≡ pos 0
 
 pub record DayValue (v : Value) : Type 0 where
-  pub head-dn : dn (v .head) ≡ 0
-  pub head-least : 1 ≤ up (v .head)
-  pub head-most : up (v .head) ≤ 3652059
-  pub tail-dn : dn (v .tail) ≡ 0
-  pub tail-most : up (v .tail) ≤ 86399999999999
+  pub head-dn : negPart (v .head) ≡ 0
+  pub head-least : 1 ≤ posPart (v .head)
+  pub head-most : posPart (v .head) ≤ 3652059
+  pub tail-dn : negPart (v .tail) ≡ 0
+  pub tail-most : posPart (v .tail) ≤ 86399999999999
 
 pub record DurationValue (v : Value) : Type 0 where
-  pub head-least : dn (v .head) ≤ 315576000000
-  pub head-most : up (v .head) ≤ 315576000000
-  pub tail-dn : dn (v .tail) ≡ 0
-  pub tail-most : up (v .tail) ≤ 999999999
+  pub head-least : negPart (v .head) ≤ 315576000000
+  pub head-most : posPart (v .head) ≤ 315576000000
+  pub tail-dn : negPart (v .tail) ≡ 0
+  pub tail-most : posPart (v .tail) ≤ 999999999
 
 day-range : (v : Value) (m : ℕ) → m ≤ 86399999999999 → isDay (v .head) && within (pos 0) (v .tail) (pos m) ≡ true → DayValue v
 day-range v m l e =
     let (x, y) = both-true (isDay (v .head)) (within (pos 0) (v .tail) (pos m)) e in
     let h = within-true (pos 1) (v .head) (pos 3652059) x in
     let t = within-true (pos 0) (v .tail) (pos m) y in
-    let zh : dn (v .head) ≡ 0 = not-below (v .head) (omega arith) in
-    let zt : dn (v .tail) ≡ 0 = not-below (v .tail) (omega arith) in
+    let zh : negPart (v .head) ≡ 0 = not-below (v .head) (omega arith) in
+    let zt : negPart (v .tail) ≡ 0 = not-below (v .tail) (omega arith) in
     record { head-dn = zh; head-least = omega arith; head-most = omega arith; tail-dn = zt; tail-most = omega arith }
 
 module _ (kind : ℤ) (v : Value) (value : isValue kind v ≡ true) where
@@ -92,7 +93,7 @@ module _ (kind : ℤ) (v : Value) (value : isValue kind v ≡ true) where
       (both-true (leZ (pos 1) kind) (aDate v) (sym (of-dates kind v e) ∙ value) .1) in
       let h = within-true (pos 1) (v .head) (pos 3652059) x in
       let t = within-true (pos 0) (v .tail) (pos 0) y in
-      let zh : dn (v .head) ≡ 0 = not-below (v .head) (omega arith) in
+      let zh : negPart (v .head) ≡ 0 = not-below (v .head) (omega arith) in
       record { head-dn = zh; head-least = omega arith; head-most = omega arith; no-tail = same (v .tail) (pos 0) (omega arith) }
 
   -- kinds 1 to 6
@@ -119,5 +120,5 @@ module _ (kind : ℤ) (v : Value) (value : isValue kind v ≡ true) where
       let h = within-true (negsuc 315575999999) (v .head) (pos 315576000000) x in
       let t = within-true (pos 0) (v .tail) (pos 999999999) y in
       let b = bounded (v .head) 315576000000 315576000000 (omega arith) (omega arith) in
-      let zt : dn (v .tail) ≡ 0 = not-below (v .tail) (omega arith) in
+      let zt : negPart (v .tail) ≡ 0 = not-below (v .tail) (omega arith) in
       record { head-least = b .0; head-most = b .1; tail-dn = zt; tail-most = omega arith }

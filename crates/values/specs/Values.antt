@@ -2,21 +2,19 @@
 -- Kinds 1 to 3 are over dates, 4 to 6 over date-times, 7 over durations.
 use mathlib.Core.Path.{_≡_}
 use mathlib.Core.Bool.{Bool, true, _&&_, _||_}
-use lib.IntN.{ℤ, pos, negsuc}
+use lib.IntN.{ℤ, pos}
 use lib.Signed.{ltZ, leZ}
-use Rattle.laws.specs.Numbers.{within}
+use Rattle.laws.specs.Numbers.{minus, within, isNumber}
+use Rattle.calendar.specs.Questions.{isDay}
 use Rattle.values.specs.declared.Value.{Value}
 
+-- the kind over durations
 abbrev pub isDuration : ℤ → Bool
-isDuration kind = within (pos 7) kind (pos 7)
-
--- 0001-01-01 to 9999-12-31
-abbrev pub isDay : ℤ → Bool
-isDay n = within (pos 1) n (pos 3652059)
+isDuration kind = isNumber kind 7
 
 -- a day and no time of it
 abbrev pub aDate : Value → Bool
-aDate v = isDay (v .head) && within (pos 0) (v .tail) (pos 0)
+aDate v = isDay (v .head) && isNumber (v .tail) 0
 
 -- a day and a nanosecond of it
 abbrev pub aDateTime : Value → Bool
@@ -24,8 +22,9 @@ aDateTime v = isDay (v .head) && within (pos 0) (v .tail) (pos 86399999999999)
 
 -- seconds, rounded down, and nanoseconds
 abbrev pub aDuration : Value → Bool
-aDuration v = within (negsuc 315575999999) (v .head) (pos 315576000000) && within (pos 0) (v .tail) (pos 999999999)
+aDuration v = within (minus 315576000000) (v .head) (pos 315576000000) && within (pos 0) (v .tail) (pos 999999999)
 
+-- of its kind
 unfoldable pub isValue : ℤ → Value → Bool
 isValue kind v =
     (within (pos 1) kind (pos 3) && aDate v)
@@ -40,3 +39,7 @@ pub record Both (kind : ℤ) (a b : Value) : Type 0 where
 -- by the head, then by the tail
 unfoldable pub earlier : Value → Value → Bool
 earlier a b = ltZ (a .head) (b .head) || (leZ (a .head) (b .head) && ltZ (a .tail) (b .tail))
+
+-- the date with a day number, which is the midnight of that day
+abbrev pub midnight : ℤ → Value
+midnight day = record { head = day; tail = pos 0 }

@@ -1,12 +1,13 @@
 // Values of an axis: which numbers are a value of a kind, the order of values, and how far apart two of them are.
 // Whether a difference fits a signed 64-bit number of nanoseconds is decided on heads and tails, before any product.
+use calendar::LAST_DAY;
 ghost use mathlib.Core.Path.{_≡_};
 ghost use mathlib.Core.Bool.{true};
 ghost use lib.IntN.{negℤ};
 ghost use lib.Signed.{leZ, quotZ};
 ghost use Rattle.values.specs.Values.{isDuration, isValue, earlier, Both};
 ghost use Rattle.values.specs.Differences.{difference, nanosecondsOf, wholeDays};
-ghost use Rattle.values.specs.Parts.{Sound, Of, sum};
+ghost use Rattle.values.specs.Parts.{Bounded, Of, sum};
 
 // Date: day number and 0. Date-time: day number and nanosecond of the day. Duration: seconds and nanoseconds.
 pub struct Value {
@@ -41,10 +42,10 @@ pub fn is_value(kind: i64, v: Value) -> bool
 {
     if kind <= 3 {
         return (1 <= kind)
-            & ((1 <= v.head) & (v.head <= 3652059) & ((0 <= v.tail) & (v.tail <= 0)));
+            & ((1 <= v.head) & (v.head <= LAST_DAY) & ((0 <= v.tail) & (v.tail <= 0)));
     }
     if kind <= 6 {
-        return (1 <= v.head) & (v.head <= 3652059) & ((0 <= v.tail) & (v.tail <= 86399999999999));
+        return (1 <= v.head) & (v.head <= LAST_DAY) & ((0 <= v.tail) & (v.tail <= 86399999999999));
     }
     (kind <= 7)
         & ((-315576000000 <= v.head)
@@ -84,7 +85,7 @@ fn split(kind: i64, a: Value, b: Value) -> Parts
 
 // At least most heads: one of them goes to the tails, so that the product fits.
 fn far_above(p: Parts) -> Nanoseconds
-    requires { ⌜ Sound p × (leZ (p .most) (p .heads) ≡ true) ⌝ }
+    requires { ⌜ Bounded p × (leZ (p .most) (p .heads) ≡ true) ⌝ }
     ensures { λ r. ⌜ r ≡ nanosecondsOf (sum p) ⌝ }
 {
     let heads = p.heads - 1;
@@ -110,7 +111,7 @@ fn far_above(p: Parts) -> Nanoseconds
 
 // The same below zero, where one number more fits.
 fn far_below(p: Parts) -> Nanoseconds
-    requires { ⌜ Sound p × (leZ (p .heads) (negℤ (p .most)) ≡ true) ⌝ }
+    requires { ⌜ Bounded p × (leZ (p .heads) (negℤ (p .most)) ≡ true) ⌝ }
     ensures { λ r. ⌜ r ≡ nanosecondsOf (sum p) ⌝ }
 {
     let heads = p.heads + 1;
@@ -136,7 +137,7 @@ fn far_below(p: Parts) -> Nanoseconds
 
 // The parts as one number. Fewer heads than most fit with any tails.
 fn joined(p: Parts) -> Nanoseconds
-    requires { ⌜ Sound p ⌝ }
+    requires { ⌜ Bounded p ⌝ }
     ensures { λ r. ⌜ r ≡ nanosecondsOf (sum p) ⌝ }
 {
     if p.most <= p.heads {
@@ -153,7 +154,7 @@ fn joined(p: Parts) -> Nanoseconds
 
 // The whole heads, cut toward zero: one less where the tails go the other way.
 fn whole(p: Parts) -> i64
-    requires { ⌜ Sound p ⌝ }
+    requires { ⌜ Bounded p ⌝ }
     ensures { λ r. ⌜ r ≡ quotZ (sum p) (p .unit) ⌝ }
 {
     if (0 < p.heads) & (p.tails < 0) {

@@ -17,7 +17,7 @@ struct Read {
     next: usize,
 }
 
-fn wide(b: u8) -> u64
+fn widened(b: u8) -> u64
     ensures { λ r. ⌜ r ≡ b ⌝ }
 {
     b as u64
@@ -42,7 +42,7 @@ fn number(s: &[u8], at: usize) -> Read
         if value > 99999999999999 {
             break;
         }
-        value = value * 10 + (wide(b) - 48);
+        value = value * 10 + (widened(b) - 48);
     }
     Read {
         value: value,
@@ -129,7 +129,7 @@ struct Compared {
     differ: u64,
 }
 
-fn difference(agrees: bool) -> u64
+fn unlike(agrees: bool) -> u64
     ensures { λ r. ⌜ r ≤ 1 ⌝ }
 {
     if agrees { 0 } else { 1 }
@@ -151,13 +151,13 @@ fn compare_line(s: &[u8], at: usize) -> Compared
         return Compared {
             dates: 0,
             days: 1,
-            differ: difference(day_row_agrees(b == b'f', s, at)),
+            differ: unlike(day_row_agrees(b == b'f', s, at)),
         };
     }
     Compared {
         dates: 1,
         days: 0,
-        differ: difference(date_row_agrees(s, at)),
+        differ: unlike(date_row_agrees(s, at)),
     }
 }
 

@@ -20,7 +20,7 @@ near-or-long-requires c κs =
     (told 3 (plainQuestions (x .has) (x .a)) tt none, told 4 (plainQuestions (x .has) (x .a)) tt none)
 
 returns-2 : tie.Need-returns-2
-returns-2 c = rw (c .ask .ensures, c .before .near-or-long .ensures, c .before .before .before .plain-refusal .ensures)
+returns-2 c = rw (c .then-ask .ensures, c .before .near-or-long .ensures, c .before .before .before .plain-refusal .ensures)
 
 pub axis-refusal-spec : {M : Type 1} → statement M
 axis-refusal-spec =

@@ -6,7 +6,10 @@ use Rattle.axis.proofs.mappable.Tie as tie
 
 returns : tie.Need-returns
 unfolding mappable
-returns c = rw (c .before .before .before .before .before .before .before .before .before .before .before .before .before .before .before .before .earlier .ensures, c .before .before .before .before .before .before .before .before .before .before .before .before .before .before .before .before .before .before .start .ensures, c .before .before .before .before .before .before .before .before .before .before .before .before .before .before .before .before .before .end .ensures) (search needs)
+returns c =
+    let d = c .before .before .before .before .before .before .before .before in
+    let e = d .before .before .before .before .before .before .before .before in
+    rw (e .earlier .ensures, e .before .before .start .ensures, e .before .end .ensures) (search needs)
 
 pub mappable-spec : {M : Type 1} → statement M
 mappable-spec =

@@ -4,16 +4,7 @@ use Rattle.axis.proofs.plain_refusal.Statement.{statement}
 use Rattle.axis.proofs.plain_refusal.Tie as tie
 
 returns : tie.Need-returns
-returns c =
-    rw (
-      c .ask4 .ensures,
-      c .before .in-order .ensures,
-      c .before .before .ask3 .ensures,
-      c .before .before .before .ends .ensures,
-      c .before .before .before .before .ask2 .ensures,
-      c .before .before .before .before .before .ask .ensures,
-      c .before .before .before .before .before .before .known .ensures,
-    )
+returns c = cc
 
 pub plain-refusal-spec : {M : Type 1} → statement M
 plain-refusal-spec =

@@ -5,7 +5,7 @@ use mathlib.Core.Bool.{true}
 use native.Mathlib.Omega.{arith}
 use borrow.Author.Tests.{not-true, not-false}
 use mir.Facts.{toZ-ofZ}
-use Rattle.laws.specs.Numbers.{up}
+use Rattle.laws.specs.Numbers.{posPart}
 use Rattle.calendar.specs.Questions.{isDay, dateAt}
 use Rattle.calendar.proofs.Questions.{day-count, day-range}
 use Rattle.calendar.proofs.date_at.Statement.{statement}
@@ -21,11 +21,11 @@ returns c = simp (sym (asked (c .before)) ∙ not-true _ (c .if1 .taken))
 fine : (c : tie.Else1) → isDay (c .before .before .args .n) ≡ true
 fine c = sym (asked (c .before)) ∙ not-false _ (c .if1 .left)
 
-count-requires : tie.Need-count-requires
-count-requires c κs = rw (toZ-ofZ (c .before .before .fits .n)) (day-count (c .before .before .args .n) (fine c))
+as-count-requires : tie.Need-as-count-requires
+as-count-requires c κs = rw (toZ-ofZ (c .before .before .fits .n)) (day-count (c .before .before .args .n) (fine c))
 
-counted : (c : tie.After-count) → c .count .result ≡ up (c .before .before .before .args .n)
-counted c = rw (toZ-ofZ (c .before .before .before .fits .n)) at (c .count .ensures)
+counted : (c : tie.After-as-count) → c .as-count .result ≡ posPart (c .before .before .before .args .n)
+counted c = rw (toZ-ofZ (c .before .before .before .fits .n)) at (c .as-count .ensures)
 
 date-of-requires : tie.Need-date-of-requires
 date-of-requires c κs =
@@ -38,4 +38,4 @@ unfolding dateAt
 returns-2 c = simp (fine (c .before .before), c .date-of .ensures, counted (c .before))
 
 pub date-at-spec : {M : Type 1} → statement M
-date-at-spec = tie.close (tie.spec (λ c κs. search needs) returns count-requires date-of-requires returns-2)
+date-at-spec = tie.close (tie.spec (λ c κs. search needs) returns as-count-requires date-of-requires returns-2)

@@ -5,7 +5,6 @@ use Rattle.calendar.proofs.is_day.Statement.{statement}
 use Rattle.calendar.proofs.is_day.Tie as tie
 
 returns : tie.Need-returns
-unfolding isDay
 returns c = simp (toZ-ofZ (c .fits .n))
 
 pub is-day-spec : {M : Type 1} → statement M

@@ -9,7 +9,7 @@ use mir.Syntax.{w64}
 use lib.Signed.{ltZ}
 use mir.Val.{SFits, toZ, ofZ}
 use mir.Facts.{toZ-ofZ}
-use Rattle.laws.specs.Numbers.{up}
+use Rattle.laws.specs.Numbers.{posPart}
 use Rattle.calendar.specs.Questions.{inRanges, numberOf}
 use Rattle.calendar.proofs.Questions.{out-of-ranges, Ranges, ranges}
 use Rattle.calendar.proofs.number_of.Statement.{statement}
@@ -28,26 +28,26 @@ fine c = ranges (c .before .before .args .t) (passed c)
 back : (z : ℤ) → SFits w64 z → ltZ z (pos 0) ≡ false → ltZ (toZ w64 (ofZ w64 z)) (pos 0) ≡ false
 back z f e = rw (toZ-ofZ f) e
 
-count-requires : tie.Need-count-requires
-count-requires c κs = back (c .before .before .before .args .t .year) (search needs) (fine (c .before) .year-count)
+as-count-requires : tie.Need-as-count-requires
+as-count-requires c κs = back (c .before .before .before .args .t .year) (search needs) (fine (c .before) .year-count)
 
-count-requires-2 : tie.Need-count-requires-2
-count-requires-2 c κs = let e = c .before .before .before in
+as-count-requires-2 : tie.Need-as-count-requires-2
+as-count-requires-2 c κs = let e = c .before .before .before in
     back (e .before .before .args .t .month) (search needs) (fine e .month-count)
 
-count-requires-3 : tie.Need-count-requires-3
-count-requires-3 c κs = let e = c .before .before .before .before .before in
+as-count-requires-3 : tie.Need-as-count-requires-3
+as-count-requires-3 c κs = let e = c .before .before .before .before .before in
     back (e .before .before .args .t .day) (search needs) (fine e .day-count)
 
--- a count is the number that it was made of
-same : (z : ℤ) (n : ℕ) → SFits w64 z → pos (up z) ≡ z → n ≡ up (toZ w64 (ofZ w64 z)) → pos n ≡ z
-same z n f e p = ap pos (p ∙ ap up (toZ-ofZ f)) ∙ e
+-- a as-count is the number that it was made of
+same : (z : ℤ) (n : ℕ) → SFits w64 z → pos (posPart z) ≡ z → n ≡ posPart (toZ w64 (ofZ w64 z)) → pos n ≡ z
+same z n f e p = ap pos (p ∙ ap posPart (toZ-ofZ f)) ∙ e
 
-counted : (c : tie.After-count3) → record {
-  year = pos (c .before .before .before .before .count .result);
+counted : (c : tie.After-as-count3) → record {
+  year = pos (c .before .before .before .before .as-count .result);
   month =
-      pos (c .before .before .count2 .result);
-  day = pos (c .count3 .result);
+      pos (c .before .before .as-count2 .result);
+  day = pos (c .as-count3 .result);
 } ≡ c .before .before .before .before .before
     .before .before .before .args .t
 counted c =
@@ -55,9 +55,9 @@ counted c =
     let y = m .before .before in
     let k = fine (y .before .before) in
     let t = y .before .before .before .before .args .t in
-    let p = same (t .year) _ (search needs) (k .year-is) (y .count .ensures) in
-    let q = same (t .month) _ (search needs) (k .month-is) (m .count2 .ensures) in
-    let r = same (t .day) _ (search needs) (k .day-is) (c .count3 .ensures) in
+    let p = same (t .year) _ (search needs) (k .year-is) (y .as-count .ensures) in
+    let q = same (t .month) _ (search needs) (k .month-is) (m .as-count2 .ensures) in
+    let r = same (t .day) _ (search needs) (k .day-is) (c .as-count3 .ensures) in
     λ i. record { year = p i; month = q i; day = r i }
 
 number-in-ranges-requires : tie.Need-number-in-ranges-requires
@@ -69,5 +69,5 @@ returns-2 c = c .number-in-ranges .ensures ∙ ap numberOf (counted (c .before))
 pub number-of-spec : {M : Type 1} → statement M
 number-of-spec =
     tie.close
-    (tie.spec (λ c κs. search needs) returns count-requires count-requires-2 count-requires-3
+    (tie.spec (λ c κs. search needs) returns as-count-requires as-count-requires-2 as-count-requires-3
     number-in-ranges-requires returns-2)

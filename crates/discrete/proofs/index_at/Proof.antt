@@ -3,17 +3,19 @@ use borrow.Author.Needs.{needs}
 use mathlib.Core.Path.{_≡_, sym, ap, _∙_}
 use mathlib.Core.Bool.{Bool, true, false, cond}
 use Prim.Native.Nat.{_*_, _/_, _≤_}
-use native.Mathlib.Nat.{mul-le-mul}
+use native.Mathlib.Nat.{mul-le-mul, le-trans, lt-of-le-of-lt}
 use native.Mathlib.Omega.{arith}
+use lib.Dec.{lit<, lit≤}
 use lib.IntN.{pos, natAbs}
-use lib.Ieee.{unlike}
+use lib.Ieee.{binary64, unlike}
 use lib.Signed.{ltZ}
 use mir.Syntax.{w64}
 use mir.Val.{toZ, ofZ}
 use mir.Facts.{toZ-ofZ}
 use Rattle.floats.proofs.Values.{below-zero}
+use Rattle.floats.proofs.Quotients.{ratio-floor}
 use Rattle.floats.proofs.Signs.{sign-is}
-use Rattle.discrete.specs.Counting.{indexAt}
+use Rattle.discrete.specs.Indices.{indexAt}
 use Rattle.discrete.proofs.Unmapping.{index-whole}
 use Rattle.discrete.proofs.index_at.Statement.{statement}
 use Rattle.discrete.proofs.index_at.Tie as tie
@@ -35,28 +37,39 @@ returns c =
     let t = signs a true (c .if1 .taken) in
     sym (law a ∙ ap (λ (s : Bool). cond s 0 (natAbs (a .args .offset) * a .args .size / natAbs (a .args .width))) t)
 
-mul-result : tie.Need-mul-result
-mul-result c =
-    let a = c .before .before in
-    let e : c .size-of .result ≡ natAbs (a .args .offset) = c .size-of .ensures ∙ ap natAbs (toZ-ofZ (a .fits .offset)) in
-    let p : natAbs (a .args .offset) * a .args .size ≤ 65534 * 3652059 = mul-le-mul (a .pre .0) (a .pre .1) in
-    rw e (omega (arith, p))
+-- the magnitudes, as the code hands them on
+offset-is : (c : tie.After-unsigned-abs) → c .unsigned-abs .result ≡ natAbs (c .before .before .args .offset)
+offset-is c = c .unsigned-abs .ensures ∙ ap natAbs (toZ-ofZ (c .before .before .fits .offset))
 
-div-result : tie.Need-div-result
-div-result c =
-    let a = c .before .before .before in
-    rw (c .size-of2 .ensures, toZ-ofZ (a .fits .width)) (a .pre .3)
+product : (s : tie.Start) → natAbs (s .args .offset) * s .args .size ≤ 65534 * 3652059
+product s = mul-le-mul (s .pre .0) (s .pre .1)
+
+mul-floor-quotient : tie.Need-mul-floor-quotient
+mul-floor-quotient c = rw (offset-is c) (omega (arith, product (c .before .before)))
+
+width-is : (c : tie.After-unsigned-abs2) → c .unsigned-abs2 .result ≡ natAbs (c .before .before .before .args .width)
+width-is c = c .unsigned-abs2 .ensures ∙ ap natAbs (toZ-ofZ (c .before .before .before .fits .width))
+
+floor-quotient-requires : tie.Need-floor-quotient-requires
+floor-quotient-requires c κs =
+    let s = c .before .before .before in
+    let p = product s in
+    rw (offset-is (c .before), width-is c) (lt-of-le-of-lt p (lit< tt), s .pre .3, le-trans (s .pre .2) (lit≤ tt))
 
 returns-2 : tie.Need-returns-2
 returns-2 c =
-    let a = c .before .before .before in
-    let t = signs a false (c .before .before .if1 .left) in
-    let e : c .before .size-of .result ≡ natAbs (a .args .offset) =
-    c .before .size-of .ensures ∙ ap natAbs (toZ-ofZ (a .fits .offset)) in
-    let g : c .size-of2 .result ≡ natAbs (a .args .width) = c .size-of2 .ensures ∙ ap natAbs (toZ-ofZ (a .fits .width)) in
-    rw (e, g) (sym (law a ∙ ap (λ (s : Bool). cond s 0 (natAbs (a .args .offset) * a .args .size / natAbs (a .args .width))) t))
+    let w = c .before in
+    let o = w .before in
+    let s = o .before .before in
+    let n = natAbs (s .args .offset) * s .args .size in
+    let d = natAbs (s .args .width) in
+    let t = signs s false (o .before .if1 .left) in
+    c .floor-quotient .ensures
+    ∙ (rw (offset-is o, width-is w) (ratio-floor binary64 n d (lt-of-le-of-lt (product s) (lit< tt)) (s .pre .3)
+    (le-trans (s .pre .2) (lit≤ tt)))
+    ∙ sym (law s ∙ ap (λ (b : Bool). cond b 0 (n / d)) t))
 
 pub index-at-spec : {M : Type 1} → statement M
 index-at-spec =
     tie.close
-    (tie.spec returns (λ c κs. search needs) mul-result (λ c κs. search needs) div-result returns-2)
+    (tie.spec returns (λ c κs. search needs) mul-floor-quotient (λ c κs. search needs) floor-quotient-requires returns-2)

@@ -2,10 +2,11 @@
 use borrow.Author.Needs.{needs}
 use mathlib.Core.Path.{_≡_, sym, _∙_, ap}
 use Prim.Native.Nat.{ℕ}
-use Rattle.laws.specs.Asking.{firstNo}
-use Rattle.laws.proofs.Asked.{told}
-use Rattle.discrete.specs.Answers.{valueQuestions, numberAnswer, indexIn, indexAnswer}
-use Rattle.discrete.proofs.Answers.{number-refused}
+use Rattle.laws.specs.Asking.{firstNo, asked}
+use Rattle.laws.proofs.Asked.{told, refused-by, passed-by}
+use Rattle.discrete.specs.declared.NumberAnswer.the-variants as number
+use Rattle.discrete.specs.Answers.{valueQuestions, indexIn, indexAnswer}
+use Rattle.counting.proofs.Counting.{dated}
 use Rattle.discrete.proofs.index_of.Statement.{statement}
 use Rattle.discrete.proofs.index_of.Tie as tie
 
@@ -14,7 +15,7 @@ unfolding indexAnswer
 returns c =
     let r = c .before in
     let x = r .before .args in
-    number-refused (firstNo (valueQuestions (x .a) (x .v))) (r .value-refusal .result) (indexIn (x .a) (x .v))
+    refused-by number.Refused (indexIn (x .a) (x .v)) (valueQuestions (x .a) (x .v)) (r .value-refusal .result)
     (r .value-refusal .ensures) (c .if1 .taken)
 
 none : (c : tie.Else1) → firstNo (valueQuestions (c .before .before .args .a) (c .before .before .args .v)) ≡ 0
@@ -24,14 +25,14 @@ index-in-requires : tie.Need-index-in-requires
 index-in-requires c κs =
     let x = c .before .before .args in
     let row = valueQuestions (x .a) (x .v) in
-    (record { has = told 2 row tt (none c); real = told 3 row tt (none c) }, told 8 row tt (none c))
+    (dated (x .a) (told 2 row tt (none c)) (told 3 row tt (none c)), told 8 row tt (none c))
 
 returns-2 : tie.Need-returns-2
 unfolding indexAnswer
 returns-2 c =
     let e = c .before in
     let x = e .before .before .args in
-    c .index-in .ensures ∙ sym (ap (λ (k : ℕ). numberAnswer k (indexIn (x .a) (x .v))) (none e))
+    c .index-in .ensures ∙ passed-by number.Refused (indexIn (x .a) (x .v)) (valueQuestions (x .a) (x .v)) (none e)
 
 pub index-of-spec : {M : Type 1} → statement M
 index-of-spec = tie.close (tie.spec (λ c κs. search needs) returns index-in-requires returns-2)

@@ -3,16 +3,18 @@ use borrow.Author.Needs.{needs}
 use mathlib.Core.Path.{_≡_, sym, _∙_, ap}
 use native.Mathlib.Omega.{arith}
 use Prim.Native.Nat.{ℕ, _<_}
-use Rattle.laws.specs.Numbers.{up}
+use lib.IntN.{pos}
+use Rattle.laws.specs.Numbers.{posPart}
 use Rattle.calendar.specs.Gregorian.{dayNumber}
 use Rattle.values.specs.declared.Value.{Value}
 use Rattle.axis.specs.Axes.{start}
-use Rattle.discrete.specs.declared.ValueAnswer.the-variants as value
-use Rattle.discrete.specs.Counting.{midnight}
-use Rattle.discrete.specs.Answers.{checked}
-use Rattle.discrete.proofs.Dates.{a-first, first-beyond}
-use Rattle.discrete.proofs.Counting.{starts, is-day, january-start, january-later}
-use Rattle.discrete.proofs.Answers.{in-range, out-of-range, day-beyond}
+use Rattle.axis.specs.declared.ValueAnswer.the-variants as value
+use Rattle.values.specs.Values.{midnight}
+use Rattle.axis.specs.Questions.{checked}
+use Rattle.counting.proofs.Dates.{a-first, first-beyond}
+use Rattle.counting.proofs.Counting.{starts, is-day}
+use Rattle.discrete.proofs.Indices.{january-start, january-later}
+use Rattle.axis.proofs.Checked.{in-range, out-of-range, day-beyond}
 use Rattle.discrete.proofs.january.Statement.{statement}
 use Rattle.discrete.proofs.january.Tie as tie
 
@@ -22,7 +24,7 @@ returns c =
     let a = s .args .a in
     let y = s .args .year in
     let late : 3652059 < dayNumber y 1 1 = first-beyond y 1 (omega arith) (omega arith) (omega arith) (c .if1 .taken) in
-    out-of-range (midnight (dayNumber y 1 1)) (day-beyond (dayNumber y 1 1) late)
+    out-of-range (midnight (pos (dayNumber y 1 1))) (day-beyond (dayNumber y 1 1) late)
     ∙ ap (λ (v : Value). checked (value.At v)) (sym (january-later a y (omega (arith, starts a (s .pre .0) .head-most))))
 
 day-number-requires : tie.Need-day-number-requires
@@ -32,8 +34,8 @@ day-of-requires : tie.Need-day-of-requires
 day-of-requires c κs = let s = c .before .before .before in
     rw (c .start .ensures) (is-day (start (s .args .a)) (starts (s .args .a) (s .pre .0)))
 
-start-day : (c : tie.After-day-of) → c .day-of .result ≡ up (c .before .before .before .before .args .a .«start_head»)
-start-day c = c .day-of .ensures ∙ ap (λ (v : Value). up (v .head)) (c .before .start .ensures)
+start-day : (c : tie.After-day-of) → c .day-of .result ≡ posPart (c .before .before .before .before .args .a .«start_head»)
+start-day c = c .day-of .ensures ∙ ap (λ (v : Value). posPart (v .head)) (c .before .start .ensures)
 
 returns-2 : tie.Need-returns-2
 returns-2 c =
@@ -53,7 +55,7 @@ returns-3 c =
     let s = n .before .before in
     let a = s .args .a in
     c .at-midnight .ensures
-    ∙ ap (λ (k : ℕ). checked (value.At (midnight k))) (n .day-number .ensures)
+    ∙ ap (λ (k : ℕ). checked (value.At (midnight (pos k)))) (n .day-number .ensures)
     ∙ ap (λ (v : Value). checked (value.At v))
     (sym (january-later a (s .args .year) (omega (arith, start-day d, n .day-number .ensures))))
 

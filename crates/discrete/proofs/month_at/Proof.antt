@@ -1,28 +1,30 @@
--- `discrete::month_at` meets its contract: the place 0 is the first day, and the others are firsts of months. Assumes nothing.
+-- `discrete::month_at` meets its contract: index 0 is the first day, and the others are firsts of months. Assumes nothing.
 use borrow.Author.Needs.{needs}
 use mathlib.Core.Path.{sym, _∙_, ap}
 use native.Mathlib.Omega.{arith}
 use Prim.Native.Nat.{ℕ, _+_, _-_, _/_, _%_}
+use lib.IntN.{pos}
 use Rattle.calendar.specs.declared.Date.{Date}
 use Rattle.calendar.specs.Gregorian.{dayNumber}
 use Rattle.values.specs.declared.Value.{Value}
-use Rattle.discrete.specs.declared.ValueAnswer.the-variants as value
-use Rattle.discrete.specs.Counting.{midnight}
-use Rattle.discrete.specs.Answers.{checked}
-use Rattle.discrete.proofs.Counting.{Near, first, first-near, month-first, month-later}
+use Rattle.axis.specs.declared.ValueAnswer.the-variants as value
+use Rattle.values.specs.Values.{midnight}
+use Rattle.axis.specs.Questions.{checked}
+use Rattle.counting.proofs.Counting.{Near, from-range, first-near}
+use Rattle.discrete.proofs.Indices.{month-first, month-later}
 use Rattle.discrete.proofs.month_at.Statement.{statement}
 use Rattle.discrete.proofs.month_at.Tie as tie
 
 at-midnight-requires : tie.Need-at-midnight-requires
 at-midnight-requires c κs = let s = c .before .before in
-    omega (arith, c .first-day .ensures, first (s .args .a) (s .pre .0) .least)
+    omega (arith, c .from-day .ensures, from-range (s .args .a) (s .pre .0))
 
 returns : tie.Need-returns
 returns c =
     let f = c .before in
     let s = f .before .before in
     c .at-midnight .ensures
-    ∙ ap (λ (d : ℕ). checked (value.At (midnight d))) (f .first-day .ensures)
+    ∙ ap (λ (d : ℕ). checked (value.At (midnight (pos d)))) (f .from-day .ensures)
     ∙ ap (λ (v : Value). checked (value.At v)) (sym (month-first (s .args .a) (s .args .i) (f .before .if1 .taken)))
 
 near : (c : tie.After-first-date) → Near (c .first-date .result) 10000
@@ -47,7 +49,7 @@ returns-2 c =
     let i = s .args .i in
     c .month-start .ensures
     ∙ ap (λ (t : Date). checked
-    (value.At (midnight (dayNumber (t .year + (i + (t .month - 1)) / 12) ((i + (t .month - 1)) % 12 + 1) 1))))
+    (value.At (midnight (pos (dayNumber (t .year + (i + (t .month - 1)) / 12) ((i + (t .month - 1)) % 12 + 1) 1)))))
     (f .first-date .ensures)
     ∙ ap (λ (v : Value). checked (value.At v)) (sym (month-later (s .args .a) i (f .before .if1 .left)))
 

@@ -3,15 +3,20 @@ use borrow.Author.Needs.{needs}
 use mathlib.Core.Path.{_≡_, sym, _∙_, ap}
 use native.Mathlib.Omega.{arith}
 use Prim.Native.Nat.{ℕ, _+_, _-_, _*_, _/_, _%_, _≤_, _<_}
-use Rattle.laws.specs.Numbers.{up}
+use lib.IntN.{pos}
+use Rattle.laws.specs.Numbers.{posPart}
 use Rattle.calendar.specs.declared.Date.{Date}
 use Rattle.values.specs.declared.Value.{Value}
 use Rattle.axis.specs.Axes.{start, end}
-use Rattle.discrete.specs.declared.ValueAnswer.the-variants as value
-use Rattle.discrete.specs.Counting.{firstDate, dateOn, origin, position, midnight, january, valueAt}
-use Rattle.discrete.specs.Answers.{checked}
-use Rattle.discrete.proofs.Counting.{on-day, starts, end-on, is-day, origin-days, position-days, value-days}
-use Rattle.discrete.proofs.Answers.{no-value, next-before, next-end, next-inside}
+use Rattle.axis.specs.declared.ValueAnswer.the-variants as value
+use Rattle.counting.specs.Counting.{firstDate, dateOn, origin, position}
+use Rattle.discrete.specs.Indices.{january, valueAt}
+use Rattle.values.specs.Values.{midnight}
+use Rattle.axis.specs.Questions.{checked}
+use Rattle.counting.proofs.Counting.{on-day, starts, end-on, is-day, origin-days, position-days}
+use Rattle.discrete.proofs.Indices.{value-days}
+use Rattle.axis.proofs.Checked.{no-value}
+use Rattle.discrete.proofs.Answers.{next-before, next-end, next-inside}
 use Rattle.discrete.proofs.next_day.Statement.{statement}
 use Rattle.discrete.proofs.next_day.Tie as tie
 
@@ -28,7 +33,7 @@ at-is c = let s = c .before in c .day-of .ensures ∙ sym (position-days (s .arg
 from-is : (c : tie.After-day-of2) → c .day-of2 .result ≡ origin (c .before .before .before .args .a)
 from-is c =
     let s = c .before .before .before in
-    c .day-of2 .ensures ∙ ap (λ (v : Value). up (v .head)) (c .before .start .ensures)
+    c .day-of2 .ensures ∙ ap (λ (v : Value). posPart (v .head)) (c .before .start .ensures)
     ∙ sym (origin-days (s .args .a) (s .pre .2) (s .pre .3))
 
 returns : tie.Need-returns
@@ -48,7 +53,7 @@ to-is : (c : tie.After-day-of3) → c .day-of3 .result ≡ position (c .before .
     (end (c .before .before .before .before .before .before .args .a))
 to-is c =
     let s = c .before .before .before .before .before .before in
-    c .day-of3 .ensures ∙ ap (λ (v : Value). up (v .head)) (c .before .end .ensures)
+    c .day-of3 .ensures ∙ ap (λ (v : Value). posPart (v .head)) (c .before .end .ensures)
     ∙ sym (position-days (s .args .a) (end (s .args .a)) (s .pre .2) (s .pre .3))
 
 from-to : (c : tie.Else1) → let s = c .before .before .before .before in origin (s .args .a) ≤ position (s .args .a) (s .args .v)
@@ -70,10 +75,10 @@ returns-3 c =
     let t = e .before .before .before in
     let s = t .before in
     let x = s .args in
-    let place : t .day-of .result + 1 ≡ up (x .a .«start_head») + (position (x .a) (x .v) - origin (x .a) + 1) =
+    let place : t .day-of .result + 1 ≡ posPart (x .a .«start_head») + (position (x .a) (x .v) - origin (x .a) + 1) =
     omega (arith, at-is t, from-to e, origin-days (x .a) (s .pre .2) (s .pre .3)) in
     c .at-midnight .ensures
-    ∙ ap (λ (k : ℕ). checked (value.At (midnight k))) place
+    ∙ ap (λ (k : ℕ). checked (value.At (midnight (pos k)))) place
     ∙ ap (λ (v : Value). checked (value.At v))
     (sym (value-days (x .a) (position (x .a) (x .v) - origin (x .a) + 1) (s .pre .2) (s .pre .3)))
     ∙ ap checked (sym (next-inside (x .a) (x .v) (from-to e) (omega (arith, n .if2 .left, to-is d, at-is t))))

@@ -3,16 +3,21 @@ use borrow.Author.Needs.{needs}
 use mathlib.Core.Path.{_≡_, sym, _∙_, ap}
 use native.Mathlib.Omega.{arith}
 use Prim.Native.Nat.{ℕ, _+_, _-_, _*_, _/_, _%_, _≤_, _<_}
+use lib.IntN.{pos}
 use Rattle.calendar.specs.declared.Date.{Date}
 use Rattle.values.specs.declared.Value.{Value}
 use Rattle.calendar.specs.Gregorian.{dayNumber}
 use Rattle.axis.specs.Axes.{end}
-use Rattle.discrete.specs.declared.ValueAnswer.the-variants as value
-use Rattle.discrete.specs.Counting.{firstDate, dateOn, origin, position, midnight, valueAt}
-use Rattle.discrete.specs.Answers.{checked}
-use Rattle.discrete.proofs.Counting.{Near, on-day, on-near, first-near, position-most, end-on, is-day}
-use Rattle.discrete.proofs.Counting.{origin-months, position-months, value-months, month-later}
-use Rattle.discrete.proofs.Answers.{no-value, next-before, next-end, next-inside}
+use Rattle.axis.specs.declared.ValueAnswer.the-variants as value
+use Rattle.counting.specs.Counting.{firstDate, dateOn, origin, position}
+use Rattle.discrete.specs.Indices.{valueAt}
+use Rattle.values.specs.Values.{midnight}
+use Rattle.axis.specs.Questions.{checked}
+use Rattle.counting.proofs.Counting.{Near, on-day, on-near, first-near, position-most, end-on, is-day}
+use Rattle.counting.proofs.Counting.{origin-months, position-months}
+use Rattle.discrete.proofs.Indices.{value-months, month-later}
+use Rattle.axis.proofs.Checked.{no-value}
+use Rattle.discrete.proofs.Answers.{next-before, next-end, next-inside}
 use Rattle.discrete.proofs.next_month.Statement.{statement}
 use Rattle.discrete.proofs.next_month.Tie as tie
 
@@ -112,7 +117,7 @@ returns-3 c =
     let place : t .months-from .result ≡ i + (m .month - 1) =
     omega (arith, at-is t, from-to e, origin-months (x .a) (s .pre .2), first-near (x .a) (s .pre .0) .month-least) in
     c .month-start .ensures
-    ∙ (λ j. checked (value.At (midnight (dayNumber (f .first-date .ensures j .year + place j / 12) (place j % 12 + 1) 1))))
+    ∙ (λ j. checked (value.At (midnight (pos (dayNumber (f .first-date .ensures j .year + place j / 12) (place j % 12 + 1) 1)))))
     ∙ ap (λ (v : Value). checked (value.At v))
     (sym (value-months (x .a) i (s .pre .2) ∙ month-later (x .a) i (λ z. let w : ⊥ = omega (arith, z) in w)))
     ∙ ap checked (sym (next-inside (x .a) (x .v) (from-to e) (omega (arith, n .if2 .left, to-is d, at-is t))))

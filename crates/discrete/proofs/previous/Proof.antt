@@ -4,7 +4,8 @@ use mathlib.Core.Path.{_≡_, sym, _∙_}
 use Rattle.laws.specs.Asking.{firstNo}
 use Rattle.laws.proofs.Asked.{told}
 use Rattle.discrete.specs.Answers.{valueQuestions, previousIn, previousAnswer}
-use Rattle.discrete.proofs.Answers.{value-refused, passed}
+use Rattle.axis.proofs.Checked.{value-refused, passed}
+use Rattle.counting.proofs.Counting.{dated}
 use Rattle.discrete.proofs.previous.Statement.{statement}
 use Rattle.discrete.proofs.previous.Tie as tie
 
@@ -23,7 +24,7 @@ previous-in-requires : tie.Need-previous-in-requires
 previous-in-requires c κs =
     let x = c .before .before .args in
     let row = valueQuestions (x .a) (x .v) in
-    (record { has = told 2 row tt (none c); real = told 3 row tt (none c) }, told 8 row tt (none c))
+    (dated (x .a) (told 2 row tt (none c)) (told 3 row tt (none c)), told 8 row tt (none c))
 
 returns-2 : tie.Need-returns-2
 unfolding previousAnswer

@@ -3,20 +3,22 @@ use borrow.Author.Needs.{needs}
 use mathlib.Core.Path.{_≡_, sym, _∙_, ap}
 use native.Mathlib.Omega.{arith}
 use Prim.Native.Nat.{_-_}
-use Rattle.discrete.specs.declared.Place.{Place}
-use Rattle.discrete.specs.declared.ValueAnswer.the-variants as value
-use Rattle.discrete.specs.Counting.{origin, position, valueAt}
-use Rattle.discrete.specs.Answers.{checked}
-use Rattle.discrete.proofs.Counting.{position-most}
-use Rattle.discrete.proofs.Answers.{no-value, previous-none, previous-is}
+use Rattle.counting.specs.declared.Position.{Position}
+use Rattle.axis.specs.declared.ValueAnswer.the-variants as value
+use Rattle.counting.specs.Counting.{origin, position}
+use Rattle.discrete.specs.Indices.{valueAt}
+use Rattle.axis.specs.Questions.{checked}
+use Rattle.counting.proofs.Counting.{position-most}
+use Rattle.axis.proofs.Checked.{no-value}
+use Rattle.discrete.proofs.Answers.{previous-none, previous-is}
 use Rattle.discrete.proofs.previous_in.Statement.{statement}
 use Rattle.discrete.proofs.previous_in.Tie as tie
 
-from-is : (c : tie.After-place-of) → c .place-of .result .from ≡ origin (c .before .args .a)
-from-is c = ap (λ (x : Place). x .from) (c .place-of .ensures)
+from-is : (c : tie.After-position-of) → c .position-of .result .from ≡ origin (c .before .args .a)
+from-is c = ap (λ (x : Position). x .from) (c .position-of .ensures)
 
-at-is : (c : tie.After-place-of) → c .place-of .result .at ≡ position (c .before .args .a) (c .before .args .v)
-at-is c = ap (λ (x : Place). x .at) (c .place-of .ensures)
+at-is : (c : tie.After-position-of) → c .position-of .result .at ≡ position (c .before .args .a) (c .before .args .v)
+at-is c = ap (λ (x : Position). x .at) (c .position-of .ensures)
 
 returns : tie.Need-returns
 returns c =
@@ -35,7 +37,7 @@ returns-2 c =
     let p = c .before .before .before .before in
     let x = p .before .args in
     c .value-at .ensures
-    ∙ ap (λ (y : Place). checked (value.At (valueAt (x .a) (y .at - y .from - 1)))) (p .place-of .ensures)
+    ∙ ap (λ (y : Position). checked (value.At (valueAt (x .a) (y .at - y .from - 1)))) (p .position-of .ensures)
     ∙ ap checked (sym (previous-is (x .a) (x .v) (omega (arith, from-is p, at-is p))))
 
 pub previous-in-spec : {M : Type 1} → statement M

@@ -4,9 +4,10 @@ use mathlib.Core.Path.{_≡_, sym, _∙_, ap}
 use Prim.Native.Nat.{ℕ}
 use Rattle.laws.specs.Asking.{firstNo}
 use Rattle.discrete.specs.declared.NumberAnswer.the-variants as number
-use Rattle.discrete.specs.Counting.{sizeOf}
-use Rattle.discrete.specs.Answers.{sizeQuestions, numberAnswer, sizeAnswer}
-use Rattle.discrete.proofs.Answers.{number-refused, counted}
+use Rattle.counting.specs.Counting.{sizeOf}
+use Rattle.discrete.specs.Answers.{sizeQuestions, sizeAnswer}
+use Rattle.laws.proofs.Asked.{refused-by, passed-by}
+use Rattle.discrete.proofs.Answers.{counted}
 use Rattle.discrete.proofs.size.Statement.{statement}
 use Rattle.discrete.proofs.size.Tie as tie
 
@@ -14,8 +15,8 @@ returns : tie.Need-returns
 unfolding sizeAnswer
 returns c =
     let r = c .before in
-    number-refused (firstNo (sizeQuestions (r .before .args .a))) (r .size-refusal .result)
-    (number.Is (sizeOf (r .before .args .a))) (r .size-refusal .ensures) (c .if1 .taken)
+    refused-by number.Refused (number.Is (sizeOf (r .before .args .a))) (sizeQuestions (r .before .args .a))
+    (r .size-refusal .result) (r .size-refusal .ensures) (c .if1 .taken)
 
 none : (c : tie.Else1) → firstNo (sizeQuestions (c .before .before .args .a)) ≡ 0
 none c = sym (c .before .size-refusal .ensures) ∙ c .if1 .left
@@ -27,8 +28,8 @@ returns-2 : tie.Need-returns-2
 unfolding sizeAnswer
 returns-2 c =
     let e = c .before in
-    ap number.Is (c .size-of .ensures) ∙ sym (ap (λ (k : ℕ). numberAnswer k (number.Is (sizeOf (e .before .before .args .a))))
-    (none e))
+    let a = e .before .before .args .a in
+    ap number.Is (c .size-of .ensures) ∙ passed-by number.Refused (number.Is (sizeOf a)) (sizeQuestions a) (none e)
 
 pub size-spec : {M : Type 1} → statement M
 size-spec = tie.close (tie.spec (λ c κs. search needs) returns size-of-requires returns-2)

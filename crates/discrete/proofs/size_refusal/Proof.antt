@@ -4,7 +4,7 @@ use Rattle.discrete.proofs.size_refusal.Statement.{statement}
 use Rattle.discrete.proofs.size_refusal.Tie as tie
 
 returns : tie.Need-returns
-returns c = rw (c .plain-refusal .ensures, c .before .has-index .ensures)
+returns c = cc
 
 pub size-refusal-spec : {M : Type 1} → statement M
 size-refusal-spec = tie.close (tie.spec (λ c κs. search needs) (λ c κs. search needs) returns)

@@ -7,7 +7,7 @@ use lib.IntN.{ℤ, pos, _+ℤ_}
 use mir.Syntax.{w64}
 use mir.Val.{SFits, toZ, ofZ}
 use mir.Facts.{toZ-ofZ}
-use Rattle.laws.specs.Numbers.{up}
+use Rattle.laws.specs.Numbers.{posPart}
 use Rattle.laws.proofs.Signed.{add, fits}
 use Rattle.axis.proofs.Questions.{index-range}
 use Rattle.discrete.specs.declared.StepAnswer.the-variants as step
@@ -22,7 +22,7 @@ next-fits : (c : tie.Start) → SFits w64 (c .args .c .place +ℤ pos 1)
 next-fits c =
     let i = c .args .c .place in
     let r = index-range i (c .pre) in
-    fits (i +ℤ pos 1) (up i + 1) 0 (omega (arith, add i (pos 1))) (omega arith) (omega arith)
+    fits (i +ℤ pos 1) (posPart i + 1) 0 (omega (arith, add i (pos 1))) (omega arith) (omega arith)
 
 add-t6 : tie.Need-add-t6
 add-t6 c = let s = c .before .before .before .before .before in rw (toZ-ofZ (place-fits s)) (next-fits s)

@@ -5,13 +5,7 @@ use Rattle.discrete.proofs.unmap_refusal.Statement.{statement}
 use Rattle.discrete.proofs.unmap_refusal.Tie as tie
 
 returns : tie.Need-returns
-returns c = rw (
-  c .ask .ensures,
-  c .before .unmap-pixels .ensures,
-  toZ-ofZ (c .before .before .before .before .fits .p),
-  c .before .before .plain-refusal .ensures,
-  c .before .before .before .has-unmap .ensures,
-)
+returns c = cc (toZ-ofZ (c .before .before .before .before .fits .p))
 
 pub unmap-refusal-spec : {M : Type 1} → statement M
 unmap-refusal-spec =

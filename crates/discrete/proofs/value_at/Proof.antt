@@ -4,13 +4,16 @@ use mathlib.Core.Path.{_≡_, sym, _∙_, ap}
 use mathlib.Core.Bool.{true, false}
 use native.Mathlib.Omega.{arith}
 use Prim.Native.Nat.{ℕ, _+_}
-use Rattle.laws.specs.Numbers.{up}
+use lib.IntN.{pos}
+use Rattle.laws.specs.Numbers.{posPart}
 use Rattle.values.specs.declared.Value.{Value}
 use Rattle.axis.specs.Axes.{start}
-use Rattle.discrete.specs.declared.ValueAnswer.the-variants as value
-use Rattle.discrete.specs.Counting.{monthly, yearly, midnight}
-use Rattle.discrete.specs.Answers.{checked}
-use Rattle.discrete.proofs.Counting.{starts, is-day, value-months, value-years, value-days}
+use Rattle.axis.specs.declared.ValueAnswer.the-variants as value
+use Rattle.counting.specs.Counting.{monthly, yearly}
+use Rattle.values.specs.Values.{midnight}
+use Rattle.axis.specs.Questions.{checked}
+use Rattle.counting.proofs.Counting.{starts, is-day}
+use Rattle.discrete.proofs.Indices.{value-months, value-years, value-days}
 use Rattle.discrete.proofs.value_at.Statement.{statement}
 use Rattle.discrete.proofs.value_at.Tie as tie
 
@@ -37,8 +40,8 @@ day-of-requires c κs = let s = c .before .before .before .before .before in
     rw (c .start .ensures) (is-day (start (s .args .a)) (starts (s .args .a) (s .pre .0)))
 
 start-day : (c : tie.After-day-of) →
-    c .day-of .result ≡ up (c .before .before .before .before .before .before .args .a .«start_head»)
-start-day c = c .day-of .ensures ∙ ap (λ (v : Value). up (v .head)) (c .before .start .ensures)
+    c .day-of .result ≡ posPart (c .before .before .before .before .before .before .args .a .«start_head»)
+start-day c = c .day-of .ensures ∙ ap (λ (v : Value). posPart (v .head)) (c .before .start .ensures)
 
 add-at-midnight : tie.Need-add-at-midnight
 add-at-midnight c = let s = c .before .before .before .before .before .before in
@@ -56,7 +59,7 @@ returns-3 c =
     let s = e .before .before .args in
     let y : yearly (s .a) ≡ false = sym (n .before .yearly .ensures) ∙ n .if2 .left in
     c .at-midnight .ensures
-    ∙ ap (λ (k : ℕ). checked (value.At (midnight (k + s .i)))) (start-day d)
+    ∙ ap (λ (k : ℕ). checked (value.At (midnight (pos (k + s .i))))) (start-day d)
     ∙ ap (λ (v : Value). checked (value.At v)) (sym (value-days (s .a) (s .i) (not-months e) y))
 
 pub value-at-spec : {M : Type 1} → statement M

@@ -2,8 +2,9 @@
 use borrow.Author.Needs.{needs}
 use mathlib.Core.Path.{sym, _∙_, ap}
 use native.Mathlib.Omega.{arith}
-use Rattle.discrete.specs.Answers.{checked}
-use Rattle.discrete.proofs.Answers.{no-value, value-none, value-is}
+use Rattle.axis.specs.Questions.{checked}
+use Rattle.axis.proofs.Checked.{no-value}
+use Rattle.discrete.proofs.Answers.{value-none, value-is}
 use Rattle.discrete.proofs.value_in.Statement.{statement}
 use Rattle.discrete.proofs.value_in.Tie as tie
 

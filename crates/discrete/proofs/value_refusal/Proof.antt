@@ -4,12 +4,7 @@ use Rattle.discrete.proofs.value_refusal.Statement.{statement}
 use Rattle.discrete.proofs.value_refusal.Tie as tie
 
 returns : tie.Need-returns
-returns c = rw (
-  c .ask .ensures,
-  c .before .value-on .ensures,
-  c .before .before .plain-refusal .ensures,
-  c .before .before .before .has-index .ensures,
-)
+returns c = cc
 
 pub value-refusal-spec : {M : Type 1} → statement M
 value-refusal-spec =

@@ -4,10 +4,11 @@ use mathlib.Core.Path.{_≡_, _∙_, ap}
 use native.Mathlib.Omega.{arith}
 use Prim.Native.Nat.{_+_}
 use Rattle.calendar.specs.declared.Date.{Date}
-use Rattle.discrete.specs.declared.ValueAnswer.the-variants as value
-use Rattle.discrete.specs.Counting.{firstDate, january}
-use Rattle.discrete.specs.Answers.{checked}
-use Rattle.discrete.proofs.Counting.{first-near}
+use Rattle.axis.specs.declared.ValueAnswer.the-variants as value
+use Rattle.counting.specs.Counting.{firstDate}
+use Rattle.discrete.specs.Indices.{january}
+use Rattle.axis.specs.Questions.{checked}
+use Rattle.counting.proofs.Counting.{first-near}
 use Rattle.discrete.proofs.year_at.Statement.{statement}
 use Rattle.discrete.proofs.year_at.Tie as tie
 

@@ -24,42 +24,21 @@ loop-holds c = let e : c .args .n + 0 ≡ c .args .n = omega arith in
 returns : tie.Need-returns Inv-loop μ-loop
 returns c =
     let l = c .before .before .loop in
-    let x = c .before .before .before .args in
-    let size : length (take (x .n) (x .kept .now)) ≡ x .n = length-take-le (x .n) (x .kept .now) (omega arith) in
-    record {
-      most = omega arith;
-      same-size = l .inv .1 .1 .0;
-      line =
-          full (take (x .n) (x .kept .now)) (x .part .now) (l .kept) (x .n) (l .i) (l .inv .1 .1 .1) size (c .if1 .taken);
-    }
+    full _ _ _ _ (l .i) (l .inv .1 .1 .1) (length-take-le _ _ (omega arith)) (l .inv .1 .1 .0) (c .if1 .taken)
 
 loop-again : tie.Need-loop-again Inv-loop μ-loop
 loop-again c =
     let l = c .before .before .before .loop in
-    let x = c .before .before .before .before .args in (
-      omega arith,
-      (
-        omega arith,
-        (
-          simp length-set (l .inv .1 .1 .0),
-          more (take (x .n) (x .kept .now)) (x .part .now) (l .kept)
-              (x .n) (l .i) (l .inv .1 .1 .1) (omega arith) (omega arith),
-        ),
-      ),
-    )
+    let x = c .before .before .before .before .args in
+    let b = take (x .n) (x .kept .now) in
+    let next = more b (x .part .now) (l .kept) (x .n) (l .i) (l .inv .1 .1 .1) (omega arith) (omega arith) in
+    (omega arith, (omega arith, (simp length-set (l .inv .1 .1 .0), next)))
 
 returns-2 : tie.Need-returns-2 Inv-loop μ-loop
 returns-2 c =
     let l = c .before .loop in
-    let x = c .before .before .args in
-    let size : length (take (x .n) (x .kept .now)) ≡ x .n = length-take-le (x .n) (x .kept .now) (omega arith) in
-    record {
-      most = omega arith;
-      same-size = l .inv .1 .1 .0;
-      line =
-          whole (take (x .n) (x .kept .now)) (x .part .now) (l .kept) (x .n) (l .i) (l .inv .1 .1 .1) size (omega arith)
-          (omega arith) (omega arith);
-    }
+    whole _ _ _ _ (l .i) (l .inv .1 .1 .1) (length-take-le _ _ (omega arith)) (l .inv .1 .1 .0) (c .loop-test .left) (l .inv .0)
+    (l .inv .1 .0)
 
 pub keep-spec : {M : Type 1} → statement M
 keep-spec =

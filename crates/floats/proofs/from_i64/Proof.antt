@@ -15,7 +15,7 @@ returns : tie.Need-returns
 returns c =
     let a = c .before .before .before in
     let n≡ = toZ-ofZ (a .fits .n) in
-    rw (c .from-u64 .ensures, c .before .size-of .ensures, n≡)
+    rw (c .from-u64 .ensures, c .before .unsigned-abs .ensures, n≡)
     (below-float binary64 (a .args .n) (rw n≡ at (c .before .before .if1 .taken)))
 
 -- not below 0

@@ -3,17 +3,17 @@ use borrow.Author.Needs.{needs}
 use mathlib.Core.Path.{_≡_, ap, _∙_}
 use Prim.Native.Nat.{ℕ, suc, _+_, _*_, _^_, _≤_, _<_}
 use native.Mathlib.Omega.{arith}
-use lib.Dec.{le→leb}
+use lib.IntN.{pos}
 use lib.Count.{leadingZeros, leading-top}
-use lib.Ieee.{inFloat}
+use lib.Ieee.{binary64}
 use lib.Ieee.Nearest.{closest}
+use Rattle.floats.proofs.Values.{in-float}
 use Rattle.floats.proofs.Bits.{moved, on-bits, no-nan, sum-fits}
 use Rattle.floats.proofs.from_u64.Statement.{statement}
 use Rattle.floats.proofs.from_u64.Tie as tie
 
 int-to-float-result : tie.Need-int-to-float-result
-unfolding inFloat
-int-to-float-result c = le→leb (c .before .before .args .n) (2 ^ 53) (omega arith)
+int-to-float-result c = in-float binary64 (pos (c .before .before .args .n)) (omega arith)
 
 -- n has j + 1 digits, and leading_zeros counts the others
 abbrev Digits : ℕ → Type 0

@@ -28,7 +28,7 @@ least n m h = omega arith
 returns : tie.Need-returns
 returns c =
     let a = c .before .before in
-    toZ-ofZ w64 (c .signed .result) (record { sfits = c .signed .ok }) ∙ c .signed .ensures ∙ within (a .args .below)
+    toZ-ofZ w64 (c .with-sign .result) (record { sfits = c .with-sign .ok }) ∙ c .with-sign .ensures ∙ within (a .args .below)
     (a .args .n) (a .args .most) (c .before .if1 .taken)
 
 sub-result : tie.Need-sub-result

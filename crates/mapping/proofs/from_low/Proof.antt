@@ -5,7 +5,7 @@ use lib.IntN.{ℤ, _+ℤ_}
 use mir.Syntax.{w32, w64}
 use mir.Val.{SFits, toZ, ofZ}
 use mir.Facts.{toZ-ofZ}
-use Rattle.mapping.specs.Mapping.{cut}
+use Rattle.floats.specs.Rounding.{cut}
 use Rattle.mapping.proofs.Ranges.{wider, cut-fits, sum-fits}
 use Rattle.mapping.proofs.from_low.Statement.{statement}
 use Rattle.mapping.proofs.from_low.Tie as tie

@@ -1,60 +1,47 @@
--- `mapping::map` meets its contract: the questions first, each fact by its number, and question 10 of the pixel.
--- Assumes nothing.
+-- `mapping::map` meets its contract: the questions of axis and limits, and then a scale. Assumes nothing.
 use borrow.Author.Needs.{needs}
-use mathlib.Core.Path.{_≡_, sym, _∙_, ap}
-use mathlib.Core.Bool.{Bool, cond}
-use mir.Syntax.{w64}
-use mir.Val.{toZ, ofZ}
-use mir.Facts.{toZ-ofZ}
+use mathlib.Core.Path.{_≡_, sym, _∙_, ap, subst}
 use Rattle.laws.specs.Asking.{firstNo}
 use Rattle.laws.proofs.Asked.{told}
-use Rattle.axis.specs.Questions.{fitsI32}
-use Rattle.mapping.specs.Mapping.{valueQuestions, placed, pixelAnswer}
-use Rattle.mapping.proofs.Answers.{refused, asked}
+use Rattle.mapping.specs.declared.Scale.{Scale}
+use Rattle.mapping.specs.Mapping.{LowOnPage, scaleQuestions, mappedBy}
+use Rattle.mapping.proofs.Answers.{refused, by-scale}
+use Rattle.mapping.proofs.Ranges.{low-on-page}
 use Rattle.mapping.proofs.map.Statement.{statement}
 use Rattle.mapping.proofs.map.Tie as tie
 
 returns : tie.Need-returns
-returns c = let x = c .before .before .args in
-    refused (x .a) (x .l) (x .v) (c .before .refusal .result) (c .before .refusal .ensures) (c .if1 .taken)
+returns c =
+    let r = c .before in
+    let x = r .before .args in
+    refused (x .a) (x .l) (x .v) (r .scale-refusal .result) (r .scale-refusal .ensures) (c .if1 .taken)
 
-none : (c : tie.Else1) → firstNo (valueQuestions (c .before .before .args .a) (c .before .before .args .l)
-    (c .before .before .args .v)) ≡ 0
-none c = sym (c .before .refusal .ensures) ∙ c .if1 .left
+none : (c : tie.Else1) → firstNo (scaleQuestions (c .before .before .args .a) (c .before .before .args .l)) ≡ 0
+none c = sym (c .before .scale-refusal .ensures) ∙ c .if1 .left
 
-pixel-of-requires : tie.Need-pixel-of-requires
-pixel-of-requires c κs =
+scale-of-requires : tie.Need-scale-of-requires
+scale-of-requires c κs =
     let x = c .before .before .args in
-    let row = valueQuestions (x .a) (x .l) (x .v) in
-    (told 3 row tt (none c), told 7 row tt (none c), told 8 row tt (none c))
+    let row = scaleQuestions (x .a) (x .l) in
+    (told 3 row tt (none c), told 7 row tt (none c))
 
--- the pixel that was worked out
-worked : (c : tie.After-pixel-of) → toZ w64 (ofZ w64 (c .pixel-of .result)) ≡ placed (c .before .before .before .args .a)
-    (c .before .before .before .args .l) (c .before .before .before .args .v)
-worked c = toZ-ofZ {w = w64} {z = c .pixel-of .result} (search needs) ∙ c .pixel-of .ensures
-
-fits : (c : tie.After-fits-i32) → c .fits-i32 .result ≡ fitsI32 (placed (c .before .before .before .before .args .a)
-    (c .before .before .before .before .args .l) (c .before .before .before .before .args .v))
-fits c = rw (worked (c .before)) at (c .fits-i32 .ensures)
+map-by-requires : tie.Need-map-by-requires
+map-by-requires c κs =
+    let e = c .before in
+    let x = e .before .before .args in
+    let row = scaleQuestions (x .a) (x .l) in (
+      subst (λ (s : Scale). LowOnPage s) (sym (c .scale-of .ensures)) (low-on-page (x .a) (x .l) (told 7 row tt (none e))),
+      told 3 row tt (none e),
+    )
 
 returns-2 : tie.Need-returns-2
 returns-2 c =
-    let t = c .before in
-    let e = t .before .before in
-    let x = e .before .before .args in
-    let p = placed (x .a) (x .l) (x .v) in
-    rw (worked (t .before)) (sym (asked (x .a) (x .l) (x .v) (none e) ∙ ap (λ (b : Bool). pixelAnswer (cond b 0 10) p)
-    (sym (fits t) ∙ c .if2 .taken)))
-
-returns-3 : tie.Need-returns-3
-returns-3 c =
-    let t = c .before in
-    let e = t .before .before in
-    let x = e .before .before .args in
-    let p = placed (x .a) (x .l) (x .v) in
-    sym (asked (x .a) (x .l) (x .v) (none e) ∙ ap (λ (b : Bool). pixelAnswer (cond b 0 10) p) (sym (fits t) ∙ c .if2 .left))
+    let s = c .before in
+    let x = s .before .before .before .args in
+    c .map-by .ensures
+    ∙ (ap (λ (y : Scale). mappedBy y (x .a) (x .v)) (s .scale-of .ensures) ∙ by-scale (x .a) (x .l) (x .v) (none (s .before)))
 
 pub map-spec : {M : Type 1} → statement M
 map-spec =
     tie.close
-    (tie.spec (λ c κs. search needs) returns pixel-of-requires (λ c κs. search needs) returns-2 returns-3)
+    (tie.spec (λ c κs. search needs) returns scale-of-requires map-by-requires returns-2)

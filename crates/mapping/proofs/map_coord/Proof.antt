@@ -7,7 +7,7 @@ use mir.Syntax.{w64}
 use mir.Val.{SFits}
 use mir.Facts.{toZ-ofZ}
 use Rattle.axis.specs.Axes.{offsetOf}
-use Rattle.mapping.specs.Mapping.{cut, positionOf}
+use Rattle.floats.specs.Rounding.{cut, quotientOf}
 use Rattle.mapping.proofs.Placing.{coord-near, coord-far}
 use Rattle.mapping.proofs.map_coord.Statement.{statement}
 use Rattle.mapping.proofs.map_coord.Tie as tie
@@ -18,7 +18,7 @@ returns c =
     let o = p .before .before .before .before .before in
     let x = o .before .args in
     let v-fits : SFits w64 (o .offset .result .value) = search needs in
-    let at = p .position .ensures ∙ ap (λ (z : ℤ). positionOf (x .s .width) z (x .s .total)) (toZ-ofZ v-fits) in
+    let at = p .quotient .ensures ∙ ap (λ (z : ℤ). quotientOf (x .s .width) z (x .s .total)) (toZ-ofZ v-fits) in
     toZ-ofZ {w = w64} {z = c .from-low .result} (search needs)
     ∙ (c .from-low .ensures
     ∙ (ap (λ (f : Float). x .s .low +ℤ cut f) at
@@ -31,7 +31,7 @@ returns-2 c =
     let o = d .before .before .before .before in
     let x = o .before .args in
     let days = toZ-ofZ {w = w64} {z = d .offset-days .result} (search needs) ∙ d .offset-days .ensures in
-    let at = p .position2 .ensures ∙ ap (λ (z : ℤ). positionOf (x .s .width) z (x .s .days)) days in
+    let at = p .quotient2 .ensures ∙ ap (λ (z : ℤ). quotientOf (x .s .width) z (x .s .days)) days in
     toZ-ofZ {w = w64} {z = c .from-low2 .result} (search needs)
     ∙ (c .from-low2 .ensures
     ∙ (ap (λ (f : Float). x .s .low +ℤ cut f) at

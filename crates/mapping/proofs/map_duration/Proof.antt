@@ -8,8 +8,9 @@ use mir.Syntax.{w64}
 use mir.Val.{SFits}
 use mir.Facts.{toZ-ofZ}
 use Rattle.axis.specs.Axes.{offsetOf}
-use Rattle.mapping.specs.Mapping.{cut, nudge, positionOf}
-use Rattle.mapping.proofs.Placing.{duration-near, duration-high, duration-far}
+use Rattle.mapping.specs.Mapping.{nudge}
+use Rattle.floats.specs.Rounding.{cut, quotientOf}
+use Rattle.mapping.proofs.Placing.{nudge-is, duration-near, duration-high, duration-far}
 use Rattle.mapping.proofs.map_duration.Statement.{statement}
 use Rattle.mapping.proofs.map_duration.Tie as tie
 
@@ -20,11 +21,12 @@ returns c =
     let t = d .before in
     let x = t .before .before .args in
     let days = toZ-ofZ {w = w64} {z = d .offset-days .result} (search needs) ∙ d .offset-days .ensures in
-    let at = p .position .ensures ∙ ap (λ (z : ℤ). positionOf (x .s .width) z (x .s .days)) days in
+    let at = p .quotient .ensures ∙ ap (λ (z : ℤ). quotientOf (x .s .width) z (x .s .days)) days in
     toZ-ofZ {w = w64} {z = c .from-low .result} (search needs)
     ∙ (c .from-low .ensures
+    ∙ (ap (λ (f : Float). x .s .low +ℤ cut (add binary64 (p .quotient .result) f)) nudge-is
     ∙ (ap (λ (f : Float). x .s .low +ℤ cut (add binary64 f nudge)) at
-    ∙ duration-far (x .s) (offsetOf (x .a) (x .v)) (not-true _ (t .if1 .taken))))
+    ∙ duration-far (x .s) (offsetOf (x .a) (x .v)) (not-true _ (t .if1 .taken)))))
 
 returns-2 : tie.Need-returns-2
 returns-2 c =
@@ -42,12 +44,13 @@ returns-3 c =
     let o = t .before .before in
     let x = o .before .before .before .args in
     let v-fits : SFits w64 (o .offset .result .value) = search needs in
-    let at = p .position2 .ensures ∙ ap (λ (z : ℤ). positionOf (x .s .width) z (x .s .total)) (toZ-ofZ v-fits) in
+    let at = p .quotient2 .ensures ∙ ap (λ (z : ℤ). quotientOf (x .s .width) z (x .s .total)) (toZ-ofZ v-fits) in
     toZ-ofZ {w = w64} {z = c .from-low2 .result} (search needs)
     ∙ (c .from-low2 .ensures
+    ∙ (ap (λ (f : Float). x .s .low +ℤ cut (add binary64 (p .quotient2 .result) f)) nudge-is
     ∙ (ap (λ (f : Float). x .s .low +ℤ cut (add binary64 f nudge)) at
     ∙ duration-near (offsetOf (x .a) (x .v)) (o .offset .result) (o .offset .ensures) (x .s)
-    (not-false _ (o .before .if1 .left)) (not-false _ (t .if2 .left))))
+    (not-false _ (o .before .if1 .left)) (not-false _ (t .if2 .left)))))
 
 pub map-duration-spec : {M : Type 1} → statement M
 map-duration-spec =

@@ -6,43 +6,31 @@ use native.Mathlib.Omega.{arith}
 use lib.IntN.{ℤ, pos}
 use mir.Facts.{toZ-ofZ}
 use Rattle.laws.proofs.Signed.{count-fits, read-count}
-use Rattle.axis.specs.declared.Axis.{Axis}
-use Rattle.axis.specs.declared.BoldPoints.{BoldPoints}
+use Rattle.axis.specs.Axes.{axisOf}
+use Rattle.ticks.specs.declared.PeriodAnswer.{PeriodAnswer}
 use Rattle.ticks.specs.Answers.{periodAnswer}
 use Rattle.ordered.specs.Replies.{periodReply}
+use Rattle.ordered.proofs.Axes.{axis-read}
 use Rattle.ordered.proofs.Counts.{period-most}
 use Rattle.ordered.proofs.ordered_period_per_point.Statement.{statement}
 use Rattle.ordered.proofs.ordered_period_per_point.Tie as tie
 
-abbrev axis : tie.Start → Axis
-axis c = let x = c .args in record {
-  kind = x .kind;
-  «start_head» = x .start-head;
-  «start_tail» = x .start-tail;
-  «end_head» =
-      x .end-head;
-  «end_tail» = x .end-tail;
-}
+abbrev answer : tie.Start → PeriodAnswer
+answer s = let x = s .args in
+    periodAnswer (axisOf (x .kind) (x .start-head) (x .start-tail) (x .end-head) (x .end-tail)) (record { n = x .n })
 
-abbrev hint : tie.Start → BoldPoints
-hint c = record { n = c .args .n }
-
-said : (c : tie.After-period-per-point) → c .period-per-point .result ≡ periodAnswer (axis (c .before)) (hint (c .before))
-said c = let f = c .before .fits in
-    rw (
-      toZ-ofZ (f .kind),
-      toZ-ofZ (f .start-head),
-      toZ-ofZ (f .start-tail),
-      toZ-ofZ (f .end-head),
-      toZ-ofZ (f .end-tail),
-      toZ-ofZ (f .n),
-    ) at (c .period-per-point .ensures)
+said : (c : tie.After-period-per-point) → c .period-per-point .result ≡ answer (c .before .before)
+said c =
+    let f = c .before .before .fits in
+    c .period-per-point .ensures
+    ∙ (λ i. periodAnswer ((c .before .axis-of .ensures ∙ axis-read (f .kind) (f .start-head) (f .start-tail) (f .end-head)
+    (f .end-tail)) i) (record { n = toZ-ofZ (f .n) i }))
 
 fits : (c : tie.After-known-told) → c .before .k .given .0 .0 < 2 ^ 63
 fits c =
     let g = c .before .k .given in
     let p = c .before .before .before in
-    period-most (axis (p .before)) (hint (p .before)) (g .0 .0) (sym (said p) ∙ g .1)
+    period-most _ _ (g .0 .0) (sym (said p) ∙ g .1)
 
 cast-t13 : tie.Need-cast-t13
 cast-t13 c = count-fits _ (fits c)
@@ -65,5 +53,5 @@ returns-3 c =
 pub ordered-period-per-point-spec : {M : Type 1} → statement M
 ordered-period-per-point-spec =
     tie.close
-    (tie.spec (λ c κs. search needs) (λ c. search needs) cast-t13 (λ c. search needs) (λ c. search needs)
+    (tie.spec (λ c κs. search needs) (λ c κs. search needs) (λ c. search needs) cast-t13 (λ c. search needs) (λ c. search needs)
     (λ c. search needs) returns returns-2 returns-3)

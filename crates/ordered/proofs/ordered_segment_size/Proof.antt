@@ -1,50 +1,29 @@
 -- `ordered::ordered_segment_size` meets its contract: each number, read back from its bits, is itself. Assumes nothing.
 use borrow.Author.Needs.{needs}
-use mathlib.Core.Path.{_≡_, _∙_, sym, ap, subst}
+use mathlib.Core.Path.{_≡_, sym, _∙_, ap, subst}
 use Prim.Native.Nat.{_^_, _<_}
-use mir.Facts.{toZ-ofZ}
+use Rattle.axis.specs.Axes.{axisOf}
 use Rattle.discrete.specs.declared.NumberAnswer.{NumberAnswer}
 use Rattle.segmented.specs.Answers.{segmentSizeAnswer}
 use Rattle.ordered.specs.Replies.{numberIn, numberReply}
+use Rattle.ordered.proofs.Axes.{axis-read}
 use Rattle.ordered.proofs.Counts.{segment-size-fits}
 use Rattle.ordered.proofs.ordered_segment_size.Statement.{statement}
 use Rattle.ordered.proofs.ordered_segment_size.Tie as tie
 
-abbrev answer : tie.Start → NumberAnswer
-answer c = let x = c .args in
-    segmentSizeAnswer (record {
-      kind = x .kind;
-      «start_head» = x .start-head;
-      «start_tail» = x .start-tail;
-      «end_head» =
-          x .end-head;
-      «end_tail» = x .end-tail;
-    })
+said : (c : tie.After-size) → let x = c .before .before .args in
+    c .size .result ≡ segmentSizeAnswer (axisOf (x .kind) (x .start-head) (x .start-tail) (x .end-head) (x .end-tail))
+said c =
+    let f = c .before .before .fits in
+    c .size .ensures ∙ (λ i. segmentSizeAnswer
+    ((c .before .axis-of .ensures ∙ axis-read (f .kind) (f .start-head) (f .start-tail) (f .end-head) (f .end-tail)) i))
 
-said : (c : tie.After-size) → c .size .result ≡ answer (c .before)
-said c = let f = c .before .fits in
-    rw (
-      toZ-ofZ (f .kind),
-      toZ-ofZ (f .start-head),
-      toZ-ofZ (f .start-tail),
-      toZ-ofZ (f .end-head),
-      toZ-ofZ (f .end-tail),
-    ) at (c .size .ensures)
-
-numbered-requires : tie.Need-numbered-requires
-numbered-requires c κs = let x = c .before .args in
-    subst (λ (l : NumberAnswer). numberIn l < 2 ^ 63) (sym (said c))
-    (segment-size-fits (record {
-      kind = x .kind;
-      «start_head» = x .start-head;
-      «start_tail» = x .start-tail;
-      «end_head» =
-          x .end-head;
-      «end_tail» = x .end-tail;
-    }))
+number-reply-requires : tie.Need-number-reply-requires
+number-reply-requires c κs = subst (λ (n : NumberAnswer). numberIn n < 2 ^ 63) (sym (said c)) (segment-size-fits _)
 
 returns : tie.Need-returns
-returns c = c .numbered .ensures ∙ ap numberReply (said (c .before))
+returns c = c .number-reply .ensures ∙ ap numberReply (said (c .before))
 
 pub ordered-segment-size-spec : {M : Type 1} → statement M
-ordered-segment-size-spec = tie.close (tie.spec (λ c κs. search needs) numbered-requires returns)
+ordered-segment-size-spec =
+    tie.close (tie.spec (λ c κs. search needs) (λ c κs. search needs) number-reply-requires returns)

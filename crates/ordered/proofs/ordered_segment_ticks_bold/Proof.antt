@@ -1,68 +1,31 @@
 -- `ordered::ordered_segment_ticks_bold` meets its contract: each number, read back from its bits, is itself. Assumes nothing.
 use borrow.Author.Needs.{needs}
-use mathlib.Core.Path.{_≡_, _∙_, sym, ap, subst}
-use Prim.Native.Nat.{_^_, _<_}
-use native.Mathlib.Omega.{arith}
+use mathlib.Core.Path.{_≡_, _∙_}
 use lib.ListN.{length}
 use mir.Facts.{toZ-ofZ}
-use Rattle.axis.specs.declared.Axis.{Axis}
-use Rattle.steps.specs.declared.Listed.{Listed}
-use Rattle.steps.specs.Listing.{countOf}
-use Rattle.ticks.specs.Hints.{Hint, bold}
-use Rattle.segmented.specs.Answers.{segmentTicksAnswer}
+use Rattle.axis.specs.Axes.{axisOf}
+use Rattle.axis.specs.declared.Hint.the-variants.{Bold}
+use Rattle.segmented.specs.Answers.{segmentTicksAnswer, segmentTicksWritten}
 use Rattle.ordered.specs.Replies.{countReply}
-use Rattle.ordered.proofs.Counts.{segment-answer-most}
+use Rattle.ordered.proofs.Axes.{axis-read}
 use Rattle.ordered.proofs.ordered_segment_ticks_bold.Statement.{statement}
 use Rattle.ordered.proofs.ordered_segment_ticks_bold.Tie as tie
 
-abbrev axis : tie.Start → Axis
-axis c = let x = c .args in record {
-  kind = x .kind;
-  «start_head» = x .start-head;
-  «start_tail» = x .start-tail;
-  «end_head» =
-      x .end-head;
-  «end_tail» = x .end-tail;
-}
-
-abbrev hint : tie.Start → Hint
-hint c = let x = c .args in bold (record { n = x .n })
-
-said : (c : tie.After-list-bold) → let s = c .before .before in
-    c .list-bold .result ≡ segmentTicksAnswer (axis s) (hint s) (length (s .args .lent .now))
-said c = let f = c .before .before .fits in
-    rw (
-      toZ-ofZ (f .kind),
-      toZ-ofZ (f .start-head),
-      toZ-ofZ (f .start-tail),
-      toZ-ofZ (f .end-head),
-      toZ-ofZ (f .end-tail),
-      toZ-ofZ (f .n),
-    ) at (c .list-bold .ensures .0)
-
-counted-requires : tie.Need-counted-requires
-counted-requires c κs =
-    let l = c .before in
-    let s = l .before .before in
-    subst (λ (l : Listed). countOf l < 2 ^ 63) (sym (said l))
-    (segment-answer-most (axis s) (hint s) (length (s .args .lent .now)) (omega arith))
+axis : (c : tie.After-axis-of) → let x = c .before .args in
+    c .axis-of .result ≡ axisOf (x .kind) (x .start-head) (x .start-tail) (x .end-head) (x .end-tail)
+axis c = let f = c .before .fits in c .axis-of .ensures ∙ axis-read (f .kind) (f .start-head) (f .start-tail) (f .end-head)
+    (f .end-tail)
 
 returns : tie.Need-returns
 returns c =
-    let l = c .before .before in
-    let f = l .before .before .fits in (
-      c .counted .ensures ∙ ap countReply (said l),
-      rw (
-        toZ-ofZ (f .kind),
-        toZ-ofZ (f .start-head),
-        toZ-ofZ (f .start-tail),
-        toZ-ofZ (f .end-head),
-        toZ-ofZ (f .end-tail),
-        toZ-ofZ (f .n),
-      ) at (l .list-bold .ensures .1),
+    let l = c .before in
+    let a = l .before .before in
+    let d = a .before .args .lent .now in (
+      l .list-segment-ticks .ensures .0
+          ∙ (λ i. countReply (segmentTicksAnswer (axis a i) (Bold (record { n = toZ-ofZ (a .before .fits .n) i })) (length d))),
+      l .list-segment-ticks .ensures .1
+          ∙ (λ i. segmentTicksWritten (axis a i) (Bold (record { n = toZ-ofZ (a .before .fits .n) i })) d),
     )
 
 pub ordered-segment-ticks-bold-spec : {M : Type 1} → statement M
-ordered-segment-ticks-bold-spec =
-    tie.close
-    (tie.spec (λ c κs. search needs) counted-requires (λ c. search needs) returns)
+ordered-segment-ticks-bold-spec = tie.close (tie.spec (λ c κs. search needs) (λ c κs. search needs) (λ c. search needs) returns)

@@ -1,39 +1,21 @@
 -- `ordered::ordered_unmap` meets its contract: each number, read back from its bits, is itself. Assumes nothing.
 use borrow.Author.Needs.{needs}
-use mathlib.Core.Path.{_≡_, _∙_, ap}
+use mathlib.Core.Path.{_∙_, ap}
 use mir.Facts.{toZ-ofZ}
-use Rattle.discrete.specs.declared.ValueAnswer.{ValueAnswer}
 use Rattle.discrete.specs.Answers.{unmapAnswer}
 use Rattle.ordered.specs.Replies.{valueReply}
+use Rattle.ordered.proofs.Axes.{axis-read}
 use Rattle.ordered.proofs.ordered_unmap.Statement.{statement}
 use Rattle.ordered.proofs.ordered_unmap.Tie as tie
 
-abbrev answer : tie.Start → ValueAnswer
-answer c = let x = c .args in
-    unmapAnswer (record {
-      kind = x .kind;
-      «start_head» = x .start-head;
-      «start_tail» = x .start-tail;
-      «end_head» =
-          x .end-head;
-      «end_tail» = x .end-tail;
-    }) (record { low = x .low; high = x .high }) (x .pixel)
-
-said : (c : tie.After-unmap) → c .unmap .result ≡ answer (c .before)
-said c = let f = c .before .fits in
-    rw (
-      toZ-ofZ (f .kind),
-      toZ-ofZ (f .start-head),
-      toZ-ofZ (f .start-tail),
-      toZ-ofZ (f .end-head),
-      toZ-ofZ (f .end-tail),
-      toZ-ofZ (f .low),
-      toZ-ofZ (f .high),
-      toZ-ofZ (f .pixel),
-    ) at (c .unmap .ensures)
-
 returns : tie.Need-returns
-returns c = c .valued .ensures ∙ ap valueReply (said (c .before))
+returns c =
+    let f = c .before .before .before .fits in
+    c .value-reply .ensures
+    ∙ ap valueReply (c .before .unmap .ensures
+    ∙ (λ i. unmapAnswer ((c .before .before .axis-of .ensures ∙ axis-read (f .kind) (f .start-head) (f .start-tail)
+    (f .end-head) (f .end-tail)) i)
+    (record { low = toZ-ofZ (f .low) i; high = toZ-ofZ (f .high) i }) (toZ-ofZ (f .pixel) i)))
 
 pub ordered-unmap-spec : {M : Type 1} → statement M
-ordered-unmap-spec = tie.close (tie.spec (λ c κs. search needs) (λ c κs. search needs) returns)
+ordered-unmap-spec = tie.close (tie.spec (λ c κs. search needs) (λ c κs. search needs) (λ c κs. search needs) returns)

@@ -6,7 +6,7 @@ use mathlib.Core.Bool.{false}
 use Prim.Native.Nat.{ℕ, _+_}
 use native.Mathlib.Nat.{lt-of-lt-of-le}
 use lib.Dec.{lit≤}
-use Rattle.period.specs.Ladders.{Ladder, placeOf, Climbable, firstWide}
+use Rattle.period.specs.Ladders.{Ladder, rungOf, Climbable, firstWide}
 use Rattle.period.specs.Periods.{ladderOf, noPeriod}
 use Rattle.period.proofs.Ladders.{is-decimal, is-seconds, is-hours, is-days, is-longest, chosen-ends}
 use Rattle.period.proofs.Periods.{Answers, answers-none, answers, below-day, any-step, days-listed}
@@ -18,13 +18,12 @@ module _ (q : tie.After-largest-power) {l : Ladder} (is : ladderOf (q .largest-p
   begins : Climbable (q .before .args .span) (q .before .args .n) l
   begins =
       let s = q .before in
-      let e = chosen-ends (s .args .span) (s .args .n) (s .pre .1) (s .pre .2) (q .largest-power .result)
-      (q .largest-power .ensures) (s .pre .0) in
-      rw is at (e .climbable)
+      rw is at (chosen-ends (s .args .span) (s .args .n) (s .pre .2) (q .largest-power .result) (q .largest-power .ensures)
+      (s .pre .1) (s .pre .0))
 
   finds : noPeriod (q .largest-power .result) (q .before .args .sub-daily) ≡ false → {x y : ℕ}
       → (x ≡ firstWide (q .before .args .span) (q .before .args .n) l)
-      × (y ≡ placeOf (q .before .args .span) (q .before .args .n) l + 1)
+      × (y ≡ rungOf (q .before .args .span) (q .before .args .n) l + 1)
       → Answers (q .before .args .span) (q .before .args .n) (q .before .args .sub-daily) x y
   finds e f =
       let a = q .before .args in

@@ -7,7 +7,7 @@ use native.Mathlib.Omega.{arith}
 use lib.Dec.{eqb, eqb→eq}
 use lib.ListN.{getD}
 use Rattle.laws.proofs.Tables.{all, at}
-use Rattle.period.specs.Ladders.{stepAt, decimal, rare}
+use Rattle.period.specs.Ladders.{stepAt, decimalLadder, rare}
 use Rattle.period.proofs.Search.{Come, come-first}
 use Rattle.period.proofs.Fits.{step-above, fit-here, fit-next, fit-last}
 use Rattle.period.proofs.first_fit.Statement.{statement}
@@ -18,9 +18,10 @@ abbrev table : List ℕ
 table = 1 ∷ 2 ∷ 5 ∷ 10 ∷ 20 ∷ 50 ∷ 100 ∷ 200 ∷ 500 ∷ 1000 ∷ 2000 ∷ 5000 ∷ 10000 ∷ 20000 ∷ 50000 ∷ 100000 ∷ 200000 ∷ 500000
     ∷ 1000000 ∷ 2000000 ∷ 5000000 ∷ 10000000 ∷ []
 
-entry : (i : ℕ) → i < 22 → getD table i 0 ≡ stepAt (decimal 1) i
+entry : (i : ℕ) → i < 22 → getD table i 0 ≡ stepAt (decimalLadder 1) i
 unfolding all
-entry i h = eqb→eq (getD table i 0) (stepAt (decimal 1) i) (at (λ (i : ℕ). eqb (getD table i 0) (stepAt (decimal 1) i)) 22 tt i h)
+entry i h = eqb→eq (getD table i 0) (stepAt (decimalLadder 1) i)
+    (at (λ (i : ℕ). eqb (getD table i 0) (stepAt (decimalLadder 1) i)) 22 tt i h)
 
 abbrev Inv-loop : tie.InvT-loop
 Inv-loop total n frequencies i₀ i = Come (rare total n) 21 i × (frequencies ≡ table)

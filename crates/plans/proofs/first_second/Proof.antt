@@ -2,14 +2,14 @@
 use borrow.Author.Needs.{needs}
 use mathlib.Core.Path.{_≡_, refl, sym, _∙_}
 use mathlib.Core.Bool.{_&&_}
-use lib.IntN.{ℤ, pos, _+ℤ_, _*ℤ_, +ℤ-idr}
+use lib.IntN.{ℤ, pos, _*ℤ_, +ℤ-idr}
 use lib.Signed.{leZ}
 use mir.Syntax.{w64}
 use mir.Val.{SFits, toZ, ofZ}
 use mir.Facts.{toZ-ofZ}
 use Rattle.values.proofs.Values.{DurationValue, duration-value}
 use Rattle.axis.specs.Questions.{equals}
-use Rattle.plans.specs.Times.{daysIn, days, firstSecond}
+use Rattle.plans.specs.Times.{daysIn, ofDays, firstSecond}
 use Rattle.plans.proofs.Spans.{second-fits, later-fits}
 use Rattle.plans.proofs.first_second.Statement.{statement}
 use Rattle.plans.proofs.first_second.Tie as tie
@@ -34,7 +34,7 @@ product c = rw (whole c) (toZ-ofZ (second-fits (c .before .args .v) (value (c .b
 same-test : (c : tie.After-struct-told4) → let d = c .before .before .before .before .before .before .before .before in
     let v = d .before .args .v in let h = toZ w64 (ofZ w64 (toZ w64 (ofZ w64 (d .days-in .result)) *ℤ pos 86400)) in
     let y = toZ w64 (ofZ w64 (v .head)) in let t = toZ w64 (ofZ w64 (v .tail)) in
-    (leZ h y && leZ y h) && (leZ (pos 0) t && leZ t (pos 0)) ≡ equals v (days (daysIn v))
+    (leZ h y && leZ y h) && (leZ (pos 0) t && leZ t (pos 0)) ≡ equals v (ofDays (daysIn v))
 same-test c =
     let d = c .before .before .before .before .before .before .before .before in
     rw (product d, toZ-ofZ (head-fits (d .before)), toZ-ofZ (tail-fits (d .before)))

@@ -5,18 +5,17 @@ use mathlib.Core.Path.{_≡_, sym, _∙_, ap}
 use mathlib.Core.Bool.{true, not}
 use Prim.Native.Nat.{ℕ}
 use native.Mathlib.Omega.{arith}
-use lib.IntN.{pos}
 use mir.Syntax.{w64}
 use mir.Val.{SFits, toZ, ofZ}
 use mir.Facts.{toZ-ofZ}
-use Rattle.laws.specs.Numbers.{up}
-use Rattle.laws.proofs.Signed.{is-ge}
+use Rattle.laws.specs.Numbers.{posPart}
 use Rattle.values.specs.declared.Nanoseconds.{Nanoseconds}
 use Rattle.values.specs.Values.{isDuration}
 use Rattle.values.specs.Differences.{fitsI64}
 use Rattle.values.proofs.Fits.{fits-is, value-is, fits-range}
 use Rattle.axis.specs.Axes.{spanOf}
 use Rattle.axis.proofs.Axes.{span-from-0}
+use Rattle.counting.proofs.Counting.{no-less}
 use Rattle.period.specs.Periods.{periodOf}
 use Rattle.plans.proofs.Spans.{no-period, some-period}
 use Rattle.plans.proofs.period_in.Statement.{statement}
@@ -39,9 +38,9 @@ value c e = toZ-ofZ (span-fits c) ∙ (ap (λ (x : Nanoseconds). x .value) (c .s
 short : (c : tie.Else1) → fitsI64 (spanOf (c .before .before .before .args .a)) ≡ true
 short c = sym (fits (c .before .before)) ∙ not-false _ (c .if1 .left)
 
-counted : (c : tie.After-count) →
-    c .count .result ≡ up (spanOf (c .before .before .before .before .before .before .before .args .a))
-counted c = c .count .ensures ∙ ap up (value (c .before .before .before .before .before .before)
+counted : (c : tie.After-as-count) →
+    c .as-count .result ≡ posPart (spanOf (c .before .before .before .before .before .before .before .args .a))
+counted c = c .as-count .ensures ∙ ap posPart (value (c .before .before .before .before .before .before)
     (short (c .before .before .before .before)))
 
 asked : (c : tie.After-is-duration) → c .is-duration .result
@@ -52,12 +51,12 @@ returns : tie.Need-returns
 returns c = let x = c .before .before .before .args in
     no-period (x .a) (x .n) (sym (fits (c .before .before)) ∙ not-true _ (c .if1 .taken))
 
-count-requires : tie.Need-count-requires
-count-requires c κs =
+as-count-requires : tie.Need-as-count-requires
+as-count-requires c κs =
     let s = c .before .before .before .before .before in
     let x = s .before in
     rw (value s (short (c .before .before .before)))
-    (is-ge (spanOf (x .args .a)) (pos 0) (omega (arith, span-from-0 (x .args .a) (x .pre .0 .real) (x .pre .0 .order))))
+    (no-less (spanOf (x .args .a)) (span-from-0 (x .args .a) (x .pre .0 .real) (x .pre .0 .order)))
 
 compute-period-per-point-requires : tie.Need-compute-period-per-point-requires
 compute-period-per-point-requires c κs =
@@ -75,11 +74,11 @@ returns-2 c =
     ap not (asked (n .before .before)) in
     c .compute-period-per-point .ensures .0
     ∙ ap (λ (k : ℕ). periodOf k (x .args .n) (not (n .before .before .is-duration .result))) (counted n)
-    ∙ ap (periodOf (up (spanOf (x .args .a))) (x .args .n)) d
+    ∙ ap (periodOf (posPart (spanOf (x .args .a))) (x .args .n)) d
     ∙ some-period (x .args .a) (x .args .n) (short e)
 
 pub period-in-spec : {M : Type 1} → statement M
 period-in-spec =
     tie.close
-    (tie.spec (λ c κs. search needs) returns (λ c κs. search needs) count-requires
+    (tie.spec (λ c κs. search needs) returns (λ c κs. search needs) as-count-requires
     compute-period-per-point-requires returns-2)

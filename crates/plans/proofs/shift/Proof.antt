@@ -9,15 +9,15 @@ use lib.IntN.{ℤ, pos}
 use mir.Syntax.{w64}
 use mir.Val.{SFits}
 use mir.Facts.{toZ-ofZ}
-use Rattle.laws.specs.Numbers.{up}
-use Rattle.laws.proofs.Signed.{is-ge}
+use Rattle.laws.specs.Numbers.{posPart}
 use Rattle.values.specs.declared.Nanoseconds.{Nanoseconds}
 use Rattle.values.specs.Values.{isDuration, isValue}
 use Rattle.values.specs.Differences.{nanoseconds, difference, nanosecondsOf}
 use Rattle.values.proofs.Fits.{fits-yes, value-is}
 use Rattle.axis.specs.Axes.{start}
+use Rattle.counting.proofs.Counting.{no-less}
 use Rattle.plans.specs.Times.{shiftUp, shiftOf, shift}
-use Rattle.plans.proofs.Times.{zeroSpan, from-zero, mag-small}
+use Rattle.plans.proofs.Times.{zeroSpan, from-zero}
 use Rattle.plans.proofs.Spans.{tail-range, start-seven, near-start}
 use Rattle.plans.proofs.shift.Statement.{statement}
 use Rattle.plans.proofs.shift.Tie as tie
@@ -51,10 +51,9 @@ worked c =
     ∙ ap (λ (z : ℤ). nanosecondsOf z .value) d
     ∙ value-is n (fits-yes n (omega arith) (omega arith))
 
-count-requires : tie.Need-count-requires
-count-requires c κs = let x = c .before .before .before .before in
-    rw (toZ-ofZ (tail-fits x)) (is-ge (x .args .a .«start_tail») (pos 0)
-    (omega (arith, tail-range (x .args .a) (x .pre .real) .0)))
+as-count-requires : tie.Need-as-count-requires
+as-count-requires c κs = let x = c .before .before .before .before in
+    rw (toZ-ofZ (tail-fits x)) (no-less (x .args .a .«start_tail») (tail-range (x .args .a) (x .pre .real) .0))
 
 returns : tie.Need-returns
 unfolding shift
@@ -63,7 +62,8 @@ returns c =
     let t = n .before .before in
     let x = t .before .before .before in
     let d : isDuration (x .args .a .kind) ≡ false = sym (asked (t .before)) ∙ not-true _ (t .if1 .taken) in
-    c .shift-up .ensures ∙ (ap (λ (k : ℕ). shiftUp k (x .args .k)) (n .count .ensures ∙ ap up (toZ-ofZ (tail-fits x))) ∙ rw d)
+    c .shift-up .ensures ∙ (ap (λ (k : ℕ). shiftUp k (x .args .k)) (n .as-count .ensures ∙ ap posPart (toZ-ofZ (tail-fits x)))
+    ∙ rw d)
 
 nanoseconds-between-requires : tie.Need-nanoseconds-between-requires
 nanoseconds-between-requires c κs =
@@ -74,10 +74,7 @@ nanoseconds-between-requires c κs =
     })
 
 shift-of-requires : tie.Need-shift-of-requires
-shift-of-requires c κs =
-    let x = c .before .before .before .before .before in
-    let r = near-start (x .args .a) (x .args .k) (x .pre) (seven (c .before .before)) in
-    (x .pre .above, rw (worked c) (mag-small (nanoseconds (pos 7) (start (x .args .a))) (r .0) (r .1)))
+shift-of-requires c κs = let x = c .before .before .before .before .before in (x .pre .above, x .pre .small)
 
 returns-2 : tie.Need-returns-2
 unfolding shift
@@ -89,5 +86,5 @@ returns-2 c =
 pub shift-spec : {M : Type 1} → statement M
 shift-spec =
     tie.close
-    (tie.spec (λ c κs. search needs) count-requires (λ c κs. search needs) returns (λ c κs. search needs)
+    (tie.spec (λ c κs. search needs) as-count-requires (λ c κs. search needs) returns (λ c κs. search needs)
     nanoseconds-between-requires shift-of-requires returns-2)

@@ -7,11 +7,11 @@ use lib.ListN.{length, take, drop, length-drop}
 use lib.Seq.{length-take-le}
 use Rattle.plate.proofs.eat.Statement.{statement}
 use Rattle.plate.proofs.eat.Tie as tie
-use Rattle.text_plate.specs.Turns.{Ready}
+use Rattle.text_plate.specs.Turns.{Keeps}
 
 abbrev Inv-loop : tie.InvT-loop
 Inv-loop kept₀ chunk lent₀ out₀ state₀ at₀ kept lent out state at =
-    (at ≤ length chunk) × (Ready state kept × ((length lent ≡ length lent₀) × (length out ≡ length out₀)))
+    (at ≤ length chunk) × (Keeps state kept × ((length lent ≡ length lent₀) × (length out ≡ length out₀)))
 
 abbrev μ-loop : tie.MeasureT-loop
 μ-loop kept₀ chunk lent₀ out₀ state₀ at₀ kept lent out state at = length chunk - at
@@ -27,7 +27,7 @@ some c =
     let size : length (take (length l - at) (drop at l)) ≡ length l - at =
     length-take-le (length l - at) (drop at l) (simp length-drop (omega arith)) in
     let t = c .turn .ensures in
-    (t .some (omega arith), omega (arith, t .within))
+    (t .some (omega arith), omega (arith, t .no-more))
 
 slice-aggregate-write-all : tie.Need-slice-aggregate-write-all Inv-loop μ-loop
 slice-aggregate-write-all c =

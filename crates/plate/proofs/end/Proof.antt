@@ -9,7 +9,7 @@ use Rattle.plate.proofs.end.Tie as tie
 slice-aggregate-ended : tie.Need-slice-aggregate-ended
 slice-aggregate-ended c =
     let x = c .before .before .before in
-    sym (length-take-le (x .args .s .len) (x .args .kept .now) (omega (arith, x .pre .0 .most, x .pre .0 .size)))
+    sym (length-take-le (x .args .s .len) (x .args .kept .now) (omega (arith, x .pre .0 .most, x .pre .0 .same-size)))
 
 pub end-spec : {M : Type 1} → statement M
 end-spec =

@@ -4,11 +4,11 @@ use mathlib.Core.Path.{_≡_}
 use lib.ListN.{length}
 use Rattle.plate.proofs.main.Statement.{statement}
 use Rattle.plate.proofs.main.Tie as tie
-use Rattle.text_plate.specs.Turns.{Ready}
+use Rattle.text_plate.specs.Turns.{Keeps}
 
 abbrev Inv-loop : tie.InvT-loop
 Inv-loop kept₀ buf₀ lent₀ out₀ s₀ turns₀ kept buf lent out s turns =
-    Ready s kept × ((length buf ≡ 65536) × ((length lent ≡ 8194) × (length out ≡ 266305)))
+    Keeps s kept × ((length buf ≡ 65536) × ((length lent ≡ 8194) × (length out ≡ 266305)))
 
 abbrev μ-loop : tie.MeasureT-loop
 μ-loop kept₀ buf₀ lent₀ out₀ s₀ turns₀ kept buf lent out s turns = turns

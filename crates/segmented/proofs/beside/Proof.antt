@@ -8,7 +8,7 @@ use mir.Syntax.{w64}
 use mir.Val.{SFits, toZ, ofZ}
 use mir.Facts.{toZ-ofZ}
 use Rattle.axis.specs.Questions.{fitsI32}
-use Rattle.segmented.specs.Segments.{half, fitting, beside}
+use Rattle.segmented.specs.Segments.{half, alone, pixelChecked}
 use Rattle.segmented.proofs.Pixels.{half-sum-fits, beside-left, beside-is}
 use Rattle.segmented.proofs.beside.Statement.{statement}
 use Rattle.segmented.proofs.beside.Tie as tie
@@ -36,19 +36,19 @@ sum-is c = λ i. toZ-ofZ (start c .fits .left) i +ℤ half-is c i
 sum-fits : (c : tie.After-half) → SFits w64 (start c .args .left +ℤ half (start c .args .margin))
 sum-fits c = let s = start c in half-sum-fits (s .args .left) (s .args .margin) (left-true (c .before)) (s .fits .margin)
 
-add-fitting : tie.Need-add-fitting
-add-fitting c = subst (SFits w64) (sym (sum-is c)) (sum-fits c)
+add-alone : tie.Need-add-alone
+add-alone c = subst (SFits w64) (sym (sum-is c)) (sum-fits c)
 
 returns-2 : tie.Need-returns-2
 returns-2 c =
     let n = c .before in
     let x = start n .args in
-    c .fitting .ensures
-    ∙ ap (λ (z : ℤ). fitting (fitsI32 z) z) (ap (λ (z : ℤ). toZ w64 (ofZ w64 z)) (sum-is n) ∙ toZ-ofZ (sum-fits n))
+    c .alone .ensures
+    ∙ ap (λ (z : ℤ). pixelChecked (alone z)) (ap (λ (z : ℤ). toZ w64 (ofZ w64 z)) (sum-is n) ∙ toZ-ofZ (sum-fits n))
     ∙ beside-is (x .left) (x .margin) (left-true (n .before))
 
 pub beside-spec : {M : Type 1} → statement M
 beside-spec =
     tie.close
-    (tie.spec (λ c κs. search needs) returns (λ c κs. search needs) add-fitting (λ c κs. search needs)
+    (tie.spec (λ c κs. search needs) returns (λ c κs. search needs) add-alone (λ c κs. search needs)
     returns-2)

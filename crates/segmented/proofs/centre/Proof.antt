@@ -1,98 +1,102 @@
 -- `segmented::centre` meets its contract. Assumes nothing.
 use borrow.Author.Needs.{needs}
-use mathlib.Core.Path.{_≡_, sym, _∙_, ap, subst}
-use mathlib.Core.Bool.{true}
+use mathlib.Core.Path.{_≡_, sym, _∙_, ap}
 use Prim.Native.Nat.{ℕ}
 use lib.IntN.{ℤ}
 use mir.Syntax.{w64}
 use mir.Val.{toZ, ofZ}
 use mir.Facts.{toZ-ofZ}
-use Rattle.axis.specs.declared.Limits.{Limits}
-use Rattle.axis.specs.Questions.{pixels}
-use Rattle.mapping.specs.Mapping.{placed}
-use Rattle.discrete.specs.declared.ValueAnswer.{ValueAnswer}
-use Rattle.discrete.specs.Counting.{sizeOf}
-use Rattle.discrete.specs.Answers.{checked, nextIn}
+use Rattle.axis.specs.declared.ValueAnswer.{ValueAnswer}
+use Rattle.mapping.specs.declared.Scale.{Scale}
+use Rattle.mapping.specs.Mapping.{scaleOf, LowOnPage, placedBy, placed}
+use Rattle.counting.specs.Counting.{sizeOf}
 use Rattle.discrete.proofs.Laws.{next-on}
-use Rattle.segmented.specs.Segments.{marginOf, inner, beside, between, centred, centreOf}
-use Rattle.segmented.proofs.Margins.{inner-pixels}
+use Rattle.segmented.specs.declared.SegmentValue.the-variants.{CenterOf}
+use Rattle.segmented.specs.Segments.{marginOf, inner, beside, between, segmentWorked, pixelChecked}
+use Rattle.segmented.proofs.Margins.{low-inner}
+use Rattle.segmented.proofs.Pixels.{onward, centre-is}
 use Rattle.segmented.proofs.centre.Statement.{statement}
 use Rattle.segmented.proofs.centre.Tie as tie
 
-within : (c : tie.After-inner) → pixels (c .inner .result) ≡ true
-within c = let s = c .before in
-    subst (λ (l : Limits). pixels l ≡ true) (sym (c .inner .ensures)) (inner-pixels (s .args .size) (s .args .l) (s .pre .2)
-    (s .pre .1))
+-- the scale is that of the definition
+scale-is : (c : tie.After-inner-scale) → let x = c .before .args in
+    c .inner-scale .result ≡ scaleOf (x .a) (inner (sizeOf (x .a)) (x .l))
+scale-is c = let s = c .before in
+    c .inner-scale .ensures ∙ ap (λ (n : ℕ). scaleOf (s .args .a) (inner n (s .args .l))) (s .pre .4)
 
-pixel-of-requires : tie.Need-pixel-of-requires
-pixel-of-requires c κs = let s = c .before in (s .pre .0 .real, within c, s .pre .3)
+on-page : (c : tie.After-inner-scale) → LowOnPage (c .inner-scale .result)
+on-page c = let s = c .before in
+    rw (c .inner-scale .ensures) (low-inner (s .args .a) (s .args .size) (s .args .l) (s .pre .2) (s .pre .1))
+
+pixel-by-requires : tie.Need-pixel-by-requires
+pixel-by-requires c κs = let s = c .before in (on-page c, s .pre .0 .real, s .pre .3)
+
+abbrev left : tie.Start → ℤ
+left s = placed (s .args .a) (inner (sizeOf (s .args .a)) (s .args .l)) (s .args .v)
 
 -- the pixel of v
-left-is : (c : tie.After-pixel-of) → let s = c .before .before in
-    toZ w64 (ofZ w64 (c .pixel-of .result)) ≡ placed (s .args .a) (inner (sizeOf (s .args .a)) (s .args .l)) (s .args .v)
+left-is : (c : tie.After-pixel-by) → toZ w64 (ofZ w64 (c .pixel-by .result)) ≡ left (c .before .before)
+unfolding placed
 left-is c =
-    let s = c .before .before in
-    let x = s .args in
-    toZ-ofZ {w = w64} {z = c .pixel-of .result} (search needs)
-    ∙ c .pixel-of .ensures
-    ∙ ap (λ (l : Limits). placed (x .a) l (x .v)) (c .before .inner .ensures ∙ ap (λ (n : ℕ). inner n (x .l)) (s .pre .4))
+    let x = c .before .before .args in
+    toZ-ofZ {w = w64} {z = c .pixel-by .result} (search needs)
+    ∙ c .pixel-by .ensures
+    ∙ ap (λ (y : Scale). placedBy y (x .a) (x .v)) (scale-is (c .before))
 
-pixel-of-requires-2 : tie.Need-pixel-of-requires-2
-pixel-of-requires-2 c κs =
+pixel-by-requires-2 : tie.Need-pixel-by-requires-2
+pixel-by-requires-2 c κs =
     let k = c .before in
     let n = k .before .before in
     let i = n .before .before in
     let s = i .before in (
+      on-page i,
       s .pre .0 .real,
-      within i,
-      next-on (s .args .a) (s .args .v) (k .w .given .0 .0) (s .pre .0) (sym (n .next-in .ensures)
-          ∙ k .w .given .1),
+      next-on (s .args .a) (s .args .v) (k .w .given .0 .0) (s .pre .0) (sym (n .next-in .ensures) ∙ k .w .given .1),
     )
 
+-- the answer, by what the code learnt of the next value
+by : (c : tie.After-next-in) (n : ValueAnswer) → c .next-in .result ≡ n → let s = c .before .before .before in
+    onward (s .args .a) (s .args .l) (left s) n ≡ pixelChecked (segmentWorked (s .args .a) (s .args .l) (CenterOf (s .args .v)))
+unfolding segmentWorked
+by c n e =
+    let s = c .before .before .before in
+    ap (onward (s .args .a) (s .args .l) (left s)) (sym e ∙ c .next-in .ensures)
+    ∙ centre-is (s .args .a) (s .args .l) (left s) (s .args .v)
+
 returns : tie.Need-returns
-unfolding centreOf
-returns c =
-    let k = c .before in
-    let n = k .before .before in
-    let x = n .before .before .before .args in
-    sym (ap (centred (x .a) (x .l) (placed (x .a) (inner (sizeOf (x .a)) (x .l)) (x .v))) (sym (n .next-in .ensures)
-    ∙ k .q .given .1))
+returns c = let k = c .before in by (k .before .before) _ (k .q .given .1)
 
 returns-2 : tie.Need-returns-2
-unfolding centreOf
 returns-2 c =
     let m = c .before in
     let k = m .before in
     let n = k .before .before in
-    let x = n .before .before .before .args in
-    let left = placed (x .a) (inner (sizeOf (x .a)) (x .l)) (x .v) in
+    let s = n .before .before .before in
     c .beside .ensures
-    ∙ (λ i. beside (left-is (n .before) i)
+    ∙ (λ i. pixelChecked (beside (left-is (n .before) i)
     ((toZ-ofZ {w = w64} {z = m .margin-of .result} (search needs) ∙ m .margin-of .ensures
-    ∙ ap (λ (n : ℕ). marginOf n (x .l)) (n .before .before .before .pre .4)) i))
-    ∙ sym (ap (centred (x .a) (x .l) left) (sym (n .next-in .ensures) ∙ k .enum-told .given .1))
+    ∙ ap (λ (j : ℕ). marginOf j (s .args .l)) (s .pre .4)) i)))
+    ∙ by n _ (k .enum-told .given .1)
 
 returns-3 : tie.Need-returns-3
-unfolding centreOf
+unfolding placed
 returns-3 c =
     let m = c .before in
     let k = m .before .before in
     let n = k .before .before in
     let i = n .before .before in
     let x = i .before .args in
-    let left = placed (x .a) (inner (sizeOf (x .a)) (x .l)) (x .v) in
-    let right : toZ w64 (ofZ w64 (m .pixel-of2 .result)) ≡ placed (x .a) (inner (sizeOf (x .a)) (x .l)) (k .w .given .0 .0) =
-    toZ-ofZ {w = w64} {z = m .pixel-of2 .result} (search needs)
-    ∙ m .pixel-of2 .ensures
-    ∙ ap (λ (l : Limits). placed (x .a) l (k .w .given .0 .0)) (i .inner .ensures ∙ ap (λ (n : ℕ). inner n (x .l))
-    (i .before .pre .4)) in
+    let right : toZ w64 (ofZ w64 (m .pixel-by2 .result)) ≡ placed (x .a) (inner (sizeOf (x .a)) (x .l)) (k .w .given .0 .0) =
+    toZ-ofZ {w = w64} {z = m .pixel-by2 .result} (search needs)
+    ∙ m .pixel-by2 .ensures
+    ∙ ap (λ (y : Scale). placedBy y (x .a) (k .w .given .0 .0)) (scale-is i) in
     c .between .ensures
-    ∙ (λ j. between (left-is (n .before) j) (right j))
-    ∙ sym (ap (centred (x .a) (x .l) left) (sym (n .next-in .ensures) ∙ k .w .given .1))
+    ∙ (λ j. pixelChecked (between (left-is (n .before) j) (right j)))
+    ∙ by n _ (k .w .given .1)
 
 pub centre-spec : {M : Type 1} → statement M
 centre-spec =
     tie.close
-    (tie.spec (λ c κs. search needs) pixel-of-requires (λ c κs. search needs) (λ c. search needs)
-    (λ c. search needs) (λ c κs. search needs) (λ c κs. search needs) (λ c. search needs) pixel-of-requires-2
+    (tie.spec (λ c κs. search needs) pixel-by-requires (λ c κs. search needs) (λ c. search needs)
+    (λ c. search needs) (λ c κs. search needs) (λ c κs. search needs) (λ c. search needs) pixel-by-requires-2
     (λ c κs. search needs) returns returns-2 returns-3)

@@ -1,11 +1,10 @@
 -- `segmented::index_of` meets its contract. Assumes nothing.
 use borrow.Author.Needs.{needs}
 use mathlib.Core.Path.{_≡_, sym, _∙_, ap, subst}
-use Prim.Native.Nat.{ℕ}
 use Rattle.laws.specs.Asking.{firstNo}
-use Rattle.laws.proofs.Asked.{told}
-use Rattle.discrete.specs.Answers.{numberAnswer}
-use Rattle.discrete.proofs.Answers.{number-refused}
+use Rattle.laws.proofs.Asked.{told, refused-by, passed-by}
+use Rattle.counting.proofs.Counting.{dated}
+use Rattle.discrete.specs.declared.NumberAnswer.the-variants as number
 use Rattle.segmented.specs.declared.SegmentValue.{SegmentValue}
 use Rattle.segmented.specs.Segments.{SegmentOn, segmentOf}
 use Rattle.segmented.specs.Answers.{segmentQuestions, segmentIndexIn, segmentIndexAnswer}
@@ -18,8 +17,8 @@ unfolding segmentIndexAnswer
 returns c =
     let r = c .before in
     let x = r .before .args in
-    number-refused (firstNo (segmentQuestions (x .a) (x .s))) (r .segment-refusal .result)
-    (segmentIndexIn (x .a) (segmentOf (x .s))) (r .segment-refusal .ensures) (c .if1 .taken)
+    refused-by number.Refused (segmentIndexIn (x .a) (segmentOf (x .s))) (segmentQuestions (x .a) (x .s))
+    (r .segment-refusal .result) (r .segment-refusal .ensures) (c .if1 .taken)
 
 none : (c : tie.Else1) → firstNo (segmentQuestions (c .before .before .args .a) (c .before .before .args .s)) ≡ 0
 none c = sym (c .before .segment-refusal .ensures) ∙ c .if1 .left
@@ -29,7 +28,7 @@ index-in-requires c κs =
     let x = c .before .before .before .args in
     let row = segmentQuestions (x .a) (x .s) in
     let e = none (c .before) in (
-      record { has = told 2 row tt e; real = told 3 row tt e },
+      dated (x .a) (told 2 row tt e) (told 3 row tt e),
       subst (λ (y : SegmentValue). SegmentOn (x .a) y)
           (sym (c .segment-of .ensures)) (on-kind (x .a) (x .s) (told 8 row tt e)),
     )
@@ -41,7 +40,7 @@ returns-2 c =
     let x = n .before .before .before .args in
     c .index-in .ensures
     ∙ ap (segmentIndexIn (x .a)) (n .segment-of .ensures)
-    ∙ sym (ap (λ (k : ℕ). numberAnswer k (segmentIndexIn (x .a) (segmentOf (x .s)))) (none (n .before)))
+    ∙ passed-by number.Refused (segmentIndexIn (x .a) (segmentOf (x .s))) (segmentQuestions (x .a) (x .s)) (none (n .before))
 
 pub index-of-spec : {M : Type 1} → statement M
 index-of-spec =

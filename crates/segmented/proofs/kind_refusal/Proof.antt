@@ -4,12 +4,7 @@ use Rattle.segmented.proofs.kind_refusal.Statement.{statement}
 use Rattle.segmented.proofs.kind_refusal.Tie as tie
 
 returns : tie.Need-returns
-returns c = rw (
-  c .ask2 .ensures,
-  c .before .has-index .ensures,
-  c .before .before .ask .ensures,
-  c .before .before .before .known .ensures,
-)
+returns c = cc
 
 pub kind-refusal-spec : {M : Type 1} → statement M
 kind-refusal-spec =

@@ -6,10 +6,10 @@ use Prim.Native.Nat.{ℕ}
 use borrow.Author.Tests.{not-true, not-false}
 use Rattle.laws.specs.Asking.{firstNo}
 use Rattle.laws.proofs.Asked.{told}
-use Rattle.discrete.specs.Counting.{Counted}
-use Rattle.discrete.proofs.Counting.{size-most}
+use Rattle.counting.specs.Counting.{Dated}
+use Rattle.counting.proofs.Counting.{dated, size-most}
 use Rattle.segmented.specs.declared.SegmentValue.{SegmentValue}
-use Rattle.segmented.specs.Segments.{SegmentOn, segmentOf, segmentMappable, segmentPixel}
+use Rattle.segmented.specs.Segments.{SegmentOn, segmentOf, segmentMappable, segmentWorked, pixelChecked}
 use Rattle.segmented.specs.Answers.{segmentValueQuestions, segmentMapAnswer}
 use Rattle.segmented.proofs.Answers.{on-kind, some-size, map-refused, map-nine, map-is}
 use Rattle.segmented.proofs.map.Statement.{statement}
@@ -23,11 +23,11 @@ none : (c : tie.Else1) → firstNo (segmentValueQuestions (c .before .before .ar
     (c .before .before .args .s)) ≡ 0
 none c = sym (c .before .map-refusal .ensures) ∙ c .if1 .left
 
-real : (c : tie.Else1) → Counted (c .before .before .args .a)
+real : (c : tie.Else1) → Dated (c .before .before .args .a)
 real c =
     let x = c .before .before .args in
     let row = segmentValueQuestions (x .a) (x .l) (x .s) in
-    record { has = told 2 row tt (none c); real = told 3 row tt (none c) }
+    dated (x .a) (told 2 row tt (none c)) (told 3 row tt (none c))
 
 size-of-requires : tie.Need-size-of-requires
 size-of-requires c κs = real (c .before)
@@ -78,7 +78,7 @@ returns-3 c =
     let e = n .before in
     let x = e .before .before .args in
     c .segment-pixel .ensures
-    ∙ ap (segmentPixel (x .a) (x .l)) (n .segment-of .ensures)
+    ∙ ap (λ (y : SegmentValue). pixelChecked (segmentWorked (x .a) (x .l) y)) (n .segment-of .ensures)
     ∙ map-is (x .a) (x .l) (x .s) (none e) (yes t)
 
 pub map-spec : {M : Type 1} → statement M

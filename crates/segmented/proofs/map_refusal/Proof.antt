@@ -4,17 +4,7 @@ use Rattle.segmented.proofs.map_refusal.Statement.{statement}
 use Rattle.segmented.proofs.map_refusal.Tie as tie
 
 returns : tie.Need-returns
-returns c =
-    let b = c .before in
-    let p = b .before .before in
-    rw (
-      c .ask2 .ensures,
-      b .segment-on .ensures,
-      b .before .ask .ensures,
-      p .pixels .ensures,
-      p .before .plain-refusal .ensures,
-      p .before .before .has-index .ensures,
-    )
+returns c = cc
 
 pub map-refusal-spec : {M : Type 1} → statement M
 map-refusal-spec =

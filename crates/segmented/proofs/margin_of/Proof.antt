@@ -1,20 +1,20 @@
 -- `segmented::margin_of` meets its contract. Assumes nothing.
 use borrow.Author.Needs.{needs}
-use mathlib.Core.Path.{_≡_, sym, _∙_, ap, subst}
-use mathlib.Core.Bool.{Bool}
+use mathlib.Core.Path.{_≡_, _∙_, ap}
 use native.Mathlib.Omega.{arith}
-use Prim.Native.Nat.{ℕ, _≤_, _<_, _^_}
+use Prim.Native.Nat.{_≤_}
 use lib.IntN.{ℤ, pos, _-ℤ_, natAbs}
-use lib.Signed.{ltZ}
-use lib.Ieee.{binary32, ofInt, div, toUnsigned}
-use mir.Syntax.{w64}
+use lib.Ieee.{binary32, ofInt, div, toSigned}
+use lib.Ieee.Casts.{toSigned-in}
+use mir.Syntax.{w32, w64}
 use mir.Val.{SFits, toZ, ofZ}
 use mir.Facts.{toZ-ofZ}
-use Rattle.floats.specs.Rounding.{withSign, halfUp, roundF}
-use Rattle.floats.proofs.Signs.{sign-is}
-use Rattle.floats.proofs.Quotients.{ratio-half}
+use Rattle.floats.specs.Rounding.{roundF}
+use Rattle.floats.proofs.Values.{in-float}
 use Rattle.axis.proofs.PixelRanges.{limits-are, between-fits}
-use Rattle.segmented.proofs.Margins.{width-few, margin-few, margin-is}
+use Rattle.mapping.proofs.Ranges.{wider}
+use Rattle.segmented.specs.Segments.{marginOf}
+use Rattle.segmented.proofs.Margins.{width-few}
 use Rattle.segmented.proofs.margin_of.Statement.{statement}
 use Rattle.segmented.proofs.margin_of.Tie as tie
 
@@ -40,44 +40,43 @@ few s = width-few (s .args .size) (s .args .l) (s .pre .0) (s .pre .1)
 sub-width : tie.Need-sub-width
 sub-width c = let s = c .before .before in rw (toZ-ofZ (high-fits s), toZ-ofZ (low-fits s)) (width-fits s)
 
-abbrev from : tie.After-size-of → tie.Start
-from c = c .before .before .before
+int-to-float-round-to-i32 : tie.Need-int-to-float-round-to-i32
+int-to-float-round-to-i32 c = let s = c .before .before .before in
+    rw (width-is s) (in-float binary32 (width s) (omega (arith, few s)))
 
-wide : (c : tie.After-size-of) → c .size-of .result ≡ natAbs (width (from c))
-wide c = c .size-of .ensures ∙ ap natAbs (width-is (from c))
+int-to-float-round-to-i32-2 : tie.Need-int-to-float-round-to-i32-2
+int-to-float-round-to-i32-2 c = let s = c .before .before .before .before in
+    in-float binary32 (pos (s .args .size)) (omega (arith, s .pre .0 .most))
 
-half-up-requires : tie.Need-half-up-requires
-half-up-requires c κs = let s = from c in (omega (arith, wide c, few s), s .pre .0 .least, omega (arith, s .pre .0 .most))
+abbrev from : tie.After-round-to-i32 → tie.Start
+from c = c .before .before .before .before .before
 
--- the quotient in whole numbers
-whole-is : (c : tie.After-half-up) → c .half-up .result ≡ halfUp (natAbs (width (from (c .before))))
-    (from (c .before) .args .size)
-whole-is c =
-    let s = from (c .before) in
-    c .half-up .ensures
-    ∙ ap (λ (n : ℕ). toUnsigned 64
-    (roundF binary32 (div binary32 (ofInt binary32 (pos n)) (ofInt binary32 (pos (s .args .size)))))) (wide (c .before))
-    ∙ ratio-half binary32 (natAbs (width s)) (s .args .size) (omega (arith, few s)) (s .pre .0 .least)
-    (omega (arith, s .pre .0 .most)) (omega (arith, few s))
+-- the margin, as the code reads it back
+margin-fits : (s : tie.Start) → SFits w32 (marginOf (s .args .size) (s .args .l))
+unfolding marginOf
+margin-fits s = record {
+  sfits = toSigned-in 31
+      (roundF binary32 (div binary32 (ofInt binary32 (width s)) (ofInt binary32 (pos (s .args .size)))));
+}
 
-signed-requires : tie.Need-signed-requires
-signed-requires c κs =
-    let s = from (c .before) in
-    subst (λ (k : ℕ). k < 2 ^ 63) (sym (whole-is c))
-    (omega (arith, margin-few (s .args .size) (s .args .l) (s .pre .0) (s .pre .1)))
+back : (c : tie.After-round-to-i32) → toZ w32 (ofZ w32 (c .round-to-i32 .result)) ≡ marginOf (from c .args .size)
+    (from c .args .l)
+unfolding marginOf
+back c =
+    let s = from c in
+    toZ-ofZ {w = w32} {z = c .round-to-i32 .result} (search needs)
+    ∙ c .round-to-i32 .ensures
+    ∙ ap (λ (z : ℤ). toSigned 31 (roundF binary32 (div binary32 (ofInt binary32 z) (ofInt binary32 (pos (s .args .size))))))
+    (width-is s)
+
+cast-result : tie.Need-cast-result
+cast-result c = rw (back c) (wider (marginOf (from c .args .size) (from c .args .l)) (margin-fits (from c)))
 
 returns : tie.Need-returns
-returns c =
-    let h = c .before in
-    let s = from (h .before) in
-    let W = width s in
-    toZ-ofZ {w = w64} {z = c .signed .result} (search needs)
-    ∙ c .signed .ensures
-    ∙ (λ i. withSign (ltZ (width-is s i) (pos 0)) (whole-is h i))
-    ∙ ap (λ (b : Bool). withSign b (halfUp (natAbs W) (s .args .size))) (sign-is W)
-    ∙ sym (margin-is (s .args .size) (s .args .l) (s .pre .0) (s .pre .1))
+returns c = let s = from c in
+    rw (back c) (toZ-ofZ (wider (marginOf (s .args .size) (s .args .l)) (margin-fits s)))
 
 pub margin-of-spec : {M : Type 1} → statement M
 margin-of-spec =
     tie.close
-    (tie.spec sub-width (λ c κs. search needs) half-up-requires signed-requires returns)
+    (tie.spec sub-width int-to-float-round-to-i32 int-to-float-round-to-i32-2 (λ c κs. search needs) cast-result returns)

@@ -1,6 +1,6 @@
 -- `segmented::segment_at` meets its contract. Assumes nothing.
 use borrow.Author.Needs.{needs}
-use mathlib.Core.Path.{sym, _∙_, ap}
+use mathlib.Core.Path.{_∙_, ap}
 use native.Mathlib.Omega.{arith}
 use Rattle.segmented.specs.Answers.{exactly}
 use Rattle.segmented.proofs.Answers.{segment-value, segment-last, segment-none}
@@ -13,19 +13,19 @@ returns c =
     let n = v .before .before in
     let x = n .before .args in
     c .exactly .ensures ∙ ap exactly (v .value-at .ensures)
-    ∙ sym (segment-value (x .a) (x .i) (omega (arith, n .size-of .ensures)))
+    ∙ segment-value (x .a) (x .i) (omega (arith, n .size-of .ensures))
 
 returns-2 : tie.Need-returns-2
 returns-2 c =
     let n = c .before .before in
     let x = n .before .args in
-    sym (segment-last (x .a) (x .i) (omega (arith, n .size-of .ensures)) (omega (arith, n .size-of .ensures)))
+    segment-last (x .a) (x .i) (omega (arith, n .size-of .ensures)) (omega (arith, n .size-of .ensures))
 
 returns-3 : tie.Need-returns-3
 returns-3 c =
     let n = c .before .before in
     let x = n .before .args in
-    sym (segment-none (x .a) (x .i) (omega (arith, n .size-of .ensures)))
+    segment-none (x .a) (x .i) (omega (arith, n .size-of .ensures))
 
 pub segment-at-spec : {M : Type 1} → statement M
 segment-at-spec =

@@ -8,7 +8,7 @@ use mir.Val.{SFits}
 use mir.Facts.{toZ-ofZ}
 use Rattle.laws.specs.Numbers.{within}
 use Rattle.segmented.specs.declared.SegmentValue.the-variants.{Exact, CenterOf, Last}
-use Rattle.segmented.specs.Segments.{valueIn, segmentOf}
+use Rattle.segmented.specs.Segments.{headTail, segmentOf}
 use Rattle.segmented.proofs.segment_of.Statement.{statement}
 use Rattle.segmented.proofs.segment_of.Tie as tie
 
@@ -22,8 +22,8 @@ returns c =
     let z = t .before .before .before .before .before in
     let x = z .args .s in
     let one : within (pos 1) (x .case) (pos 1) ≡ true = rw (toZ-ofZ (case-fits z)) at (t .if1 .taken) in
-    ap Exact (c .value-in .ensures)
-    ∙ sym (ap (λ (b : Bool). cond b (Exact (valueIn x)) (cond (within (pos 2) (x .case) (pos 2)) (CenterOf (valueIn x)) Last))
+    ap Exact (c .head-tail .ensures)
+    ∙ sym (ap (λ (b : Bool). cond b (Exact (headTail x)) (cond (within (pos 2) (x .case) (pos 2)) (CenterOf (headTail x)) Last))
     one)
 
 returns-2 : tie.Need-returns-2
@@ -35,8 +35,8 @@ returns-2 c =
     let x = z .args .s in
     let one : within (pos 1) (x .case) (pos 1) ≡ false = rw (toZ-ofZ (case-fits z)) at (e .if1 .left) in
     let two : within (pos 2) (x .case) (pos 2) ≡ true = rw (toZ-ofZ (case-fits z)) at (t .if2 .taken) in
-    ap CenterOf (c .value-in2 .ensures)
-    ∙ sym (λ i. cond (one i) (Exact (valueIn x)) (cond (two i) (CenterOf (valueIn x)) Last))
+    ap CenterOf (c .head-tail2 .ensures)
+    ∙ sym (λ i. cond (one i) (Exact (headTail x)) (cond (two i) (CenterOf (headTail x)) Last))
 
 returns-3 : tie.Need-returns-3
 unfolding segmentOf
@@ -46,7 +46,7 @@ returns-3 c =
     let x = z .args .s in
     let one : within (pos 1) (x .case) (pos 1) ≡ false = rw (toZ-ofZ (case-fits z)) at (e .if1 .left) in
     let two : within (pos 2) (x .case) (pos 2) ≡ false = rw (toZ-ofZ (case-fits z)) at (c .if2 .left) in
-    sym (λ i. cond (one i) (Exact (valueIn x)) (cond (two i) (CenterOf (valueIn x)) Last))
+    sym (λ i. cond (one i) (Exact (headTail x)) (cond (two i) (CenterOf (headTail x)) Last))
 
 pub segment-of-spec : {M : Type 1} → statement M
 segment-of-spec =

@@ -6,7 +6,7 @@ use Rattle.segmented.proofs.segment_on.Tie as tie
 
 returns : tie.Need-returns
 unfolding segmentOn
-returns c = rw (c .value-on .ensures, c .before .value-in .ensures) (search needs)
+returns c = rw (c .value-on .ensures, c .before .head-tail .ensures) (search needs)
 
 pub segment-on-spec : {M : Type 1} → statement M
 segment-on-spec = tie.close (tie.spec (λ c κs. search needs) (λ c κs. search needs) returns)

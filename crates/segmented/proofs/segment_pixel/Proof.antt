@@ -1,32 +1,29 @@
 -- `segmented::segment_pixel` meets its contract. Assumes nothing.
 use borrow.Author.Needs.{needs}
 use mathlib.Core.Path.{_≡_, sym, _∙_, ap, subst}
-use mathlib.Core.Bool.{true}
 use Prim.Native.Nat.{ℕ}
 use lib.IntN.{ℤ}
 use mir.Syntax.{w64}
-use mir.Val.{SFits, toZ, ofZ}
+use mir.Val.{SFits}
 use mir.Facts.{toZ-ofZ}
-use Rattle.axis.specs.declared.Limits.{Limits}
-use Rattle.axis.specs.Questions.{pixels, fitsI32}
-use Rattle.mapping.specs.Mapping.{placed}
 use Rattle.mapping.specs.declared.Pixel.the-variants as pixel
+use Rattle.mapping.specs.declared.Scale.{Scale}
+use Rattle.mapping.specs.Mapping.{scaleOf, placedBy, placed}
 use Rattle.segmented.specs.declared.SegmentValue.{SegmentValue}
-use Rattle.segmented.specs.Segments.{SegmentOn, fitting, inner, segmentPixel}
-use Rattle.segmented.proofs.Margins.{inner-pixels}
+use Rattle.segmented.specs.Segments.{SegmentOn, alone, inner, segmentWorked, pixelChecked}
+use Rattle.segmented.proofs.Margins.{low-inner}
 use Rattle.segmented.proofs.segment_pixel.Statement.{statement}
 use Rattle.segmented.proofs.segment_pixel.Tie as tie
 
 high-fits : (s : tie.Start) → SFits w64 (s .args .l .high)
 high-fits s = search needs
 
-pixel-of-requires : tie.Need-pixel-of-requires
-pixel-of-requires c κs =
+pixel-by-requires : tie.Need-pixel-by-requires
+pixel-by-requires c κs =
     let k = c .before .before in
     let s = k .before .before in (
+      rw (c .inner-scale .ensures) (low-inner (s .args .a) (s .args .size) (s .args .l) (s .pre .2) (s .pre .1)),
       s .pre .0 .real,
-      subst (λ (l : Limits). pixels l ≡ true) (sym (c .inner .ensures)) (inner-pixels (s .args .size) (s .args .l) (s .pre .2)
-          (s .pre .1)),
       subst (λ (y : SegmentValue). SegmentOn (s .args .a) y) (k .v .given .1) (s .pre .3),
     )
 
@@ -42,36 +39,37 @@ centre-requires c κs =
     )
 
 returns : tie.Need-returns
-unfolding segmentPixel
+unfolding segmentWorked placed
 returns c =
     let p = c .before in
     let n = p .before in
     let k = n .before .before in
     let s = k .before .before in
     let x = s .args in
-    c .fitting .ensures
-    ∙ ap (λ (z : ℤ). fitting (fitsI32 z) z)
-    (toZ-ofZ {w = w64} {z = p .pixel-of .result} (search needs)
-    ∙ p .pixel-of .ensures
-    ∙ ap (λ (l : Limits). placed (x .a) l (k .v .given .0 .0)) (n .inner .ensures ∙ ap (λ (m : ℕ). inner m (x .l)) (s .pre .4)))
-    ∙ ap (segmentPixel (x .a) (x .l)) (sym (k .v .given .1))
+    c .alone .ensures
+    ∙ ap (λ (z : ℤ). pixelChecked (alone z))
+    (toZ-ofZ {w = w64} {z = p .pixel-by .result} (search needs)
+    ∙ p .pixel-by .ensures
+    ∙ ap (λ (y : Scale). placedBy y (x .a) (k .v .given .0 .0)) (n .inner-scale .ensures
+    ∙ ap (λ (m : ℕ). scaleOf (x .a) (inner m (x .l))) (s .pre .4)))
+    ∙ ap (λ (v : SegmentValue). pixelChecked (segmentWorked (x .a) (x .l) v)) (sym (k .v .given .1))
 
 returns-2 : tie.Need-returns-2
-unfolding segmentPixel
 returns-2 c =
     let k = c .before .before in
     let x = k .before .before .args in
-    c .centre .ensures ∙ ap (segmentPixel (x .a) (x .l)) (sym (k .v2 .given .1))
+    c .centre .ensures ∙ ap (λ (v : SegmentValue). pixelChecked (segmentWorked (x .a) (x .l) v)) (sym (k .v2 .given .1))
 
 returns-3 : tie.Need-returns-3
-unfolding segmentPixel
+unfolding segmentWorked
 returns-3 c =
     let k = c .before in
     let s = k .before .before in
-    ap pixel.At (toZ-ofZ (high-fits s)) ∙ ap (segmentPixel (s .args .a) (s .args .l)) (sym (k .enum-told .given .1))
+    ap pixel.At (toZ-ofZ (high-fits s))
+    ∙ ap (λ (v : SegmentValue). pixelChecked (segmentWorked (s .args .a) (s .args .l) v)) (sym (k .enum-told .given .1))
 
 pub segment-pixel-spec : {M : Type 1} → statement M
 segment-pixel-spec =
     tie.close
-    (tie.spec (λ c. search needs) (λ c κs. search needs) pixel-of-requires (λ c κs. search needs)
+    (tie.spec (λ c. search needs) (λ c κs. search needs) pixel-by-requires (λ c κs. search needs)
     (λ c. search needs) centre-requires (λ c. search needs) returns returns-2 returns-3)

@@ -4,12 +4,7 @@ use Rattle.segmented.proofs.segment_refusal.Statement.{statement}
 use Rattle.segmented.proofs.segment_refusal.Tie as tie
 
 returns : tie.Need-returns
-returns c = rw (
-  c .ask .ensures,
-  c .before .segment-on .ensures,
-  c .before .before .plain-refusal .ensures,
-  c .before .before .before .has-index .ensures,
-)
+returns c = cc
 
 pub segment-refusal-spec : {M : Type 1} → statement M
 segment-refusal-spec =

@@ -5,10 +5,11 @@ use native.Mathlib.Omega.{arith}
 use Prim.Native.Nat.{ℕ, _+_}
 use Rattle.laws.specs.Asking.{firstNo}
 use Rattle.discrete.specs.declared.NumberAnswer.the-variants as number
-use Rattle.discrete.specs.Counting.{sizeOf}
-use Rattle.discrete.specs.Answers.{sizeQuestions, numberAnswer}
-use Rattle.discrete.proofs.Counting.{size-most}
-use Rattle.discrete.proofs.Answers.{number-refused, counted}
+use Rattle.counting.specs.Counting.{sizeOf}
+use Rattle.discrete.specs.Answers.{sizeQuestions}
+use Rattle.counting.proofs.Counting.{size-most}
+use Rattle.laws.proofs.Asked.{refused-by, passed-by}
+use Rattle.discrete.proofs.Answers.{counted}
 use Rattle.segmented.specs.Answers.{segmentSizeAnswer}
 use Rattle.segmented.proofs.size.Statement.{statement}
 use Rattle.segmented.proofs.size.Tie as tie
@@ -17,8 +18,9 @@ returns : tie.Need-returns
 unfolding segmentSizeAnswer
 returns c =
     let r = c .before in
-    number-refused (firstNo (sizeQuestions (r .before .args .a))) (r .size-refusal .result)
-    (number.Is (sizeOf (r .before .args .a) + 1)) (r .size-refusal .ensures) (c .if1 .taken)
+    let a = r .before .args .a in
+    refused-by number.Refused (number.Is (sizeOf a + 1)) (sizeQuestions a) (r .size-refusal .result) (r .size-refusal .ensures)
+    (c .if1 .taken)
 
 none : (c : tie.Else1) → firstNo (sizeQuestions (c .before .before .args .a)) ≡ 0
 none c = sym (c .before .size-refusal .ensures) ∙ c .if1 .left
@@ -37,8 +39,8 @@ unfolding segmentSizeAnswer
 returns-2 c =
     let e = c .before in
     let a = e .before .before .args .a in
-    ap (λ (n : ℕ). number.Is (n + 1)) (c .size-of .ensures) ∙ sym (ap (λ (k : ℕ). numberAnswer k (number.Is (sizeOf a + 1)))
-    (none e))
+    ap (λ (n : ℕ). number.Is (n + 1)) (c .size-of .ensures)
+    ∙ passed-by number.Refused (number.Is (sizeOf a + 1)) (sizeQuestions a) (none e)
 
 pub size-spec : {M : Type 1} → statement M
 size-spec = tie.close (tie.spec (λ c κs. search needs) returns size-of-requires add-t5 returns-2)

@@ -13,8 +13,8 @@ use mir.Facts.{toZ-ofZ}
 use borrow.Author.Needs.{needs}
 use Rattle.laws.proofs.Signed.{read-count, count-fits}
 use Rattle.steps.specs.declared.Steps.{Steps}
-use Rattle.steps.specs.declared.Tick.{Tick}
-use Rattle.steps.specs.Progression.{place, tickOf, Sound}
+use Rattle.values.specs.declared.Value.{Value}
+use Rattle.steps.specs.Progression.{numberAt, tickOf, Sound}
 use Rattle.steps.proofs.Places.{next-kept, next-carried, head-small, rest-small, head-fits}
 use Rattle.steps.proofs.Pairs.{Written, none-written, one-more, all-written}
 use Rattle.steps.proofs.list_even.Statement.{statement}
@@ -22,7 +22,7 @@ use Rattle.steps.proofs.list_even.Tie as tie
 
 abbrev Inv-loop : tie.InvT-loop
 Inv-loop s lent₀ n per heads rest whole₀ part₀ i₀ at₀ lent whole part i at =
-    Written s lent₀ lent i at × ((whole ≡ place s i / s .per) × (part ≡ place s i % s .per))
+    Written s lent₀ lent i at × ((whole ≡ numberAt s i / s .per) × (part ≡ numberAt s i % s .per))
 
 abbrev μ-loop : tie.MeasureT-loop
 μ-loop s lent₀ n per heads rest whole₀ part₀ i₀ at₀ lent whole part i at = n - i
@@ -30,13 +30,13 @@ abbrev μ-loop : tie.MeasureT-loop
 -- ---- a turn: what is known where it begins, and the pair that it writes
 record Turn (s : Steps) (i whole part : ℕ) : Type 0 where
   sound : Sound s
-  even : s .months ≡ false
+  even : s .«by_month» ≡ false
   base : SFits w64 (s .base)
   going : i < s .count
-  whole-is : whole ≡ place s i / s .per
-  part-is : part ≡ place s i % s .per
+  whole-is : whole ≡ numberAt s i / s .per
+  part-is : part ≡ numberAt s i % s .per
 
-abbrev wrote : Steps → ℕ → ℕ → Tick
+abbrev wrote : Steps → ℕ → ℕ → Value
 wrote s whole part = record { head = toZ w64 (ofZ w64 (toZ w64 (ofZ w64 (s .base)) +ℤ toZ w64 whole)); tail = toZ w64 part }
 
 module _ (s : Steps) (i whole part : ℕ) (t : Turn s i whole part) where
@@ -80,7 +80,7 @@ turn c =
 loop-holds : tie.Need-loop-holds Inv-loop μ-loop
 loop-holds c =
     let s = c .before .before .before .before .args .s in
-    let e : s .first ≡ place s 0 = omega (arith, zero-mul (s .step)) in
+    let e : s .first ≡ numberAt s 0 = omega (arith, zero-mul (s .step)) in
     (none-written s _, (ap (λ (n : ℕ). n / s .per) e, ap (λ (n : ℕ). n % s .per) e))
 
 cast-head : tie.Need-cast-head Inv-loop μ-loop

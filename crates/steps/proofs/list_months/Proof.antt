@@ -8,8 +8,8 @@ use mir.Syntax.{w64}
 use mir.Val.{toZ}
 use borrow.Author.Needs.{needs}
 use Rattle.laws.proofs.Signed.{read-count, count-fits}
-use Rattle.steps.specs.declared.Tick.{Tick}
-use Rattle.steps.specs.Progression.{place, tickOf}
+use Rattle.values.specs.declared.Value.{Value}
+use Rattle.steps.specs.Progression.{numberAt, tickOf}
 use Rattle.steps.proofs.Months.{first-most}
 use Rattle.steps.proofs.Places.{month-small}
 use Rattle.steps.proofs.Pairs.{Written, none-written, one-more, all-written}
@@ -23,7 +23,7 @@ abbrev μ-loop : tie.MeasureT-loop
 μ-loop s lent₀ months i₀ at₀ lent i at = months - i
 
 -- the month of a turn
-month : (c : tie.In-loop Inv-loop μ-loop) → place (c .before .before .args .s) (c .before .loop .i) < 120000
+month : (c : tie.In-loop Inv-loop μ-loop) → numberAt (c .before .before .args .s) (c .before .loop .i) < 120000
 month c = let x = c .before .before in month-small (x .args .s) (x .pre .0 .0) (c .before .loop .i) (omega arith) (x .pre .0 .1)
 
 loop-holds : tie.Need-loop-holds Inv-loop μ-loop
@@ -57,7 +57,7 @@ loop-again c =
     let head : toZ w64 (f .result) ≡ tickOf (x .args .s) (l .i) .head = read-count (f .result) (in-calendar c)
     ∙ rw (x .pre .0 .1) (ap pos (f .ensures)) in
     let tail : pos 0 ≡ tickOf (x .args .s) (l .i) .tail = rw (x .pre .0 .1) in
-    let v : Tick = record { head = toZ w64 (f .result); tail = pos 0 } in
+    let v : Value = record { head = toZ w64 (f .result); tail = pos 0 } in
     one-more (l .inv) {v = v} going (x .pre .1) (λ k. record { head = head k; tail = tail k })
 
 returns : tie.Need-returns Inv-loop μ-loop

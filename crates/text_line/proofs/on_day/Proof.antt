@@ -1,23 +1,19 @@
 -- `text_line::on_day` meets its contract: the numbers of a typed date, read back from their bits, are themselves.
 -- Assumes nothing.
 use borrow.Author.Needs.{needs}
-use mathlib.Core.Path.{_≡_, sym, _∙_, ap}
+use mathlib.Core.Path.{_≡_, sym, _∙_}
 use Prim.Native.Nat.{_≤_, _<_, _^_}
 use native.Mathlib.Omega.{arith}
 use lib.IntN.{pos}
 use Rattle.laws.proofs.Signed.{count-fits, read-count}
-use Rattle.calendar.specs.Questions.{numberOf}
-use Rattle.calendar.specs.declared.DayAnswer.{DayAnswer}
+use Rattle.calendar.specs.Questions.{lastDay, numberOf}
 use Rattle.calendar.proofs.Questions.{number-range}
-use Rattle.text_read.specs.declared.Day.{Day}
-use Rattle.text_line.specs.Line.{onDay, dayAt}
+use Rattle.text_line.specs.Line.{onDay}
 use Rattle.text_line.proofs.on_day.Statement.{statement}
 use Rattle.text_line.proofs.on_day.Tie as tie
 
-abbrev answer : Day → DayAnswer
-answer d = numberOf (record { year = pos (d .year); month = pos (d .month); day = pos (d .day) })
-
-said : (c : tie.After-number-of) → c .number-of .result ≡ answer (c .before .before .before .before .args .d)
+said : (c : tie.After-number-of) → let d = c .before .before .before .before .args .d in
+    c .number-of .result ≡ numberOf (record { year = pos (d .year); month = pos (d .month); day = pos (d .day) })
 said c =
     let d = c .before .before .before .before .args .d in
     let y : d .year < 2 ^ 63 = omega arith in
@@ -25,33 +21,26 @@ said c =
     let k : d .day < 2 ^ 63 = omega arith in
     rw (read-count (d .year) y, read-count (d .month) m, read-count (d .day) k) at (c .number-of .ensures)
 
--- by cases of the answer
-at : (c : tie.After-number-of) (a : DayAnswer) → c .number-of .result ≡ a →
-    dayAt a (c .before .before .before .before .args .nano) ≡ onDay (c .before .before .before .before .args .d)
-    (c .before .before .before .before .args .nano)
-unfolding onDay
-at c a e = ap (λ (x : DayAnswer). dayAt x (c .before .before .before .before .args .nano)) (sym e ∙ said c)
-
 returns : tie.Need-returns
-returns c = at (c .before .before) _ (c .enum-told .given .1)
+unfolding onDay
+returns c = rw (← said (c .before .before), c .enum-told .given .1)
 
 -- the answer's number is a day's
-day-most : (c : tie.After-known-told) → c .before .n .given .0 .0 ≤ 3652059
+day-most : (c : tie.After-known-told) → c .before .n .given .0 .0 ≤ lastDay
 day-most c = let g = c .before .n .given in number-range _ (g .0 .0) (sym (said (c .before .before .before)) ∙ g .1)
 
-cast-t5-2 : tie.Need-cast-t5-2
-cast-t5-2 c = count-fits _ (omega (arith, day-most c))
-
 returns-2 : tie.Need-returns-2
+unfolding onDay
 returns-2 c =
+    let n = c .before .n .given in
     let t = c .before .before .before in
     let nano = t .before .before .before .before .args .nano in
     let short : nano < 2 ^ 63 = omega arith in
-    rw (read-count (c .before .n .given .0 .0) (omega (arith, day-most c)), read-count nano short)
-    (at t _ (c .before .n .given .1))
+    rw (read-count (n .0 .0) (omega (arith, day-most c)), read-count nano short, ← said t, n .1)
 
 pub on-day-spec : {M : Type 1} → statement M
 on-day-spec =
     tie.close
     (tie.spec (λ c. search needs) (λ c. search needs) (λ c. search needs) (λ c κs. search needs)
-    (λ c. search needs) (λ c. search needs) returns cast-t5-2 (λ c. search needs) returns-2)
+    (λ c. search needs) (λ c. search needs) returns (λ c. count-fits _ (omega (arith, day-most c)))
+    (λ c. search needs) returns-2)

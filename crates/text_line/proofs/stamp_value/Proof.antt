@@ -14,7 +14,7 @@ use Rattle.text_line.proofs.stamp_value.Tie as tie
 
 returns : tie.Need-returns
 unfolding stampValue
-returns c = rw (sym (c .before .is-time .ensures) ∙ not-true _ (c .if1 .taken))
+returns c = let t = c .before .is-time in rw (← t .ensures, not-true (t .result) (c .if1 .taken))
 
 is : (c : tie.Else1) → isTime (c .before .before .args .m) ≡ true
 is c = sym (c .before .is-time .ensures) ∙ not-false _ (c .if1 .left)
@@ -28,21 +28,6 @@ ranges m e =
 in-day : (c : tie.Else1) → let m = c .before .before .args .m in (m .hour < 24) × ((m .minute < 60) × (m .second < 60))
 in-day c = ranges (c .before .before .args .m) (is c)
 
-mul-on-day : tie.Need-mul-on-day
-mul-on-day c = omega (arith, in-day (c .before .before))
-
-add-on-day : tie.Need-add-on-day
-add-on-day c = omega (arith, in-day (c .before .before .before))
-
-mul-on-day-2 : tie.Need-mul-on-day-2
-mul-on-day-2 c = omega (arith, in-day (c .before .before .before))
-
-add-on-day-2 : tie.Need-add-on-day-2
-add-on-day-2 c = omega (arith, in-day (c .before .before .before .before))
-
-mul-on-day-3 : tie.Need-mul-on-day-3
-mul-on-day-3 c = omega (arith, in-day (c .before .before .before .before))
-
 on-day-requires : tie.Need-on-day-requires
 on-day-requires c κs = let e = c .before .before .before .before in (e .before .before .pre, omega (arith, in-day e))
 
@@ -53,5 +38,7 @@ returns-2 c = rw (is (c .before .before .before .before .before)) (c .on-day .en
 pub stamp-value-spec : {M : Type 1} → statement M
 stamp-value-spec =
     tie.close
-    (tie.spec (λ c κs. search needs) returns mul-on-day add-on-day mul-on-day-2 add-on-day-2 mul-on-day-3
-    on-day-requires returns-2)
+    (tie.spec (λ c κs. search needs) returns (λ c. omega (arith, in-day (c .before .before)))
+    (λ c. omega (arith, in-day (c .before .before .before))) (λ c. omega (arith, in-day (c .before .before .before)))
+    (λ c. omega (arith, in-day (c .before .before .before .before)))
+    (λ c. omega (arith, in-day (c .before .before .before .before))) on-day-requires returns-2)

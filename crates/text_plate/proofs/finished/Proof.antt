@@ -15,7 +15,7 @@ returns-2 c =
     let r = c .before .before in
     let t = r .before .before in
     let n = t .before in (
-      rw (finished-names _ _ (n .before .if1 .left) (sym (n .is-names .ensures) ∙ t .if2 .taken)) (r .names .ensures .0),
+      rw (finished-names _ _ (n .before .if1 .left) (sym (n .is-names .ensures) ∙ t .if2 .taken)) (r .output-names .ensures .0),
       search needs,
     )
 

@@ -29,7 +29,7 @@ returns-2 c =
     let g = w .before .before .before .before in
     let f = g .before .before .before .before .before .before in
     turned-end _ _ _ _ _ (f .feed .ensures) (not-false (f .feed .result .ended) (g .before .before .if1 .left))
-    (c .next .ensures) (g .goes-on .ensures) (w .finished .ensures .0) (w .finished .ensures .1)
+    (c .next-number .ensures) (g .goes-on .ensures) (w .finished .ensures .0) (w .finished .ensures .1)
 
 pub turn-spec : {M : Type 1} → statement M
 turn-spec =

@@ -17,35 +17,38 @@ use Rattle.text_rows.proofs.list_rows.Statement.{statement}
 use Rattle.text_rows.proofs.list_rows.Tie as tie
 
 abbrev Inv-loop : tie.InvT-loop
-Inv-loop number a l list out₀ n i₀ at₀ out i at =
+Inv-loop number a l list out₀ m n i₀ at₀ out i at =
     (n ≡ length list / 2)
     × ((i ≤ n) × ((at ≤ 65 * i) × ((length out ≡ length out₀) × Wrote (ticksText number a l list i) 0 out₀ at out)))
 
 abbrev μ-loop : tie.MeasureT-loop
-μ-loop number a l list out₀ n i₀ at₀ out i at = n - i
+μ-loop number a l list out₀ m n i₀ at₀ out i at = n - i
 
 abbrev listOf : tie.At-loop Inv-loop μ-loop → List ℤ
-listOf c = c .before .before .args .list .now
+listOf c = c .before .before .before .args .list .now
 
-head-fits : (c : tie.After-t17 Inv-loop μ-loop) →
+head-fits : (c : tie.After-t18 Inv-loop μ-loop) →
     SFits w64 (getD (listOf (c .before .before)) (2 * c .before .before .loop .i) (pos 0))
 head-fits c = search needs
 
-tail-fits : (c : tie.After-t20 Inv-loop μ-loop) →
+tail-fits : (c : tie.After-t21 Inv-loop μ-loop) →
     SFits w64 (getD (listOf (c .before .before .before)) (2 * c .before .before .before .loop .i + 1) (pos 0))
 tail-fits c = search needs
 
-kind-fits : (c : tie.At-loop Inv-loop μ-loop) → SFits w64 (c .before .before .args .a .kind)
+kind-fits : (c : tie.At-loop Inv-loop μ-loop) → SFits w64 (c .before .before .before .args .a .kind)
 kind-fits c = search needs
 
 loop-holds : tie.Need-loop-holds Inv-loop μ-loop
 loop-holds c = (search needs, (search needs, (search needs, (search needs, rw (no-ticks _ _ _ _) (nothing _ _)))))
 
+map-ready-requires : tie.Need-map-ready-requires Inv-loop μ-loop
+map-ready-requires c κs = c .before .before .before .before .prepare .ensures
+
 row-requires : tie.Need-row-requires Inv-loop μ-loop
 row-requires c κs =
     let b = c .before .before .before in
     let p = b .before .before .before in
-    let x = p .before .before in
+    let x = p .before .before .before in
     let w = x .pre .ticks (p .loop .i) (omega arith) in
     (rw (toZ-ofZ (kind-fits p), toZ-ofZ (head-fits (b .before)), toZ-ofZ (tail-fits b)) w, omega (arith, x .pre .most))
 
@@ -55,9 +58,14 @@ loop-again c =
     let m = r .before .before .before in
     let b = m .before in
     let p = b .before .before .before in
-    let x = p .before .before .args in
-    let pixel = rw (toZ-ofZ (head-fits (b .before)), toZ-ofZ (tail-fits b)) at (m .map .ensures) in
-    let row = rw (toZ-ofZ (kind-fits p), toZ-ofZ (head-fits (b .before)), toZ-ofZ (tail-fits b), pixel) at (r .row .ensures .0) in (
+    let x = p .before .before .before .args in
+    let pixel = rw (toZ-ofZ (head-fits (b .before)), toZ-ofZ (tail-fits b)) at (m .map-ready .ensures) in
+    let row = rw (
+      toZ-ofZ (kind-fits p),
+      toZ-ofZ (head-fits (b .before)),
+      toZ-ofZ (tail-fits b),
+      pixel,
+    ) at (r .row .ensures .0) in (
       search needs,
       (
         search needs,
@@ -75,13 +83,13 @@ loop-again c =
 returns : tie.Need-returns Inv-loop μ-loop
 returns c =
     let l = c .before .loop in
-    let x = c .before .before .before .args in
+    let x = c .before .before .before .before .args in
     let all : l .i ≡ length (x .list .now) / 2 = omega arith in
-    (rw (← all) (l .inv .1 .1 .1 .1), (omega (arith, c .before .before .before .pre .most), search needs))
+    (rw (← all) (l .inv .1 .1 .1 .1), (omega (arith, c .before .before .before .before .pre .most), search needs))
 
 pub list-rows-spec : {M : Type 1} → statement M
 list-rows-spec =
     tie.close
-    (tie.spec Inv-loop μ-loop loop-holds (λ c. search needs) (λ c. search needs) (λ c. search needs)
-    (λ c. search needs) (λ c. search needs) (λ c. search needs) (λ c κs. search needs) row-requires
+    (tie.spec Inv-loop μ-loop (λ c κs. search needs) loop-holds (λ c. search needs) (λ c. search needs) (λ c. search needs)
+    (λ c. search needs) (λ c. search needs) (λ c. search needs) map-ready-requires row-requires
     (λ c. search needs) (λ c. search needs) loop-again (λ c. search needs) returns)

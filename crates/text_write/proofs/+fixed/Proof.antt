@@ -21,89 +21,13 @@ fixed-at t = and 1 fixed-kinds.ps (is 1 fixed-kinds.ps μ-fixed t) fixed.Pre
 abbrev fixed-below : ℕ → In 1 fixed-kinds.ps
 fixed-below t = and 1 fixed-kinds.ps (falls 1 fixed-kinds.ps _<_ μ-fixed t) fixed.Pre
 
-fixed-returns : (t : ℕ) → fixed-lts.Need-returns (
-  fixed-below t,
-  fixed.Post,
-  byte-reads.Asked,
-  byte-reads.Learnt,
-) (fixed-at t) fixed.Post
-fixed-returns t c = (rw (fixed-none _ _ (c .if1 .taken)) (nothing _ _), search needs)
-
-fixed-sub-fixed : (t : ℕ) → fixed-lts.Need-sub-fixed (
-  fixed-below t,
-  fixed.Post,
-  byte-reads.Asked,
-  byte-reads.Learnt,
-) (fixed-at t) fixed.Post
-fixed-sub-fixed t c = search needs
-
-fixed-fixed-requires : (t : ℕ) → fixed-lts.Need-fixed-requires (
-  fixed-below t,
-  fixed.Post,
-  byte-reads.Asked,
-  byte-reads.Learnt,
-) (fixed-at t) fixed.Post
-fixed-fixed-requires t c κs = search needs
-
-fixed-cast-byte : (t : ℕ) → fixed-lts.Need-cast-byte (
-  fixed-below t,
-  fixed.Post,
-  byte-reads.Asked,
-  byte-reads.Learnt,
-) (fixed-at t) fixed.Post
-fixed-cast-byte t c = search needs
-
-fixed-add-byte : (t : ℕ) → fixed-lts.Need-add-byte (
-  fixed-below t,
-  fixed.Post,
-  byte-reads.Asked,
-  byte-reads.Learnt,
-) (fixed-at t) fixed.Post
-fixed-add-byte t c = search needs
-
-fixed-byte-requires : (t : ℕ) → fixed-lts.Need-byte-requires (
-  fixed-below t,
-  fixed.Post,
-  byte-reads.Asked,
-  byte-reads.Learnt,
-) (fixed-at t) fixed.Post
-fixed-byte-requires t c κs = search needs
-
-fixed-same-length : (t : ℕ) → fixed-lts.Need-same-length (
-  fixed-below t,
-  fixed.Post,
-  byte-reads.Asked,
-  byte-reads.Learnt,
-) (fixed-at t) fixed.Post
-fixed-same-length t c = search needs
-
-fixed-returns-2 : (t : ℕ) → fixed-lts.Need-returns-2 (
-  fixed-below t,
-  fixed.Post,
-  byte-reads.Asked,
-  byte-reads.Learnt,
-) (fixed-at t) fixed.Post
-fixed-returns-2 t c =
-    let x = c .before .before .before .before .before .before .before .before .before .before .args in (
-      rw (fixed-more (x .w) (x .n) (c .before .before .before .before .before .before .before .before .if1 .left))
-          (then (c .before .before .before .before .before .before .fixed .ensures .0) (c .before .before .byte .ensures .0)),
-      search needs,
-    )
-
 pub +fixed-spec : {M : Type 1} → statement M
-+fixed-spec = close μ-fixed λ t. fixed-lts.spec (
-  fixed-below t,
-  fixed.Post,
-  byte-reads.Asked,
-  byte-reads.Learnt,
-)
-    (fixed-at t)
-    fixed.Post
-    (fixed-returns t)
-    (fixed-sub-fixed t)
-    (fixed-fixed-requires t)
-    (fixed-cast-byte t)
-    (fixed-add-byte t)
-    (fixed-byte-requires t)
-    (fixed-same-length t)
-    (fixed-returns-2 t)
++fixed-spec =
+    close μ-fixed λ t.
+    fixed-lts.spec (fixed-below t, fixed.Post, byte-reads.Asked, byte-reads.Learnt) (fixed-at t) fixed.Post
+    (λ c. (rw (fixed-none _ _ (c .if1 .taken)) (nothing _ _), search needs))
+    (λ c. search needs) (λ c κs. search needs) (λ c. search needs) (λ c. search needs) (λ c κs. search needs) (λ c. search needs)
+    (λ c.
+    let b = c .before .before in
+    let f = b .before .before .before .before in
+    (rw (fixed-more _ _ (f .before .before .if1 .left)) (then (f .fixed .ensures .0) (b .byte .ensures .0)), search needs))

@@ -1,24 +1,10 @@
--- `text_write::date` meets its contract: the texts one after another. Assumes nothing.
+-- `text_write::date` meets its contract. Assumes nothing.
 use borrow.Author.Needs.{needs}
-use Rattle.text_write.proofs.Writing.{then}
 use Rattle.text_write.proofs.date.Statement.{statement}
 use Rattle.text_write.proofs.date.Tie as tie
 
 returns : tie.Need-returns
-returns c =
-    let t = c .before .before in
-    let s = t .before .before .before .before in
-    let r = s .before .before .before .before in
-    let q = r .before .before .before .before in
-    let p = q .before .before .before .before in
-    rw (← p .before .before .date-of .ensures) (
-      then (then (then (then (p .fixed .ensures .0) (q .byte .ensures .0)) (r .fixed2 .ensures .0)) (s .byte2 .ensures .0))
-          (t .fixed3 .ensures .0),
-      search needs,
-    )
+returns c = let t = c .before .before in (rw (← t .before .before .date-of .ensures) (t .triple .ensures .0), search needs)
 
 pub date-spec : {M : Type 1} → statement M
-date-spec =
-    tie.close
-    (tie.spec (λ c κs. search needs) (λ c κs. search needs) (λ c κs. search needs) (λ c κs. search needs)
-    (λ c κs. search needs) (λ c κs. search needs) (λ c. search needs) returns)
+date-spec = tie.close (tie.spec (λ c κs. search needs) (λ c κs. search needs) (λ c. search needs) returns)

@@ -5,11 +5,7 @@ use Rattle.text_write.proofs.date_time.Statement.{statement}
 use Rattle.text_write.proofs.date_time.Tie as tie
 
 returns : tie.Need-returns
-returns c =
-    let r = c .before .before in
-    let q = r .before .before .before .before in
-    let p = q .before .before .before .before in
-    (then (then (p .date .ensures .0) (q .byte .ensures .0)) (r .time .ensures .0), search needs)
+returns c = (search then depth 8, search needs)
 
 pub date-time-spec : {M : Type 1} → statement M
 date-time-spec =

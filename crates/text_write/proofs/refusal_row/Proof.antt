@@ -6,19 +6,16 @@ use Rattle.text_write.proofs.refusal_row.Tie as tie
 
 returns : tie.Need-returns
 returns c =
-    let u = c .before .before in
-    let t = u .before .before .before .before in
-    let s = t .before .before .before .before in
+    let s = c .before .before in
     let r = s .before .before .before .before in
     let q = r .before .before .before .before in
-    let p = q .before .before .before .before in (
-      then (then (then (then (then (p .decimal .ensures .0) (q .byte .ensures .0)) (r .byte2 .ensures .0))
-          (s .byte3 .ensures .0)) (t .mark .ensures .0)) (u .byte4 .ensures .0),
+    let p = q .before .before .before .before .before in (
+      then (then (then (p .decimal .ensures .0) (q .bytes .ensures .0)) (r .mark .ensures .0)) (s .byte .ensures .0),
       search needs,
     )
 
 pub refusal-row-spec : {M : Type 1} → statement M
 refusal-row-spec =
     tie.close
-    (tie.spec (λ c κs. search needs) (λ c κs. search needs) (λ c κs. search needs) (λ c κs. search needs)
-    (λ c κs. search needs) (λ c κs. search needs) (λ c. search needs) returns)
+    (tie.spec (λ c κs. search needs) (λ c. search needs) (λ c κs. search needs) (λ c κs. search needs)
+    (λ c κs. search needs) (λ c. search needs) returns)

@@ -8,7 +8,8 @@ use mir.Syntax.{w64}
 use mir.Val.{SFits}
 use mir.Facts.{toZ-ofZ}
 use Rattle.floats.specs.Rounding.{withSign}
-use Rattle.unmapping.specs.Unmapping.{daysBy, dateTimeAnswer}
+use Rattle.unmapping.specs.Unmapping.{byDays}
+use Rattle.unmapping.specs.Sizes.{dateTimeAnswer}
 use Rattle.unmapping.proofs.DateTimes.{instant}
 use Rattle.unmapping.proofs.Moves.{days-is}
 use borrow.Author.Needs.{needs}
@@ -23,7 +24,7 @@ width-fits c = search needs
 
 -- the days, as the code has them
 moved : (c : tie.After-to-i64) → let x = c .before .before .before .before .before .before .args in
-    c .to-i64 .result ≡ daysBy (x .span) (x .o .width) (x .o .pixels)
+    c .to-i64 .result ≡ byDays (x .span) (x .o .width) (x .o .pixels)
 moved c =
     let w = c .before in
     let n = w .before .before in
@@ -42,9 +43,9 @@ returns c =
     let at = instant (x .day) (x .nano) in
     let n = t .to-i64 .result in
     let back = toZ-ofZ {w = w64} {z = n} (search needs) in
-    let size = z .size-of .ensures ∙ ap natAbs back in
+    let size = z .unsigned-abs .ensures ∙ ap natAbs back in
     c .days-away .ensures
-    ∙ (ap (λ (y : ℤ). dateTimeAnswer (pos at +ℤ withSign (ltZ y (pos 0)) (z .size-of .result * 86400000000000))) back
+    ∙ (ap (λ (y : ℤ). dateTimeAnswer (pos at +ℤ withSign (ltZ y (pos 0)) (z .unsigned-abs .result * 86400000000000))) back
     ∙ (ap (λ (k : ℕ). dateTimeAnswer (pos at +ℤ withSign (ltZ n (pos 0)) (k * 86400000000000))) size
     ∙ (ap (λ (y : ℤ). dateTimeAnswer (pos at +ℤ y)) (days-is n 86400000000000)
     ∙ ap (λ (y : ℤ). dateTimeAnswer (pos at +ℤ y *ℤ pos 86400000000000)) (moved t))))

@@ -8,8 +8,7 @@ use mir.Syntax.{w64}
 use mir.Val.{SFits, toZ, ofZ}
 use mir.Facts.{toZ-ofZ}
 use Rattle.floats.specs.Rounding.{withSign}
-use Rattle.unmapping.specs.Unmapping.{dateTimeAnswer}
-use Rattle.unmapping.specs.Sizes.{sizeMoved, Moves}
+use Rattle.unmapping.specs.Sizes.{sizeMoved, Moves, dateTimeAnswer}
 use Rattle.unmapping.proofs.DateTimes.{instant}
 use Rattle.unmapping.proofs.Moves.{product-most, moved-is}
 use borrow.Author.Needs.{needs}
@@ -23,11 +22,12 @@ width-fits : (c : tie.Start) → SFits w64 (c .args .o .width)
 width-fits c = search needs
 
 -- the sizes, as the code has them
-wide : (c : tie.After-size-of2) → c .before .before .size-of .result ≡ natAbs (c .before .before .before .before .args .o .width)
-wide c = c .before .before .size-of .ensures ∙ ap natAbs (toZ-ofZ (width-fits (c .before .before .before .before)))
+wide : (c : tie.After-unsigned-abs2) → c .before .before .unsigned-abs .result
+    ≡ natAbs (c .before .before .before .before .args .o .width)
+wide c = c .before .before .unsigned-abs .ensures ∙ ap natAbs (toZ-ofZ (width-fits (c .before .before .before .before)))
 
-far : (c : tie.After-size-of2) → c .size-of2 .result ≡ natAbs (c .before .before .before .before .args .o .pixels)
-far c = c .size-of2 .ensures ∙ ap natAbs (toZ-ofZ (pixels-fit (c .before .before .before .before)))
+far : (c : tie.After-unsigned-abs2) → c .unsigned-abs2 .result ≡ natAbs (c .before .before .before .before .args .o .pixels)
+far c = c .unsigned-abs2 .ensures ∙ ap natAbs (toZ-ofZ (pixels-fit (c .before .before .before .before)))
 
 size-moved-requires : tie.Need-size-moved-requires
 size-moved-requires c κs =
@@ -41,7 +41,7 @@ size-moved-requires c κs =
       product-fits = product-most (ltZ (x .o .width) (pos 0)) (natAbs (x .o .pixels)) (x .s / natAbs (x .o .width))
           (x .s % natAbs (x .o .width)) (s .pre .3);
     } in
-    subst (λ (w : ℕ). Moves (x .s) w (c .size-of2 .result)) (sym (wide c))
+    subst (λ (w : ℕ). Moves (x .s) w (c .unsigned-abs2 .result)) (sym (wide c))
     (subst (λ (n : ℕ). Moves (x .s) (natAbs (x .o .width)) n) (sym (far c)) m)
 
 returns : tie.Need-returns
@@ -54,7 +54,7 @@ returns c =
     let back : unlike (ltZ (toZ w64 (ofZ w64 (x .o .pixels))) (pos 0)) (ltZ (toZ w64 (ofZ w64 (x .o .width))) (pos 0))
     ≡ unlike (ltZ (x .o .pixels) (pos 0)) (ltZ (x .o .width) (pos 0)) =
     (λ i. unlike (ltZ (toZ-ofZ (pixels-fit s) i) (pos 0)) (ltZ (toZ-ofZ (width-fits s) i) (pos 0))) in
-    let sizes : sizeMoved (x .s) (z .before .before .size-of .result) (z .size-of2 .result) ≡ sizeMoved (x .s)
+    let sizes : sizeMoved (x .s) (z .before .before .unsigned-abs .result) (z .unsigned-abs2 .result) ≡ sizeMoved (x .s)
     (natAbs (x .o .width)) (natAbs (x .o .pixels)) = (λ i. sizeMoved (x .s) (wide z i) (far z i)) in
     let size = k .size-moved .ensures ∙ sizes in
     c .nanoseconds-away .ensures

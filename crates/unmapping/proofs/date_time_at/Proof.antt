@@ -8,15 +8,15 @@ use lib.IntN.{ℤ, pos, natAbs, _+ℤ_, _*ℤ_}
 use mir.Syntax.{w64}
 use mir.Val.{SFits}
 use mir.Facts.{toZ-ofZ}
-use Rattle.laws.specs.Numbers.{up, dn}
+use Rattle.laws.specs.Numbers.{posPart, negPart}
 use Rattle.laws.proofs.Signed.{up-fits}
 use Rattle.values.specs.Differences.{nanoseconds, fitsI64, wholeDays}
 use Rattle.values.proofs.Values.{DayValue, day-value}
 use Rattle.axis.specs.declared.Axis.{Axis}
 use Rattle.axis.specs.Axes.{start, spanOf}
 use Rattle.axis.proofs.Axes.{both-ends, span-from-0}
-use Rattle.unmapping.specs.Unmapping.{daysBy, movedBy, dateTimeAnswer}
-use Rattle.unmapping.specs.Sizes.{InDay}
+use Rattle.unmapping.specs.Unmapping.{byDays, movedBy}
+use Rattle.unmapping.specs.Sizes.{InDay, dateTimeAnswer}
 use Rattle.values.proofs.Fits.{answer-fits, answer-value}
 use Rattle.unmapping.proofs.DateTimes.{instant}
 use Rattle.unmapping.proofs.Moves.{moved-long, branch, size-up, whole, start-is}
@@ -34,13 +34,14 @@ tail-fits c = search needs
 first : (c : tie.Start) → DayValue (start (c .args .a))
 first c = day-value (c .args .a .kind) (start (c .args .a)) (both-ends (c .args .a) (c .pre .1) .first) (c .pre .0)
 
-day-is : (c : tie.After-size-of) → c .size-of .result ≡ natAbs (c .before .before .args .a .«start_head»)
-day-is c = c .size-of .ensures ∙ ap natAbs (toZ-ofZ (head-fits (c .before .before)))
+day-is : (c : tie.After-unsigned-abs) → c .unsigned-abs .result ≡ natAbs (c .before .before .args .a .«start_head»)
+day-is c = c .unsigned-abs .ensures ∙ ap natAbs (toZ-ofZ (head-fits (c .before .before)))
 
-nano-is : (c : tie.After-size-of2) → c .size-of2 .result ≡ natAbs (c .before .before .before .before .args .a .«start_tail»)
-nano-is c = c .size-of2 .ensures ∙ ap natAbs (toZ-ofZ (tail-fits (c .before .before .before .before)))
+nano-is : (c : tie.After-unsigned-abs2) → c .unsigned-abs2 .result
+    ≡ natAbs (c .before .before .before .before .args .a .«start_tail»)
+nano-is c = c .unsigned-abs2 .ensures ∙ ap natAbs (toZ-ofZ (tail-fits (c .before .before .before .before)))
 
-in-day : (c : tie.After-size-of2) → InDay (c .before .before .size-of .result) (c .size-of2 .result)
+in-day : (c : tie.After-unsigned-abs2) → InDay (c .before .before .unsigned-abs .result) (c .unsigned-abs2 .result)
 in-day c =
     let s = c .before .before .before .before in
     let v = first s in
@@ -49,8 +50,8 @@ in-day c =
       nano-most = omega (arith, nano-is c, size-up (s .args .a .«start_tail») (v .tail-dn), v .tail-most);
     }
 
-at : (c : tie.After-size-of2) → let a = c .before .before .before .before .args .a in
-    pos (instant (c .before .before .size-of .result) (c .size-of2 .result)) ≡ nanoseconds (a .kind) (start a)
+at : (c : tie.After-unsigned-abs2) → let a = c .before .before .before .before .args .a in
+    pos (instant (c .before .before .unsigned-abs .result) (c .unsigned-abs2 .result)) ≡ nanoseconds (a .kind) (start a)
 at c =
     let s = c .before .before .before .before in
     (λ i. pos (instant (day-is (c .before .before) i) (nano-is c i))) ∙ start-is (s .args .a .kind) (start (s .args .a))
@@ -70,13 +71,13 @@ returns c =
     let long : fitsI64 (spanOf (x .a)) ≡ false = sym (answer-fits (spanOf (x .a)) (n .span .result) (n .span .ensures))
     ∙ not-true _ (t .if1 .taken) in
     c .by-days .ensures
-    ∙ ((λ i. dateTimeAnswer (at z i +ℤ daysBy (days i) (x .o .width) (x .o .pixels) *ℤ pos 86400000000000))
+    ∙ ((λ i. dateTimeAnswer (at z i +ℤ byDays (days i) (x .o .width) (x .o .pixels) *ℤ pos 86400000000000))
     ∙ ap (λ (y : ℤ). dateTimeAnswer (nanoseconds (x .a .kind) (start (x .a)) +ℤ y)) (moved-long (spanOf (x .a)) (x .o .width)
     (x .o .pixels) long))
 
 -- a span that fits is its size
-module _ (c : tie.After-size-of3) where
-  abbrev before-span : tie.After-size-of2
+module _ (c : tie.After-unsigned-abs3) where
+  abbrev before-span : tie.After-unsigned-abs2
   before-span = c .before .before .before .before .before
 
   abbrev a : Axis
@@ -92,20 +93,20 @@ module _ (c : tie.After-size-of3) where
   span-value = answer-value (spanOf a) (span-at .span .result) (span-at .span .ensures)
       (not-false _ (c .before .before .if1 .left))
 
-  none-below : dn (spanOf a) ≡ 0
+  none-below : negPart (spanOf a) ≡ 0
   none-below = let s = before-span .before .before .before .before in span-from-0 a (s .pre .1) (s .pre .2)
 
-  size-is : c .size-of3 .result ≡ natAbs (spanOf a)
-  size-is = c .size-of3 .ensures ∙ ap natAbs (toZ-ofZ value-fits ∙ span-value)
+  size-is : c .unsigned-abs3 .result ≡ natAbs (spanOf a)
+  size-is = c .unsigned-abs3 .ensures ∙ ap natAbs (toZ-ofZ value-fits ∙ span-value)
 
-  span-is : pos (c .size-of3 .result) ≡ spanOf a
+  span-is : pos (c .unsigned-abs3 .result) ≡ spanOf a
   span-is = ap pos size-is ∙ whole (spanOf a) none-below
 
-  span-most : c .size-of3 .result ≤ 9223372036854775807
+  span-most : c .unsigned-abs3 .result ≤ 9223372036854775807
   span-most = omega (
     arith,
     up-fits (span-at .span .result .value) value-fits,
-    ap up span-value,
+    ap posPart span-value,
     size-is,
     size-up (spanOf a)
         none-below,
@@ -128,7 +129,7 @@ returns-2 c =
     let z = p .before in
     let s = before-span z .before .before .before .before in
     let x = s .args in
-    let n = z .size-of3 .result in
+    let n = z .unsigned-abs3 .result in
     let yes = branch n (x .o .width) (x .o .pixels) (span-most z) (s .pre .3 .width-some) true (sym (p .product-fits .ensures)
     ∙ t .if2 .taken) in
     c .by-nanoseconds .ensures
@@ -147,13 +148,13 @@ returns-3 c =
     let z = p .before in
     let s = before-span z .before .before .before .before in
     let x = s .args in
-    let n = z .size-of3 .result in
+    let n = z .unsigned-abs3 .result in
     let no = branch n (x .o .width) (x .o .pixels) (span-most z) (s .pre .3 .width-some) false (sym (p .product-fits .ensures)
     ∙ e .if2 .left) in
     let days = (toZ-ofZ {w = w64} {z = d .span-days2 .result} (search needs) ∙ d .span-days2 .ensures)
     ∙ ap wholeDays (sym (span-is z)) in
     c .by-days2 .ensures
-    ∙ ((λ i. dateTimeAnswer (at (before-span z) i +ℤ daysBy (days i) (x .o .width) (x .o .pixels) *ℤ pos 86400000000000))
+    ∙ ((λ i. dateTimeAnswer (at (before-span z) i +ℤ byDays (days i) (x .o .width) (x .o .pixels) *ℤ pos 86400000000000))
     ∙ ((λ i. dateTimeAnswer (nanoseconds (x .a .kind) (start (x .a)) +ℤ sym no i))
     ∙ ap (λ (y : ℤ). dateTimeAnswer (nanoseconds (x .a .kind) (start (x .a)) +ℤ movedBy y (x .o .width) (x .o .pixels)))
     (span-is z)))

@@ -6,8 +6,8 @@ use native.Mathlib.Nat.{add-zero}
 use native.Mathlib.Omega.{arith}
 use lib.IntN.{pos, _+ℤ_, _-ℤ_}
 use Rattle.floats.specs.Rounding.{withSign}
-use Rattle.unmapping.specs.declared.Unmapped.the-variants.{Refused}
-use Rattle.unmapping.specs.Unmapping.{dateTimeAnswer}
+use Rattle.axis.specs.declared.ValueAnswer.the-variants.{Refused}
+use Rattle.unmapping.specs.Sizes.{dateTimeAnswer}
 use Rattle.unmapping.proofs.DateTimes.{instant, answer-low, answer-high, less-up}
 use borrow.Author.Needs.{needs}
 use Rattle.unmapping.proofs.days_away.Statement.{statement}
@@ -27,7 +27,7 @@ returns c = let x = c .before .args in far (x .back) (x .day) (x .nano) (x .n) (
 returns-2 : tie.Need-returns-2
 returns-2 c =
     let x = c .before .before .before .args in
-    c .before2 .ensures
+    c .days-before .ensures
     ∙ (ap (λ (k : ℕ). dateTimeAnswer (pos (instant (x .day) (x .nano)) -ℤ pos k)) (add-zero (x .n * 86400000000000))
     ∙ sym (ap (λ (b : Bool). dateTimeAnswer (pos (instant (x .day) (x .nano)) +ℤ withSign b (x .n * 86400000000000)))
     (c .before .if2 .taken)))
@@ -35,7 +35,7 @@ returns-2 c =
 returns-3 : tie.Need-returns-3
 returns-3 c =
     let x = c .before .before .before .args in
-    c .after .ensures
+    c .days-after .ensures
     ∙ (ap (λ (k : ℕ). dateTimeAnswer (pos (instant (x .day) (x .nano)) +ℤ pos k)) (add-zero (x .n * 86400000000000))
     ∙ sym (ap (λ (b : Bool). dateTimeAnswer (pos (instant (x .day) (x .nano)) +ℤ withSign b (x .n * 86400000000000)))
     (c .before .if2 .left)))

@@ -5,7 +5,7 @@ use Prim.Native.Nat.{ℕ, _+_, _/_, _%_}
 use native.Mathlib.Omega.{arith}
 use lib.IntN.{pos, _+ℤ_, _-ℤ_}
 use Rattle.floats.specs.Rounding.{withSign}
-use Rattle.unmapping.specs.Unmapping.{dateTimeAnswer}
+use Rattle.unmapping.specs.Sizes.{dateTimeAnswer}
 use Rattle.unmapping.proofs.DateTimes.{instant}
 use borrow.Author.Needs.{needs}
 use Rattle.unmapping.proofs.nanoseconds_away.Statement.{statement}
@@ -17,14 +17,14 @@ whole n = omega arith
 returns : tie.Need-returns
 returns c =
     let x = c .before .before .args in
-    c .before2 .ensures
+    c .days-before .ensures
     ∙ (ap (λ (k : ℕ). dateTimeAnswer (pos (instant (x .day) (x .nano)) -ℤ pos k)) (whole (x .n))
     ∙ sym (ap (λ (b : Bool). dateTimeAnswer (pos (instant (x .day) (x .nano)) +ℤ withSign b (x .n))) (c .before .if1 .taken)))
 
 returns-2 : tie.Need-returns-2
 returns-2 c =
     let x = c .before .before .args in
-    c .after .ensures
+    c .days-after .ensures
     ∙ (ap (λ (k : ℕ). dateTimeAnswer (pos (instant (x .day) (x .nano)) +ℤ pos k)) (whole (x .n))
     ∙ sym (ap (λ (b : Bool). dateTimeAnswer (pos (instant (x .day) (x .nano)) +ℤ withSign b (x .n))) (c .before .if1 .left)))
 

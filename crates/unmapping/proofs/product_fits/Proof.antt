@@ -17,13 +17,13 @@ pixels-fit c = search needs
 width-fits : (c : tie.Start) → SFits w64 (c .args .o .width)
 width-fits c = search needs
 
-far : (c : tie.After-size-of) → c .size-of .result ≡ natAbs (c .before .before .args .o .pixels)
-far c = c .size-of .ensures ∙ ap natAbs (toZ-ofZ (pixels-fit (c .before .before)))
+far : (c : tie.After-unsigned-abs) → c .unsigned-abs .result ≡ natAbs (c .before .before .args .o .pixels)
+far c = c .unsigned-abs .ensures ∙ ap natAbs (toZ-ofZ (pixels-fit (c .before .before)))
 
-wide : (c : tie.After-size-of2) → c .size-of2 .result ≡ natAbs (c .before .before .before .before .args .o .width)
-wide c = c .size-of2 .ensures ∙ ap natAbs (toZ-ofZ (width-fits (c .before .before .before .before)))
+wide : (c : tie.After-unsigned-abs2) → c .unsigned-abs2 .result ≡ natAbs (c .before .before .before .before .args .o .width)
+wide c = c .unsigned-abs2 .ensures ∙ ap natAbs (toZ-ofZ (width-fits (c .before .before .before .before)))
 
-some : (c : tie.After-size-of2) → 0 < c .size-of2 .result
+some : (c : tie.After-unsigned-abs2) → 0 < c .unsigned-abs2 .result
 some c = subst (λ (n : ℕ). 0 < n) (sym (wide c)) (c .before .before .before .before .pre .width-some)
 
 div-sizes-fit : tie.Need-div-sizes-fit

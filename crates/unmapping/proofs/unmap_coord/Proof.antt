@@ -12,8 +12,8 @@ use Rattle.axis.specs.Axes.{start, spanOf}
 use Rattle.axis.specs.Questions.{isPixel, differ}
 use Rattle.axis.proofs.Questions.{unmap-parts}
 use Rattle.unmapping.specs.declared.Offset.{Offset}
-use Rattle.unmapping.specs.Unmapping.{movedBy, dateTimeAnswer, unmapCoord}
-use Rattle.unmapping.specs.Sizes.{OnWidth}
+use Rattle.unmapping.specs.Unmapping.{movedBy, unmapCoord}
+use Rattle.unmapping.specs.Sizes.{OnWidth, dateTimeAnswer}
 use Rattle.axis.proofs.PixelRanges.{limits-are, between-fits, between-few, width-some}
 use Rattle.unmapping.proofs.unmap_coord.Statement.{statement}
 use Rattle.unmapping.proofs.unmap_coord.Tie as tie
@@ -78,7 +78,7 @@ date-time-at-requires c κs =
     (s .pre .dated, s .pre .real, s .pre .order, subst (λ (o : Offset). OnWidth o) (sym (offset-is s)) (on-width s))
 
 returns : tie.Need-returns
-unfolding unmapCoord
+unfolding unmapCoord dateTimeAnswer
 returns c =
     let s = c .before .before .before .before .before in
     let a = s .args .a in

@@ -26,7 +26,7 @@ module _ (c : tie.After-whole) where
   days-fit = quot-fits (c .whole .result) (pos 86400) heads-fit refl
 
   -- whole heads: seconds or days
-  heads-is : c .whole .result ≡ quotZ exact (unit (c .before .before .args .kind))
+  heads-is : c .whole .result ≡ quotZ exact (pos (unit (c .before .before .args .kind)))
   heads-is =
       let s = c .before .before in
       let p : Of (s .args .kind) (s .args .a) (s .args .b) (c .before .split .result) =

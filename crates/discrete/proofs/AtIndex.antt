@@ -1,0 +1,221 @@
+-- The value of an index: it stands at that index, on every kind that counts, and is a value of the kind where question 10
+-- lets it pass; and below the size it does, but for one axis of kind 5. Assumes nothing.
+use mathlib.Core.Path.{_≡_, refl, sym, ap, _∙_}
+use mathlib.Core.Logic.{_⊎_, inl, inr}
+use mathlib.Core.Bool.{Bool, true, false, true≢false}
+use Prim.Native.Nat.{ℕ, zero, suc, _+_, _-_, _*_, _/_, _%_, _≤_, _<_}
+use native.Mathlib.Decide.{decLe}
+use native.Mathlib.Omega.{arith}
+use lib.IntN.{pos}
+use lib.Signed.{leZ}
+use Rattle.laws.specs.Numbers.{posPart}
+use Rattle.laws.proofs.Signed.{le-true, le-false}
+use Rattle.laws.proofs.Tests.{both-true}
+use Rattle.calendar.specs.declared.Date.{Date}
+use Rattle.calendar.specs.Gregorian.{dayNumber, date, dateOf}
+use Rattle.values.specs.declared.Value.{Value}
+use Rattle.values.specs.Values.{isDuration, aDate, aDuration, isValue, midnight}
+use Rattle.calendar.specs.Questions.{isDay}
+use Rattle.values.proofs.Numbers.{is-le}
+use Rattle.values.proofs.Values.{date-value, of-dates, of-date-times, of-durations}
+use Rattle.axis.specs.declared.Axis.{Axis}
+use Rattle.axis.specs.Axes.{start, end}
+use Rattle.axis.specs.Questions.{valueOn}
+use Rattle.axis.proofs.Axes.{both-ends}
+use Rattle.counting.specs.Counting.{Dated, monthly, yearly, fromDay, firstDate, dateOn, origin, position, sizeOf}
+use Rattle.discrete.specs.Indices.{monthAt, yearAt, valueAt}
+use Rattle.discrete.specs.Walking.{Inside}
+use Rattle.counting.proofs.Dates.{years-grow, year-9999, first-least, first-date-is, first-most, begun}
+use Rattle.counting.proofs.Counting.{from-start, from-next, starts, end-on, on-near, on-day, from-range, first-near, is-day}
+use Rattle.discrete.proofs.Indices.{value-months, value-years, value-days}
+use Rattle.counting.proofs.Counting.{origin-months, origin-years, origin-days, position-months}
+use Rattle.counting.proofs.Counting.{position-years, position-days}
+use Rattle.discrete.proofs.Indices.{month-first, month-later, year-start, year-later}
+use Rattle.axis.proofs.Checked.{day-in}
+
+on-midnight : (d : ℕ) → dateOn (midnight (pos d)) ≡ dateOf d
+unfolding dateOn
+on-midnight d = refl
+
+on-first : (y m : ℕ) → 1 ≤ y → 1 ≤ m → m ≤ 12 → dateOn (midnight (pos (dayNumber y m 1))) ≡ date y m 1
+on-first y m a b c = on-midnight (dayNumber y m 1) ∙ first-date-is y m a b c
+
+module _ (a : Axis) (c : Dated a) where
+  on-first-day : dateOn (midnight (pos (fromDay a))) ≡ firstDate a
+  unfolding firstDate
+  on-first-day = on-midnight (fromDay a)
+
+  month-index : (i : ℕ) → monthly a ≡ true → position a (monthAt a i) ≡ origin a + i
+  month-index zero m =
+      let t = firstDate a in
+      ap (position a) (month-first a zero refl)
+      ∙ position-months a (midnight (pos (fromDay a))) m
+      ∙ ap (λ (d : Date). 12 * (d .year - t .year) + d .month) on-first-day
+      ∙ (let e : 12 * (t .year - t .year) + t .month ≡ t .month + 0 = omega arith in e)
+      ∙ ap (λ (k : ℕ). k + 0) (sym (origin-months a m))
+  month-index (suc n) m =
+      let t = firstDate a in
+      let k = suc n + (t .month - 1) in
+      let r = first-near a c in
+      let e = on-first (t .year + k / 12) (k % 12 + 1) (omega arith) (omega arith) (omega arith) in
+      ap (position a) (month-later a (suc n) (λ z. omega arith))
+      ∙ position-months a (midnight (pos (dayNumber (t .year + k / 12) (k % 12 + 1) 1))) m
+      ∙ ap (λ (d : Date). 12 * (d .year - t .year) + d .month) e
+      ∙ (let f : 12 * (t .year + k / 12 - t .year) + (k % 12 + 1) ≡ t .month + suc n = omega arith in f)
+      ∙ ap (λ (x : ℕ). x + suc n) (sym (origin-months a m))
+
+  -- the start is the value of a year only where that is the year of the first day
+  start-year : (i : ℕ) → dayNumber (firstDate a .year + i) 1 1 ≤ posPart (a .«start_head») → dateOn (start a) .year
+      ≡ firstDate a .year + i
+  unfolding dateOn firstDate
+  start-year i h =
+      let r = first-near a c in
+      let f = from-start a in
+      let g = from-next a in
+      let n = posPart (a .«start_head») in
+      let late = begun (firstDate a .year + i) n (omega arith) h in
+      let s : n + (fromDay a - n) ≡ fromDay a = omega arith in
+      let early = rw s at (years-grow n (fromDay a - n) (starts a c .head-least)) in
+      omega (arith, late, early)
+
+  year-index : (i : ℕ) → monthly a ≡ false → yearly a ≡ true → position a (yearAt a i) ≡ origin a + i
+  year-index i m y = elim (decLe (dayNumber (firstDate a .year + i) 1 1) (posPart (a .«start_head»))) [
+    | yes h ↦
+        ap (position a) (year-start a i h)
+        ∙ position-years a (start a) m y
+        ∙ start-year i h
+        ∙ ap (λ (k : ℕ). k + i) (sym (origin-years a m y))
+    | no h ↦ (
+        let r = first-near a c in
+        let e = on-first (firstDate a .year + i) 1 (omega arith) (omega arith) (omega arith) in
+        ap (position a) (year-later a i (omega arith))
+        ∙ position-years a (midnight (pos (dayNumber (firstDate a .year + i) 1 1))) m y
+        ∙ ap (λ (d : Date). d .year) e
+        ∙ ap (λ (k : ℕ). k + i) (sym (origin-years a m y)))
+  ]
+
+  day-index : (i : ℕ) → monthly a ≡ false → yearly a ≡ false → position a (midnight (pos (posPart (a .«start_head») + i)))
+      ≡ origin a + i
+  day-index i m y = position-days a (midnight (pos (posPart (a .«start_head») + i))) m y ∙ ap (λ (k : ℕ). k + i)
+      (sym (origin-days a m y))
+
+  -- THE LAW: a value stands at its index
+  pub at-index : (i : ℕ) → position a (valueAt a i) ≡ origin a + i
+  at-index i = go (monthly a) (yearly a) refl refl
+    where
+      go : (m y : Bool) → monthly a ≡ m → yearly a ≡ y → position a (valueAt a i) ≡ origin a + i
+      go true y e f = ap (position a) (value-months a i e) ∙ month-index i e
+      go false true e f = ap (position a) (value-years a i e f) ∙ year-index i e f
+      go false false e f = ap (position a) (value-days a i e f) ∙ day-index i e f
+
+  -- ---- it is a value of the kind
+  start-is : isValue (a .kind) (start a) ≡ true
+  start-is = both-ends a (c .real) .first
+
+  starts-from : leZ (a .kind) (pos 3) ≡ true → leZ (pos 1) (a .kind) ≡ true
+  starts-from e = both-true (leZ (pos 1) (a .kind)) (aDate (start a)) (sym (of-dates (a .kind) (start a) e) ∙ start-is) .0
+
+  most-six : leZ (a .kind) (pos 6) ≡ true
+  most-six = go (leZ (a .kind) (pos 3)) (leZ (a .kind) (pos 6)) refl refl
+    where
+      go : (p q : Bool) → leZ (a .kind) (pos 3) ≡ p → leZ (a .kind) (pos 6) ≡ q → leZ (a .kind) (pos 6) ≡ true
+      go p true e f = f
+      go true false e f = absurd (let w : ⊥ = omega (arith, le-true (a .kind) (pos 3) e, le-false (a .kind) (pos 6) f) in w)
+      go false false e f =
+          let (x, y) = both-true (leZ (a .kind) (pos 7)) (aDuration (start a)) (sym (of-durations (a .kind) (start a) e f)
+          ∙ start-is) in
+          let z : leZ (pos 7) (a .kind) ≡ true = is-le (pos 7) (a .kind) (omega (arith, le-false (a .kind) (pos 6) f)) in
+          let w : isDuration (a .kind) ≡ true = rw (z, x) in
+          absurd (true≢false (sym w ∙ c .dates))
+
+  no-time : (v : Value) → v .tail ≡ pos 0 → isDay (v .head) ≡ true → isValue (a .kind) v ≡ true
+  no-time v t d = go (leZ (a .kind) (pos 3)) refl
+    where
+      go : (b : Bool) → leZ (a .kind) (pos 3) ≡ b → isValue (a .kind) v ≡ true
+      go true e = of-dates (a .kind) v e ∙ simp (starts-from e, d, t)
+      go false e = of-date-times (a .kind) v e most-six ∙ simp (d, t)
+
+  form : (i : ℕ) → (valueAt a i ≡ start a) ⊎ (valueAt a i .tail ≡ pos 0)
+  form i = go (monthly a) (yearly a) refl refl
+    where
+      months : (i : ℕ) → monthAt a i .tail ≡ pos 0
+      months zero = ap (λ (v : Value). v .tail) (month-first a zero refl)
+      months (suc n) = ap (λ (v : Value). v .tail) (month-later a (suc n) (λ z. omega arith))
+
+      years : (yearAt a i ≡ start a) ⊎ (yearAt a i .tail ≡ pos 0)
+      years = elim (decLe (dayNumber (firstDate a .year + i) 1 1) (posPart (a .«start_head»))) [
+        | yes h ↦ inl (year-start a i h)
+        | no h ↦ inr (ap (λ (v : Value). v .tail) (year-later a i (omega arith)))
+      ]
+
+      go : (m y : Bool) → monthly a ≡ m → yearly a ≡ y → (valueAt a i ≡ start a) ⊎ (valueAt a i .tail ≡ pos 0)
+      go true y e f = rw (value-months a i e) (inr (months i))
+      go false true e f = rw (value-years a i e f) years
+      go false false e f = inr (ap (λ (v : Value). v .tail) (value-days a i e f))
+
+  pub of-kind : (i : ℕ) → isDay (valueAt a i .head) ≡ true → valueOn a (valueAt a i) ≡ true
+  unfolding valueOn
+  of-kind i d = elim (form i) [
+    | inl e ↦ rw e (both-ends a (c .real) .first)
+    | inr t ↦ no-time (valueAt a i) t d
+  ]
+
+  -- ---- below the size
+  -- kinds 1 to 3
+  pub dates-inside : leZ (a .kind) (pos 3) ≡ true → fromDay a ≤ 3652059
+  unfolding fromDay
+  dates-inside e =
+      let d = date-value (a .kind) (start a) (both-ends a (c .real) .first) e in
+      rw (d .no-tail) (omega (arith, d .head-most))
+
+  first-year : fromDay a ≤ 3652059 → firstDate a .year ≤ 9999
+  unfolding firstDate
+  first-year l = year-9999 (fromDay a) (from-range a c .0) l
+
+  month-below : (i : ℕ) → monthly a ≡ true → fromDay a ≤ 3652059 → i < sizeOf a → isDay (monthAt a i .head) ≡ true
+  unfolding sizeOf
+  month-below zero m l h = rw (month-first a zero refl) (day-in (fromDay a) (from-range a c .0) l)
+  month-below (suc n) m l h =
+      let t = firstDate a in
+      let k = suc n + (t .month - 1) in
+      let r = first-near a c in
+      let e = on-near a c (end a) (end-on a c) in
+      let y = first-year l in
+      let size : suc n < 12 * (dateOn (end a) .year - t .year) + dateOn (end a) .month + 1 - t .month =
+      rw (position-months a (end a) m, origin-months a m) at h in
+      let most : t .year + k / 12 ≤ 9999 = omega arith in
+      rw (month-later a (suc n) (λ z. omega arith))
+      (day-in (dayNumber (t .year + k / 12) (k % 12 + 1) 1) (first-least (t .year + k / 12) (k % 12 + 1) (omega arith)
+      (omega arith) (omega arith)) (first-most (t .year + k / 12) (k % 12 + 1) (omega arith) (omega arith) (omega arith)
+      most))
+
+  year-below : (i : ℕ) → monthly a ≡ false → yearly a ≡ true → i < sizeOf a → isDay (yearAt a i .head) ≡ true
+  unfolding sizeOf
+  year-below i m y h = elim (decLe (dayNumber (firstDate a .year + i) 1 1) (posPart (a .«start_head»))) [
+    | yes l ↦ rw (year-start a i l) (is-day (start a) (starts a c))
+    | no l ↦ (
+        let r = first-near a c in
+        let e = on-near a c (end a) (end-on a c) in
+        let size : i < dateOn (end a) .year + 1 - firstDate a .year =
+        rw (position-years a (end a) m y, origin-years a m y) at h in
+        rw (year-later a i (omega arith))
+        (day-in (dayNumber (firstDate a .year + i) 1 1) (first-least (firstDate a .year + i) 1 (omega arith) (omega arith)
+        (omega arith)) (first-most (firstDate a .year + i) 1 (omega arith) (omega arith) (omega arith) (omega arith))))
+  ]
+
+  day-below : (i : ℕ) → monthly a ≡ false → yearly a ≡ false → i < sizeOf a → isDay (pos (posPart (a .«start_head») + i)) ≡ true
+  unfolding sizeOf
+  day-below i m y h =
+      let s = starts a c in
+      let e = on-day a c (end a) (end-on a c) in
+      let size : i < posPart (a .«end_head») + 1 - posPart (a .«start_head») =
+      rw (position-days a (end a) m y, origin-days a m y) at h in
+      day-in (posPart (a .«start_head») + i) (omega arith) (omega arith)
+
+  pub below-size : Inside a → (i : ℕ) → i < sizeOf a → isDay (valueAt a i .head) ≡ true
+  below-size l i h = go (monthly a) (yearly a) refl refl
+    where
+      go : (m y : Bool) → monthly a ≡ m → yearly a ≡ y → isDay (valueAt a i .head) ≡ true
+      go true y e f = rw (value-months a i e) (month-below i e (l e) h)
+      go false true e f = rw (value-years a i e f) (year-below i e f h)
+      go false false e f = rw (value-days a i e f) (day-below i e f h)
