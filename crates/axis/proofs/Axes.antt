@@ -35,11 +35,6 @@ module _ (a : Axis) (e : ends a ≡ true) where
   unfolding inOrder spanOf
   span-from-0 o = no-earlier-apart (a .kind) (start a) (end a) both-ends (not-true (earlier (end a) (start a)) o)
 
-  -- and start before end: it is above 0
-  span-above-0 : earlier (start a) (end a) ≡ true → 1 ≤ posPart (spanOf a)
-  unfolding spanOf
-  span-above-0 o = later-apart (a .kind) (start a) (end a) both-ends o .1
-
 -- a value equal to another, number by number
 pub equal : (v w : Value) → equals v w ≡ true → v ≡ w
 equal v w e =

@@ -3,3 +3,4 @@ pub mod Axes
 pub mod Questions
 pub mod Checked
 pub mod PixelRanges
+pub mod UsualAxes

@@ -1,11 +1,11 @@
 -- The questions before an answer, by document 01's numbers: a test for each, and the rows that operations on an axis
 -- begin with. An operation's own row stands in its crate. Definitions only.
-use mathlib.Core.Bool.{Bool, true, not, cond, _&&_, _||_}
+use mathlib.Core.Bool.{Bool, true, not, _&&_, _||_}
 use mathlib.Core.List.{List, [], _∷_, _++_}
 use lib.IntN.{ℤ, pos}
 use lib.Signed.{ltZ, leZ}
 use Prim.Native.Nat.{ℕ}
-use Rattle.laws.specs.Asking.{Question, ask, unless, asked}
+use Rattle.laws.specs.Asking.{Question, ask, asked}
 use Rattle.laws.specs.Numbers.{minus, within, isNumber}
 use Rattle.calendar.specs.Questions.{lastDay, isDay}
 use Rattle.values.specs.declared.Value.{Value}
@@ -123,13 +123,13 @@ inCalendar (Refused q) = true
 inCalendar None = true
 inCalendar (At v) = isDay (v .head)
 
--- question 10 alone, where no question before it refuses
-unfoldable pub checked : ValueAnswer → ValueAnswer
-checked v = unless (cond (inCalendar v) 0 10) Refused v
-
 -- a row of questions, and then question 10
 unfoldable pub answered : List Question → ValueAnswer → ValueAnswer
 answered row v = asked (row ++ (ask 10 (inCalendar v) ∷ [])) Refused v
+
+-- question 10 alone, where no question before it refuses
+unfoldable pub checked : ValueAnswer → ValueAnswer
+checked v = asked (ask 10 (inCalendar v) ∷ []) Refused v
 
 -- 11 is asked where a list's length is known: `hasRoom` in steps/specs/Listing.antt
 

@@ -124,14 +124,14 @@ pub fn has_period(a: Axis) -> bool
 }
 
 // Question 3.
-pub fn ends(a: Axis) -> bool
+fn ends(a: Axis) -> bool
     ensures { λ r. ⌜ r ≡ ends a ⌝ }
 {
     values::is_value(a.kind, start(a)) & values::is_value(a.kind, end(a))
 }
 
 // Question 4.
-pub fn in_order(a: Axis) -> bool
+fn in_order(a: Axis) -> bool
     ensures { λ r. ⌜ r ≡ inOrder a ⌝ }
 {
     let s = start(a);
@@ -172,7 +172,7 @@ pub fn offset_days(a: Axis, v: Value) -> i64
 }
 
 // Is a duration within 4 × 10^18 ns, that is 4 × 10^9 s, of zero?
-pub fn near_zero(v: Value) -> bool
+fn near_zero(v: Value) -> bool
     requires { ⌜ isValue (pos 7) v ≡ true ⌝ }
     ensures { λ r. ⌜ r ≡ nearZero v ⌝ }
 {
@@ -180,7 +180,7 @@ pub fn near_zero(v: Value) -> bool
 }
 
 // Question 5. The span of most axes is not needed for it.
-pub fn near_or_long(a: Axis) -> bool
+fn near_or_long(a: Axis) -> bool
     requires { ⌜ (ends a ≡ true) × (inOrder a ≡ true) ⌝ }
     ensures { λ r. ⌜ r ≡ nearOrLong a ⌝ }
 {
@@ -227,14 +227,14 @@ pub fn pixels(l: Limits) -> bool
 }
 
 // Question 7 of a pixel.
-pub fn is_pixel(p: i64) -> bool
+fn is_pixel(p: i64) -> bool
     ensures { λ r. ⌜ r ≡ isPixel p ⌝ }
 {
     (-32767 <= p) & (p <= 32767)
 }
 
 // Question 7 of limits to unmap by: are they different?
-pub fn differ(l: Limits) -> bool
+fn differ(l: Limits) -> bool
     ensures { λ r. ⌜ r ≡ differ l ⌝ }
 {
     (l.low < l.high) | (l.high < l.low)
@@ -277,6 +277,23 @@ pub fn fits_i32(n: i64) -> bool
     (-2147483648 <= n) & (n <= 2147483647)
 }
 
+// A short yes for most axes: start is before end, and no question refuses. Durations are near zero by start's seconds,
+// the least of all, and by end's.
+fn usual(a: Axis) -> bool
+    ensures { λ r. ⌜ (r ≡ true → firstNo (axisQuestions true a) ≡ 0) ⌝ }
+{
+    if !values::earlier(start(a), end(a)) {
+        return false;
+    }
+    if values::is_duration(a.kind) {
+        return (-4000000000 <= a.start_head)
+            & (a.end_head < 4000000000)
+            & ((0 <= a.start_tail) & (a.start_tail <= 999999999))
+            & ((0 <= a.end_tail) & (a.end_tail <= 999999999));
+    }
+    ends(a)
+}
+
 // The questions of an axis; has: the kind has the operation.
 pub fn plain_refusal(a: Axis, has: bool) -> u8
     ensures { λ r. ⌜ r ≡ firstNo (plainQuestions has a) ⌝ }
@@ -291,6 +308,9 @@ pub fn plain_refusal(a: Axis, has: bool) -> u8
 pub fn axis_refusal(a: Axis, has: bool) -> u8
     ensures { λ r. ⌜ r ≡ firstNo (axisQuestions has a) ⌝ }
 {
+    if has & usual(a) {
+        return 0;
+    }
     let q = plain_refusal(a, has);
     if q != 0 {
         return q;

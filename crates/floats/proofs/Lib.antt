@@ -1,8 +1,8 @@
--- Laws of one rounding: values, its error, order and growth; of bit patterns and casts; and of signs.
+-- Laws of one rounding: values, its error, order and growth; of a number's halves, of casts, and of signs.
 pub mod Values
 pub mod Signs
 pub mod Error
-pub mod Bits
+pub mod Halves
 pub mod Casts
 pub mod Order
 pub mod Quotients

@@ -111,12 +111,12 @@ abbrev pub below-zero : ℤ → Bool
 below-zero (pos n) = false
 below-zero (negsuc n) = true
 
-int-is : (f : Format) (z : ℤ) → ofInt f z ≡ round f (below-zero z) (natAbs z) 1
+pub int-is : (f : Format) (z : ℤ) → ofInt f z ≡ round f (below-zero z) (natAbs z) 1
 unfolding ofInt
 int-is f (pos n) = refl
 int-is f (negsuc n) = refl
 
-int-val : (f : Format) (z : ℤ) → natAbs z ≤ 2 ^ prec f → HasValue (ofInt f z) (below-zero z) (natAbs z) 1
+pub int-val : (f : Format) (z : ℤ) → natAbs z ≤ 2 ^ prec f → HasValue (ofInt f z) (below-zero z) (natAbs z) 1
 int-val f z h = subst (λ (x : Float). HasValue x (below-zero z) (natAbs z) 1) (sym (int-is f z))
     (round-whole f (below-zero z) (natAbs z) h)
 

@@ -15,11 +15,11 @@ absF nan = nan
 absF (inf s) = inf false
 absF (fin s m e) = fin false m e
 
--- n / d, rounded up; and to the nearest whole number, a half up
+-- n / d, rounded up
 abbrev pub upward : ℕ → ℕ → ℕ
 upward n d = (n + (d - 1)) / d
 
--- and to the nearest whole number, a half up
+-- n / d, to the nearest whole number, a half up
 abbrev pub halfUp : ℕ → ℕ → ℕ
 halfUp n d = (2 * n + d) / (2 * d)
 

@@ -1,5 +1,5 @@
-// Rust's casts between floats and whole numbers and the rounding of an f32, on bits, and floor and ceil of a quotient in
-// whole numbers.
+// Rust's casts between floats and whole numbers, the rounding of an f32 on bits, and floor and ceil of a quotient in whole
+// numbers.
 // Each statement is an equation with what IEEE 754 says (lib.Ieee).
 ghost use mathlib.Core.Path.{_≡_};
 ghost use mathlib.Core.Bool.{cond, not};
@@ -7,7 +7,6 @@ ghost use Prim.Native.Nat.{suc, _^_, _≤_, _<_, min};
 ghost use lib.Dec.{T};
 ghost use lib.IntN.{pos, negℤ, natAbs};
 ghost use lib.Ieee.{binary32, binary64, ofInt, div, ofBits, nanBits, toSigned, toUnsigned};
-ghost use lib.Ieee.Nearest.{closest};
 ghost use Rattle.floats.specs.Rounding.{withSign, absF, floorF, ceilF, roundF};
 
 // The weight of the exponent in a float's bits, and of a leading 1 before its 52 digits: 2^52.
@@ -43,40 +42,14 @@ fn with_sign(below: bool, n: u64) -> i64
     z
 }
 
-// n / 2048 to the nearest whole number, a tie to the even one: up where twice the rest is more than 2048, or is that
-// and the quotient is odd.
-fn nearest_quotient(n: u64) -> u64
-    ensures { λ r. ⌜ r ≡ closest n 2048 ⌝ }
-{
-    let q = n / 2048;
-    let twice = n % 2048 * 2;
-    if twice + q % 2 > 2048 {
-        return q + 1;
-    }
-    q
-}
-
-// n as f64: the nearest, a tie to the even one. Below 2^53 every whole number is a float. From there on n is moved up
-// until it has 64 digits, and the first 53 are kept, rounded; where that gives 2^53, the sum carries it into the
-// exponent.
-pub fn from_u64(n: u64) -> f64
-    ensures { λ r. ⌜ r ≡ ofInt binary64 (pos n) ⌝ }
-{
-    if n < 9007199254740992 {
-        return n as f64;
-    }
-    let z = u64::leading_zeros(n) as u64;
-    f64::from_bits((1085 - z) * LEAD + nearest_quotient(n << z))
-}
-
-// n as f64.
+// n as f64: the nearest, a tie to the even one. Its upper half, times 2^32, and its lower half are floats, so that only
+// their sum rounds.
 pub fn from_i64(n: i64) -> f64
     ensures { λ r. ⌜ r ≡ ofInt binary64 n ⌝ }
 {
-    if n < 0 {
-        return -from_u64(unsigned_abs(n));
-    }
-    from_u64(n as u64)
+    let upper = n >> 32;
+    let lower = n & 4294967295;
+    upper as f64 * 4294967296.0 + lower as f64
 }
 
 // The whole part of the float that has these bits, without its sign; the largest u64 from 2^64 on. The bits are a sign,
@@ -134,7 +107,8 @@ pub fn to_i64(x: f64) -> i64
     limited(x < 0.0, magnitude(x), 9223372036854775807)
 }
 
-// x as usize, which has 64 bits: in the same way, and 0 below 0.
+// x as usize, which has 64 bits: in the same way, and 0 below 0. Document 01 names this cast too; the Rust makes it of
+// floors and ceilings of quotients alone, which the last two functions answer.
 pub fn to_usize(x: f64) -> u64
     ensures { λ r. ⌜ r ≡ toUnsigned 64 x ⌝ }
 {
@@ -179,7 +153,8 @@ pub fn round_to_i32(x: f32) -> i32
 // (n as f64 / d as f64).floor() as usize.
 pub fn floor_quotient(n: u64, d: u64) -> u64
     requires { ⌜ (n < 2 ^ 53) × (0 < d) × (d ≤ 2 ^ 53) ⌝ }
-    ensures { λ r. ⌜ r ≡ toUnsigned 64 (floorF binary64 (div binary64 (ofInt binary64 (pos n)) (ofInt binary64 (pos d)))) ⌝ }
+    ensures { λ r. ⌜ r ≡ toUnsigned 64
+        (floorF binary64 (div binary64 (ofInt binary64 (pos n)) (ofInt binary64 (pos d)))) ⌝ }
 {
     n / d
 }
@@ -187,7 +162,8 @@ pub fn floor_quotient(n: u64, d: u64) -> u64
 // (n as f64 / d as f64).ceil() as usize.
 pub fn ceil_quotient(n: u64, d: u64) -> u64
     requires { ⌜ (n < 2 ^ 53) × (0 < d) × (d ≤ 2 ^ 53) ⌝ }
-    ensures { λ r. ⌜ r ≡ toUnsigned 64 (ceilF binary64 (div binary64 (ofInt binary64 (pos n)) (ofInt binary64 (pos d)))) ⌝ }
+    ensures { λ r. ⌜ r ≡ toUnsigned 64
+        (ceilF binary64 (div binary64 (ofInt binary64 (pos n)) (ofInt binary64 (pos d)))) ⌝ }
 {
     (n + (d - 1)) / d
 }

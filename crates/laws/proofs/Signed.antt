@@ -1,5 +1,5 @@
--- Signed numbers for `omega`: a ℤ z is `up z - dn z`, two naturals of which one is 0. Each law says one operation or test
--- in sums of these, which `omega` reads: hand it the law at its arguments. Assumes nothing.
+-- Signed numbers for `omega`: a ℤ z is `posPart z - negPart z`, two naturals of which one is 0. Each law says one
+-- operation or test in sums of these, which `omega` reads: hand it the law at its arguments. Assumes nothing.
 use mathlib.Core.Path.{_≡_, refl, sym, _∙_, ap}
 use mathlib.Core.Bool.{Bool, true, false, cond}
 use mathlib.Core.Logic.{_⊎_, inl, inr}

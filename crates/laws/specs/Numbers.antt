@@ -1,5 +1,5 @@
 -- Signed numbers: ranges, and a number's two parts, of which one is 0. Definitions only.
--- A z is `up z` less `dn z`.
+-- A z is `posPart z` less `negPart z`.
 use mathlib.Core.Bool.{Bool, _&&_}
 use Prim.Native.Nat.{ℕ, suc}
 use lib.IntN.{ℤ, pos, negsuc, negℤ}
@@ -13,7 +13,7 @@ minus n = negℤ (pos n)
 abbrev pub within : ℤ → ℤ → ℤ → Bool
 within low x high = leZ low x && leZ x high
 
--- the number itself where it is equal
+-- the number is n
 abbrev pub isNumber : ℤ → ℕ → Bool
 isNumber x n = within (pos n) x (pos n)
 

@@ -35,18 +35,21 @@ pub enum Pixel {
     At(i64),
 }
 
+// The width and the days are below 2^53, so that `as` loses nothing of them.
 pub fn scale_of(a: Axis, l: Limits) -> Scale
     requires { ⌜ (ends a ≡ true) × (pixels l ≡ true) ⌝ }
     ensures { λ r. ⌜ r ≡ scaleOf a l ⌝ }
 {
     let span = axis::span(a);
+    let width = l.high - l.low;
+    let days = axis::span_days(a);
     Scale {
         low: l.low,
         high: l.high,
-        width: floats::from_i64(l.high - l.low),
+        width: width as f64,
         fits: span.fits,
         total: floats::from_i64(span.value),
-        days: floats::from_i64(axis::span_days(a)),
+        days: days as f64,
     }
 }
 
@@ -128,7 +131,7 @@ fn map_value_refusal(a: Axis, v: Value) -> u8
 }
 
 // The pixel of any numbers with a ready scale.
-pub fn map_by(s: Scale, a: Axis, v: Value) -> Pixel
+fn map_by(s: Scale, a: Axis, v: Value) -> Pixel
     requires { ⌜ LowOnPage s × (ends a ≡ true) ⌝ }
     ensures { λ r. ⌜ r ≡ mappedBy s a v ⌝ }
 {

@@ -4,7 +4,7 @@ use mathlib.Core.Logic.{inl, inr}
 use mathlib.Core.Bool.{Bool, true, false, _&&_}
 use Prim.Native.Nat.{ℕ, _+_, _*_, _≤_, _<_}
 use native.Mathlib.Omega.{arith}
-use lib.IntN.{ℤ, pos, _+ℤ_, _-ℤ_, _*ℤ_, +ℤ-idr}
+use lib.IntN.{ℤ, pos, _+ℤ_, _-ℤ_, _*ℤ_}
 use lib.Signed.{ltZ, leZ, quotZ}
 use mir.Syntax.{w64}
 use mir.Val.{SFits}
@@ -16,9 +16,9 @@ use Rattle.values.specs.declared.Parts.{Parts}
 use Rattle.values.specs.Values.{isDuration, Both, earlier}
 use Rattle.values.specs.Differences.{unit, nanoseconds, difference, wholeDays}
 use Rattle.values.specs.Parts.{day, second, Of}
-use Rattle.values.proofs.Numbers.{is-gt, bounded, not-below, either-true, not-both}
+use Rattle.values.proofs.Numbers.{bounded, not-below, either-true, not-both}
 use Rattle.values.proofs.Joining.{joint, Ahead, ahead}
-use Rattle.values.proofs.Values.{date-value, day-value, duration-value}
+use Rattle.values.proofs.Values.{day-value, duration-value}
 
 -- ---- heads and tails
 far : (x y : ℤ) (m : ℕ) → posPart x + negPart y ≤ m + (posPart y + negPart x) → posPart y + negPart x ≤ m
@@ -164,6 +164,30 @@ by-seconds x =
       quot-up x 86400000000000,
       quot-dn x 86400000000000,
     ))
+
+-- no two values of a kind are further apart
+module _ (kind : ℤ) (a b : Value) (v : Both kind a b) where
+  abbrev apart : ℤ
+  apart = difference kind a b
+
+  abbrev Limited : Type 0
+  Limited = (negPart (wholeDays apart) ≤ 7305000) × (posPart (wholeDays apart) ≤ 7305000)
+
+  limited : (h t : ℤ) (k : ℕ) → apart ≡ h *ℤ pos k +ℤ t → negPart h * k + negPart t ≤ 631152000000999999999 →
+      posPart h * k + posPart t ≤ 631152000000999999999 → Limited
+  limited h t k e l m =
+      let r = bounded apart 631152000000999999999 631152000000999999999
+      (omega (arith, joint h t k, ap posPart e, ap negPart e)) (omega (arith, joint h t k, ap posPart e, ap negPart e)) in
+      (omega (arith, quot-dn apart 86400000000000), omega (arith, quot-up apart 86400000000000))
+
+  pub whole-range : Limited
+  whole-range = go (isDuration kind) refl
+    where
+      go : (d : Bool) → isDuration kind ≡ d → Limited
+      go true e = let n = durations-near kind a b v e in
+          limited (b .head -ℤ a .head) (b .tail -ℤ a .tail) 1000000000 (durations-apart kind a b e) (omega arith) (omega arith)
+      go false e = let n = days-near kind a b v e in
+          limited (b .head -ℤ a .head) (b .tail -ℤ a .tail) 86400000000000 (days-apart kind a b e) (omega arith) (omega arith)
 
 -- ---- the order of values is that of their nanoseconds
 module _ (kind : ℤ) (a b : Value) (v : Both kind a b) where

@@ -1,39 +1,32 @@
--- `floats::from_i64` meets its contract: the float of the distance from 0, negated below 0. Assumes nothing.
-use borrow.Author.Needs.{needs}
-use mathlib.Core.Path.{_≡_, sym, ap, _∙_, subst}
+-- `floats::from_i64` meets its contract, by the law of the halves. Assumes nothing.
 use native.Mathlib.Omega.{arith}
-use lib.Dec.{T}
-use lib.IntN.{ℤ, pos, natAbs}
-use lib.Signed.{nonNeg}
-use lib.Ieee.{binary64, ofInt}
-use mir.Facts.{toZ-ofZ}
-use Rattle.floats.proofs.Signs.{size-fits, unturned, below-float}
+use lib.Ieee.{binary64}
+use lib.IntN.{pos}
+use lib.Signed.{shrZ}
+use mir.Syntax.{w64}
+use mir.Val.{ofZ}
+use Prim.Native.Nat.{_%_, _^_}
+use Rattle.floats.proofs.Values.{in-float}
+use Rattle.floats.proofs.Halves.{upper-is, lower-is, upper-few, by-halves}
 use Rattle.floats.proofs.from_i64.Statement.{statement}
 use Rattle.floats.proofs.from_i64.Tie as tie
 
+int-to-float-result : tie.Need-int-to-float-result
+int-to-float-result c =
+    let n = c .before .args .n in
+    let f = c .before .fits .n in
+    rw (upper-is n f) (in-float binary64 (shrZ n 4294967296) (omega (arith, upper-few n f)))
+
+int-to-float-result-2 : tie.Need-int-to-float-result-2
+int-to-float-result-2 c =
+    let m = ofZ w64 (c .before .before .args .n) in
+    rw (lower-is m) (in-float binary64 (pos (m % 2 ^ 32)) (omega arith))
+
 returns : tie.Need-returns
 returns c =
-    let a = c .before .before .before in
-    let n≡ = toZ-ofZ (a .fits .n) in
-    rw (c .from-u64 .ensures, c .before .unsigned-abs .ensures, n≡)
-    (below-float binary64 (a .args .n) (rw n≡ at (c .before .before .if1 .taken)))
-
--- not below 0
-above : (c : tie.Else1) → c .before .args .n ≡ pos (natAbs (c .before .args .n))
-above c = unturned (c .before .args .n) (rw (toZ-ofZ (c .before .fits .n)) at (c .if1 .left))
-
-cast-from-u64 : tie.Need-cast-from-u64
-cast-from-u64 c = rw (toZ-ofZ (c .before .fits .n)) (
-  subst (λ (z : ℤ). T (nonNeg z)) (sym (above c)) tt,
-  omega (arith, size-fits (c .before .args .n) (c .before .fits .n)),
-)
-
-returns-2 : tie.Need-returns-2
-returns-2 c = c .from-u642 .ensures ∙ ap (λ (z : ℤ). ofInt binary64 (pos (natAbs z))) (toZ-ofZ (c .before .before .fits .n))
-    ∙ ap (ofInt binary64) (sym (above (c .before)))
+    let n = c .before .before .args .n in
+    let f = c .before .before .fits .n in
+    rw (upper-is n f, lower-is (ofZ w64 n)) (by-halves n f)
 
 pub from-i64-spec : {M : Type 1} → statement M
-from-i64-spec =
-    tie.close
-    (tie.spec (λ c κs. search needs) (λ c κs. search needs) returns cast-from-u64 (λ c κs. search needs)
-    returns-2)
+from-i64-spec = tie.close (tie.spec int-to-float-result int-to-float-result-2 returns)
