@@ -40,12 +40,14 @@ pub struct DateTime {
     pub nano: u64,
 }
 
-// 9999-12-31.
+// 9999-12-31, as a signed number and as a count.
 pub const LAST_DAY: i64 = 3652059;
+
+pub const LAST_COUNT: u64 = 3652059;
 
 const LENGTHS: [u8; 12] = [31, 28, 31, 30, 31, 30, 31, 31, 30, 31, 30, 31];
 
-pub fn leap_day(y: u64) -> u64
+fn leap_day(y: u64) -> u64
     ensures { λ r. ⌜ r ≡ leapDay y ⌝ }
 {
     if y % 4 != 0 {
@@ -57,7 +59,7 @@ pub fn leap_day(y: u64) -> u64
     if y % 400 == 0 { 1 } else { 0 }
 }
 
-pub fn month_length(y: u64, m: u64) -> u64
+fn month_length(y: u64, m: u64) -> u64
     requires { ⌜ (1 ≤ m) × (m ≤ 12) ⌝ }
     ensures { λ r. ⌜ r ≡ monthLength y m ⌝ }
 {
@@ -138,7 +140,7 @@ fn has_day(y: u64, m: u64, d: u64) -> bool
 }
 
 // Question 8 of a day number.
-pub fn is_day(n: i64) -> bool
+fn is_day(n: i64) -> bool
     ensures { λ r. ⌜ r ≡ isDay n ⌝ }
 {
     (1 <= n) & (n <= LAST_DAY)

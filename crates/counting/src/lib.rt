@@ -10,7 +10,8 @@ ghost use Prim.Native.Nat.{_+_, _*_, _-_, _≤_};
 ghost use Rattle.laws.specs.Numbers.{posPart};
 ghost use Rattle.calendar.specs.Questions.{isDay};
 ghost use Rattle.axis.specs.Questions.{valueOn};
-ghost use Rattle.counting.specs.Counting.{Dated, monthly, yearly, fromDay, toDay, firstDate, dateOn, origin, position, sizeOf};
+ghost use Rattle.counting.specs.Counting.{Dated, monthly, yearly, fromDay, toDay, firstDate, dateOn};
+ghost use Rattle.counting.specs.Counting.{origin, position, sizeOf};
 
 // Where an axis begins and where a value stands, in days, months or years.
 pub struct Position {
@@ -52,7 +53,7 @@ pub fn to_day(a: Axis) -> u64
 }
 
 // The day of a value, whatever its time is.
-pub fn day_of(v: Value) -> u64
+pub fn day_on(v: Value) -> u64
     requires { ⌜ isDay (v .head) ≡ true ⌝ }
     ensures { λ r. ⌜ r ≡ posPart (v .head) ⌝ }
 {
@@ -64,7 +65,7 @@ pub fn date_on(v: Value) -> Date
     requires { ⌜ isDay (v .head) ≡ true ⌝ }
     ensures { λ r. ⌜ r ≡ dateOn v ⌝ }
 {
-    calendar::date_of(day_of(v))
+    calendar::date_of(day_on(v))
 }
 
 // The date from which months and years are counted.
@@ -113,8 +114,8 @@ pub fn position_of(a: Axis, v: Value) -> Position
         };
     }
     Position {
-        from: day_of(axis::start(a)),
-        at: day_of(v),
+        from: day_on(axis::start(a)),
+        at: day_on(v),
     }
 }
 

@@ -1,12 +1,14 @@
 -- What the operations answer on raw numbers, refused calls too: their questions, then the answer. Definitions only.
 -- A refusal carries the question's number; none is no refusal. A value is asked question 10 last.
-use mathlib.Core.Bool.{cond, _&&_}
+use mathlib.Core.Path.{_≡_}
+use mathlib.Core.Bool.{true, cond, _&&_}
 use mathlib.Core.List.{List, [], _∷_, _++_}
-use Prim.Native.Nat.{ℕ, _+_, _-_}
+use Prim.Native.Nat.{ℕ, _+_, _-_, _≤_}
 use lib.Dec.{ltb}
 use lib.IntN.{ℤ, pos, _+ℤ_}
-use Rattle.laws.specs.Asking.{Question, ask, asked}
+use Rattle.laws.specs.Asking.{Question, ask, firstNo, asked}
 use Rattle.laws.specs.Numbers.{posPart}
+use Rattle.calendar.specs.Questions.{lastDay}
 use Rattle.values.specs.declared.Value.{Value}
 use Rattle.axis.specs.declared.Axis.{Axis}
 use Rattle.axis.specs.declared.Limits.{Limits}
@@ -16,10 +18,11 @@ use Rattle.discrete.specs.declared.NumberAnswer.{NumberAnswer}
 use Rattle.discrete.specs.declared.NumberAnswer.the-variants as number
 use Rattle.axis.specs.declared.ValueAnswer.{ValueAnswer}
 use Rattle.axis.specs.declared.ValueAnswer.the-variants as value
+use Rattle.discrete.specs.declared.AskedIndex.{AskedIndex}
 use Rattle.discrete.specs.declared.Cursor.{Cursor}
 use Rattle.discrete.specs.declared.StepAnswer.{StepAnswer}
 use Rattle.discrete.specs.declared.StepAnswer.the-variants as step
-use Rattle.counting.specs.Counting.{sizeOf}
+use Rattle.counting.specs.Counting.{Dated, sizeOf}
 use Rattle.discrete.specs.Indices.{isIndexed, indexOf, valueAt, indexUnder}
 
 -- ---- the questions
@@ -33,6 +36,18 @@ valueQuestions a v = sizeQuestions a ++ (ask 8 (valueOn a v) ∷ [])
 -- of an index on an axis
 abbrev pub indexQuestions : Axis → ℤ → List Question
 indexQuestions a i = sizeQuestions a ++ (ask 8 (isIndex i) ∷ [])
+
+-- an index of an axis that may be asked for values, as a count
+pub record Indexed (a : Axis) (i : ℤ) (k : ℕ) : Type 0 where
+  pub dated : Dated a
+  pub index : isIndex i ≡ true
+  pub count : k ≡ posPart i
+  pub most : k ≤ lastDay
+
+-- what was asked of an index, and the index where nothing was refused
+pub record IndexAsked (a : Axis) (i : ℤ) (r : AskedIndex) : Type 0 where
+  pub refusal : r .refusal ≡ firstNo (indexQuestions a i)
+  pub indexed : r .refusal ≡ 0 → Indexed a i (r .index)
 
 -- of a pixel between two limits
 abbrev pub unmapQuestions : Axis → Limits → ℤ → List Question

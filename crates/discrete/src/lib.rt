@@ -3,6 +3,7 @@
 use axis::Axis;
 use axis::Limits;
 use axis::ValueAnswer;
+use calendar::LAST_COUNT;
 use values::Value;
 ghost use mathlib.Core.Path.{_≡_};
 ghost use mathlib.Core.Bool.{true, false};
@@ -15,17 +16,20 @@ ghost use Rattle.values.specs.Values.{midnight};
 ghost use Rattle.axis.specs.Questions.{valueOn, isIndex, unmapPixels, checked};
 ghost use Rattle.counting.specs.Counting.{Dated, monthly, yearly};
 ghost use Rattle.discrete.specs.Indices.{monthAt, january, yearAt, valueAt, indexAt, indexUnder};
-ghost use Rattle.discrete.specs.Answers.{sizeQuestions, valueQuestions, indexQuestions, unmapQuestions};
+ghost use Rattle.discrete.specs.Answers.{sizeQuestions, valueQuestions, indexQuestions, IndexAsked, unmapQuestions};
 ghost use Rattle.discrete.specs.Answers.{indexIn, nextIn, previousIn, valueIn, sizeAnswer, indexAnswer};
 ghost use Rattle.discrete.specs.Answers.{fromIndexAnswer, nextAnswer, previousAnswer, stepped, valuesAnswer, unmapAnswer};
-
-// The last day's number, which is also the largest index of question 8.
-const LAST: u64 = 3652059;
 
 pub enum NumberAnswer {
     Refused(u8),
     None,
     Is(u64),
+}
+
+// What was asked of an index, and the index as a count where the refusal is 0.
+pub struct AskedIndex {
+    pub refusal: u8,
+    pub index: u64,
 }
 
 // The place of the value that comes next.
@@ -57,7 +61,7 @@ fn at_midnight(day: u64) -> ValueAnswer
     requires { ⌜ 1 ≤ day ⌝ }
     ensures { λ r. ⌜ r ≡ checked (ValueAnswer.At (midnight (pos day))) ⌝ }
 {
-    if day <= LAST {
+    if day <= LAST_COUNT {
         return ValueAnswer::At(Value {
             head: day as i64,
             tail: 0,
@@ -99,7 +103,7 @@ fn january(a: Axis, year: u64) -> ValueAnswer
         return ValueAnswer::Refused(10);
     }
     let day = calendar::day_number(year, 1, 1);
-    if day <= counting::day_of(axis::start(a)) {
+    if day <= counting::day_on(axis::start(a)) {
         return ValueAnswer::At(axis::start(a));
     }
     at_midnight(day)
@@ -124,7 +128,7 @@ pub fn value_at(a: Axis, i: u64) -> ValueAnswer
     if counting::yearly(a) {
         return year_at(a, i);
     }
-    at_midnight(counting::day_of(axis::start(a)) + i)
+    at_midnight(counting::day_on(axis::start(a)) + i)
 }
 
 // The next month's first, up to the end's month. The first date is asked for once.
@@ -165,11 +169,11 @@ fn next_day(a: Axis, v: Value) -> ValueAnswer
     requires { ⌜ Dated a × (valueOn a v ≡ true) × (monthly a ≡ false) × (yearly a ≡ false) ⌝ }
     ensures { λ r. ⌜ r ≡ checked (nextIn a v) ⌝ }
 {
-    let at = counting::day_of(v);
-    if at < counting::day_of(axis::start(a)) {
+    let at = counting::day_on(v);
+    if at < counting::day_on(axis::start(a)) {
         return ValueAnswer::None;
     }
-    if counting::day_of(axis::end(a)) <= at {
+    if counting::day_on(axis::end(a)) <= at {
         return ValueAnswer::None;
     }
     at_midnight(at + 1)
@@ -240,7 +244,7 @@ fn unmap_in(a: Axis, l: Limits, p: i64) -> ValueAnswer
     ensures { λ r. ⌜ r ≡ checked (ValueAnswer.At (valueAt a (indexUnder a l p))) ⌝ }
 {
     let i = index_under(a, l, p);
-    if LAST < i {
+    if LAST_COUNT < i {
         return ValueAnswer::Refused(10);
     }
     value_at(a, i)
@@ -260,11 +264,28 @@ fn value_refusal(a: Axis, v: Value) -> u8
     axis::then_ask(q, 8, axis::value_on(a, v))
 }
 
-pub fn index_refusal(a: Axis, i: i64) -> u8
+fn index_refusal(a: Axis, i: i64) -> u8
     ensures { λ r. ⌜ r ≡ firstNo (indexQuestions a i) ⌝ }
 {
     let q = axis::plain_refusal(a, axis::has_index(a));
     axis::then_ask(q, 8, axis::is_index(i))
+}
+
+// The questions of an index, and what it counts.
+pub fn asked_index(a: Axis, i: i64) -> AskedIndex
+    ensures { λ r. ⌜ IndexAsked a i r ⌝ }
+{
+    let q = index_refusal(a, i);
+    if q != 0 {
+        return AskedIndex {
+            refusal: q,
+            index: 0,
+        };
+    }
+    AskedIndex {
+        refusal: 0,
+        index: calendar::as_count(i),
+    }
 }
 
 fn unmap_refusal(a: Axis, l: Limits, p: i64) -> u8
@@ -300,11 +321,11 @@ pub fn index_of(a: Axis, v: Value) -> NumberAnswer
 pub fn from_index(a: Axis, i: i64) -> ValueAnswer
     ensures { λ r. ⌜ r ≡ fromIndexAnswer a i ⌝ }
 {
-    let q = index_refusal(a, i);
-    if q != 0 {
-        return ValueAnswer::Refused(q);
+    let k = asked_index(a, i);
+    if k.refusal != 0 {
+        return ValueAnswer::Refused(k.refusal);
     }
-    value_at(a, calendar::as_count(i))
+    value_at(a, k.index)
 }
 
 // The value after a value.
@@ -345,11 +366,11 @@ fn stepped(c: Cursor, v: ValueAnswer) -> StepAnswer
 pub fn values(a: Axis, c: Cursor) -> StepAnswer
     ensures { λ r. ⌜ r ≡ valuesAnswer a c ⌝ }
 {
-    let q = index_refusal(a, c.place);
-    if q != 0 {
-        return StepAnswer::Refused(q);
+    let k = asked_index(a, c.place);
+    if k.refusal != 0 {
+        return StepAnswer::Refused(k.refusal);
     }
-    stepped(c, value_in(a, calendar::as_count(c.place)))
+    stepped(c, value_in(a, k.index))
 }
 
 // The value under any pixel. Kind 4 counts nothing and goes by unmap_coord.

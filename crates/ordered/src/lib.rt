@@ -555,7 +555,8 @@ pub extern "C" fn ordered_segment_ticks_bold(
 ) -> OrderedNumber
     ensures { λ r. ⌜ r ≡ countReply (segmentTicksAnswer (axisOf kind «start_head» «start_tail» «end_head» «end_tail»)
         (Hint.Bold (record { n = n })) (length (now (lent .entry)))) ⌝ }
-    ensures { λ r. ⌜ now (lent .exit) ≡ segmentTicksWritten (axisOf kind «start_head» «start_tail» «end_head» «end_tail»)
+    ensures { λ r. ⌜ now (lent .exit) ≡ segmentTicksWritten
+        (axisOf kind «start_head» «start_tail» «end_head» «end_tail»)
         (Hint.Bold (record { n = n })) (now (lent .entry)) ⌝ }
 {
     let a = axis::axis_of(kind, start_head, start_tail, end_head, end_tail);
@@ -576,7 +577,8 @@ pub extern "C" fn ordered_segment_ticks_light(
 ) -> OrderedNumber
     ensures { λ r. ⌜ r ≡ countReply (segmentTicksAnswer (axisOf kind «start_head» «start_tail» «end_head» «end_tail»)
         (Hint.Light (record { bold = bold; n = n })) (length (now (lent .entry)))) ⌝ }
-    ensures { λ r. ⌜ now (lent .exit) ≡ segmentTicksWritten (axisOf kind «start_head» «start_tail» «end_head» «end_tail»)
+    ensures { λ r. ⌜ now (lent .exit) ≡ segmentTicksWritten
+        (axisOf kind «start_head» «start_tail» «end_head» «end_tail»)
         (Hint.Light (record { bold = bold; n = n })) (now (lent .entry)) ⌝ }
 {
     let a = axis::axis_of(kind, start_head, start_tail, end_head, end_tail);
@@ -592,7 +594,8 @@ pub extern "C" fn ordered_segment_size(
     end_head: i64,
     end_tail: i64,
 ) -> OrderedNumber
-    ensures { λ r. ⌜ r ≡ numberReply (segmentSizeAnswer (axisOf kind «start_head» «start_tail» «end_head» «end_tail»)) ⌝ }
+    ensures { λ r. ⌜ r ≡ numberReply
+        (segmentSizeAnswer (axisOf kind «start_head» «start_tail» «end_head» «end_tail»)) ⌝ }
 {
     let a = axis::axis_of(kind, start_head, start_tail, end_head, end_tail);
     number_reply(segmented::size(a))
@@ -609,7 +612,8 @@ pub extern "C" fn ordered_segment_index_of(
     head: i64,
     tail: i64,
 ) -> OrderedNumber
-    ensures { λ r. ⌜ r ≡ numberReply (segmentIndexAnswer (axisOf kind «start_head» «start_tail» «end_head» «end_tail»)
+    ensures { λ r. ⌜ r ≡ numberReply (segmentIndexAnswer
+        (axisOf kind «start_head» «start_tail» «end_head» «end_tail»)
         (record { case = segment; head = head; tail = tail })) ⌝ }
 {
     let a = axis::axis_of(kind, start_head, start_tail, end_head, end_tail);
@@ -675,8 +679,8 @@ pub extern "C" fn ordered_segment_from_index(
     end_tail: i64,
     index: i64,
 ) -> OrderedSegment
-    ensures { λ r. ⌜ r ≡ segmentReply (segmentFromAnswer (axisOf kind «start_head» «start_tail» «end_head» «end_tail»)
-        index) ⌝ }
+    ensures { λ r. ⌜ r ≡ segmentReply (segmentFromAnswer
+        (axisOf kind «start_head» «start_tail» «end_head» «end_tail») index) ⌝ }
 {
     let a = axis::axis_of(kind, start_head, start_tail, end_head, end_tail);
     segment_reply(segmented::from_index(a, index))

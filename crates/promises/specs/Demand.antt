@@ -29,7 +29,8 @@ FineList a h r l = (c : ℕ) → r ≡ Ticks c → Fine (limit h) (start a) (end
 -- axis, and there are more pixels than days, the pixels differ
 abbrev pub DaysApart : Axis → Limits → ℤ → ℤ → Pixel → Pixel → Type 0
 DaysApart a l i j x y =
-    (p q : ℤ) → MorePixels a l → DayOf a i → DayOf a j → (i ≡ j → ⊥) → x ≡ At p → y ≡ At q → p ≡ q → ⊥
+    (p q : ℤ) → MorePixels a l → DayOf a i → DayOf a j → (i ≡ j → ⊥)
+    → x ≡ At p → y ≡ At q → p ≡ q → ⊥
 
 -- the demand: for all kinds, spans, hints, lent slices, limits and pairs of days
 abbrev pub Demand3 : Type 0

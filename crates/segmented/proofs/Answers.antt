@@ -121,11 +121,7 @@ module _ (a : Axis) (l : Limits) (s : Segment) where
 
   pub map-is : firstNo (segmentValueQuestions a l s) ≡ 0 → segmentMappable a (segmentOf s) ≡ true →
       pixelChecked (segmentWorked a l (segmentOf s)) ≡ segmentMapAnswer a l s
-  map-is e f = go (found .fits) ∙ by-test e true f
-    where
-      go : (b : Bool) → cond b (pixel.At (found .pixel)) (pixel.Refused 10) ≡ rest true b
-      go true = refl
-      go false = refl
+  map-is e f = by-test e true f
 
 -- ---- a size and an index have a bound
 pub segment-size-range : (a : Axis) (n : ℕ) → segmentSizeAnswer a ≡ number.Is n → n ≤ 3652060

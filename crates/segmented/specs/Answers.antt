@@ -4,7 +4,7 @@ use mathlib.Core.List.{List, [], _∷_, _++_}
 use Prim.Native.Nat.{ℕ, _+_}
 use lib.Dec.{ltb, leb}
 use lib.IntN.{ℤ}
-use Rattle.laws.specs.Asking.{Question, ask, unless, asked}
+use Rattle.laws.specs.Asking.{Question, ask, asked}
 use Rattle.laws.specs.Numbers.{posPart}
 use Rattle.calendar.specs.Questions.{isDay}
 use Rattle.axis.specs.declared.Axis.{Axis}
@@ -91,7 +91,7 @@ exactly (value.At v) = segment.At (Exact v)
 
 -- question 10 alone, as the code asks it
 abbrev pub segmentChecked : SegmentAnswer → SegmentAnswer
-segmentChecked v = unless (cond (segmentInCalendar v) 0 10) segment.Refused v
+segmentChecked v = asked (ask 10 (segmentInCalendar v) ∷ []) segment.Refused v
 
 -- `from_index`
 unfoldable pub segmentFromAnswer : Axis → ℤ → SegmentAnswer

@@ -2,11 +2,13 @@
 -- value, a centre and the last end stand between two limits. Definitions only.
 use mathlib.Core.Path.{_≡_}
 use mathlib.Core.Bool.{Bool, true, cond, _&&_, _||_}
+use mathlib.Core.List.{[], _∷_}
 use Prim.Native.Nat.{ℕ, _≤_, _<_}
 use lib.Dec.{ltb}
 use lib.IntN.{ℤ, pos, _+ℤ_, _-ℤ_}
 use lib.Signed.{quotZ}
 use lib.Ieee.{binary32, ofInt, div, toSigned}
+use Rattle.laws.specs.Asking.{ask, asked}
 use Rattle.laws.specs.Numbers.{within, isNumber}
 use Rattle.calendar.specs.Questions.{lastDay, isDay}
 use Rattle.floats.specs.Rounding.{roundF}
@@ -106,4 +108,4 @@ segmentWorked a l Last = worked (l .high) true
 
 -- question 10 alone, as the code asks it
 abbrev pub pixelChecked : Worked → Pixel
-pixelChecked w = cond (w .fits) (pixel.At (w .pixel)) (pixel.Refused 10)
+pixelChecked w = asked (ask 10 (w .fits) ∷ []) pixel.Refused (pixel.At (w .pixel))

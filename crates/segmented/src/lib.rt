@@ -170,11 +170,11 @@ fn segment_at(a: Axis, i: u64) -> SegmentAnswer
 pub fn from_index(a: Axis, i: i64) -> SegmentAnswer
     ensures { λ r. ⌜ r ≡ segmentFromAnswer a i ⌝ }
 {
-    let q = discrete::index_refusal(a, i);
-    if q != 0 {
-        return SegmentAnswer::Refused(q);
+    let k = discrete::asked_index(a, i);
+    if k.refusal != 0 {
+        return SegmentAnswer::Refused(k.refusal);
     }
-    segment_at(a, calendar::as_count(i))
+    segment_at(a, k.index)
 }
 
 // Question 9: the size, and then the question of mapping; the last is asked only for the size.

@@ -153,7 +153,8 @@ fn list_even(s: Steps, lent: &mut [i64])
 // Sets the pairs of the list at the front of the lent numbers, unless these are too few.
 pub fn list(s: Steps, lent: &mut [i64]) -> Listed
     requires { ⌜ Sound s ⌝ }
-    ensures { λ r. ⌜ (r ≡ listedOf s (length (now (lent .entry)))) × (now (lent .exit) ≡ lentAfter s (now (lent .entry))) ⌝ }
+    ensures { λ r. ⌜ r ≡ listedOf s (length (now (lent .entry))) ⌝ }
+    ensures { λ r. ⌜ now (lent .exit) ≡ lentAfter s (now (lent .entry)) ⌝ }
 {
     if !has_room(s, lent.len() as u64) {
         return Listed::Refused(11);

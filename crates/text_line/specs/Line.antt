@@ -39,8 +39,8 @@ sameAs (a ∷ s) (b ∷ t) = cond (eqb a b) (sameAs s t) false
 -- "kind start end hint low high"
 abbrev pub names : List ℕ
 names =
-    107 ∷ 105 ∷ 110 ∷ 100 ∷ 32 ∷ 115 ∷ 116 ∷ 97 ∷ 114 ∷ 116 ∷ 32 ∷ 101 ∷ 110 ∷ 100 ∷ 32 ∷ 104 ∷ 105 ∷ 110 ∷ 116
-    ∷ 32 ∷ 108 ∷ 111 ∷ 119 ∷ 32 ∷ 104 ∷ 105 ∷ 103 ∷ 104 ∷ []
+    107 ∷ 105 ∷ 110 ∷ 100 ∷ 32 ∷ 115 ∷ 116 ∷ 97 ∷ 114 ∷ 116 ∷ 32 ∷ 101 ∷ 110 ∷ 100 ∷ 32
+    ∷ 104 ∷ 105 ∷ 110 ∷ 116 ∷ 32 ∷ 108 ∷ 111 ∷ 119 ∷ 32 ∷ 104 ∷ 105 ∷ 103 ∷ 104 ∷ []
 
 -- is it the names line?
 abbrev pub isNames : List ℕ → Bool

@@ -10,7 +10,9 @@ use Rattle.text_rows.specs.Answers.{rowsOf}
 
 -- "line tick pixel" and LF
 abbrev pub outputNames : List ℕ
-outputNames = 108 ∷ 105 ∷ 110 ∷ 101 ∷ 32 ∷ 116 ∷ 105 ∷ 99 ∷ 107 ∷ 32 ∷ 112 ∷ 105 ∷ 120 ∷ 101 ∷ 108 ∷ 10 ∷ []
+outputNames =
+    108 ∷ 105 ∷ 110 ∷ 101 ∷ 32 ∷ 116 ∷ 105 ∷ 99 ∷ 107 ∷ 32
+    ∷ 112 ∷ 105 ∷ 120 ∷ 101 ∷ 108 ∷ 10 ∷ []
 
 -- what a wrong or absent names line prints
 abbrev pub noNames : List ℕ

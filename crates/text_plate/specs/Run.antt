@@ -18,8 +18,8 @@ pub data Prints : State → List ℕ → List ℕ → List ℕ → Type 0 where
   last : {s : State} {kept chunk after out : List ℕ} {r : Taken} (rest : List ℕ) → s .number < 18446744073709551615
       → Turned s kept chunk r after out → r .goes ≡ false
       → Prints s kept (chunk ++ rest) (take (r .written) out)
-  over : {s : State} {kept before out : List ℕ} {r : ℕ} → Wrote (endedText (s .number) (take (s .len) kept)) 0 before r out →
-      r ≤ length out
+  over : {s : State} {kept before out : List ℕ} {r : ℕ}
+      → Wrote (endedText (s .number) (take (s .len) kept)) 0 before r out → r ≤ length out
       → Prints s kept [] (take r out)
 
 -- at the start nothing is kept

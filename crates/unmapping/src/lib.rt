@@ -3,6 +3,7 @@
 use axis::Axis;
 use axis::Limits;
 use axis::ValueAnswer;
+use calendar::LAST_COUNT;
 use values::Value;
 ghost use mathlib.Core.Path.{_≡_};
 ghost use mathlib.Core.Bool.{true, false};
@@ -30,7 +31,7 @@ fn on_calendar(day: u64, nano: u64) -> ValueAnswer
     requires { ⌜ nano < perDay ⌝ }
     ensures { λ r. ⌜ r ≡ dateTimeAnswer (pos (day * perDay + nano)) ⌝ }
 {
-    if (1 <= day) & (day <= 3652059) {
+    if (1 <= day) & (day <= LAST_COUNT) {
         return ValueAnswer::At(Value {
             head: day as i64,
             tail: nano as i64,
@@ -85,7 +86,7 @@ fn days_away(day: u64, nano: u64, back: bool, n: u64) -> ValueAnswer
     requires { ⌜ InDay day nano ⌝ }
     ensures { λ r. ⌜ r ≡ dateTimeAnswer (pos (day * perDay + nano) +ℤ withSign back (n * perDay)) ⌝ }
 {
-    if n > 3652059 {
+    if n > LAST_COUNT {
         return ValueAnswer::Refused(10);
     }
     if back {
@@ -129,7 +130,8 @@ fn by_nanoseconds(day: u64, nano: u64, o: Offset, s: u64) -> ValueAnswer
 // A span of whole days over the width.
 fn by_days(day: u64, nano: u64, o: Offset, span: i64) -> ValueAnswer
     requires { ⌜ InDay day nano ⌝ }
-    ensures { λ r. ⌜ r ≡ dateTimeAnswer (pos (day * perDay + nano) +ℤ byDays span (o .width) (o .pixels) *ℤ pos perDay) ⌝ }
+    ensures { λ r. ⌜ r ≡ dateTimeAnswer
+        (pos (day * perDay + nano) +ℤ byDays span (o .width) (o .pixels) *ℤ pos perDay) ⌝ }
 {
     let n = floats::to_i64(
         floats::from_i64(o.pixels) * floats::from_i64(span) / floats::from_i64(o.width),
@@ -152,7 +154,8 @@ fn product_fits(o: Offset, s: u64) -> bool
 // least their width in nanoseconds go by whole days.
 fn date_time_at(a: Axis, o: Offset) -> ValueAnswer
     requires { ⌜ (isDuration (a .kind) ≡ false) × (ends a ≡ true) × (inOrder a ≡ true) × OnWidth o ⌝ }
-    ensures { λ r. ⌜ r ≡ dateTimeAnswer (nanoseconds (a .kind) (start a) +ℤ movedBy (spanOf a) (o .width) (o .pixels)) ⌝ }
+    ensures { λ r. ⌜ r ≡ dateTimeAnswer
+        (nanoseconds (a .kind) (start a) +ℤ movedBy (spanOf a) (o .width) (o .pixels)) ⌝ }
 {
     let day = floats::unsigned_abs(a.start_head);
     let nano = floats::unsigned_abs(a.start_tail);

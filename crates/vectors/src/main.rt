@@ -4,6 +4,7 @@
 use calendar::DateAnswer;
 use calendar::DateTime;
 use calendar::DayAnswer;
+use calendar::LAST_COUNT;
 use calendar::Ymd;
 use libc::STDIN_FILENO;
 use libc::STDOUT_FILENO;
@@ -97,7 +98,7 @@ fn date_row_agrees(s: &[u8], at: usize) -> bool
 
 // Is the floor, or else the ceiling, of that date-time the day?
 fn day_agrees(floor: bool, day: u64, nano: u64, answer: u64) -> bool {
-    if day > 3652059 {
+    if day > LAST_COUNT {
         return false;
     }
     let t = DateTime {

@@ -15,11 +15,11 @@ date-of-requires c κs =
     let v = c .before .args .v in
     let w = within-true (pos 1) (v .head) (pos 3652059) (c .before .pre) in
     let z : negPart (v .head) ≡ 0 = not-below (v .head) (omega arith) in
-    (omega (arith, c .day-of .ensures), omega (arith, c .day-of .ensures))
+    (omega (arith, c .day-on .ensures), omega (arith, c .day-on .ensures))
 
 returns : tie.Need-returns
 unfolding dateOn
-returns c = c .date-of .ensures ∙ ap dateOf (c .before .day-of .ensures)
+returns c = c .date-of .ensures ∙ ap dateOf (c .before .day-on .ensures)
 
 pub date-on-spec : {M : Type 1} → statement M
 date-on-spec = tie.close (tie.spec (λ c κs. search needs) date-of-requires returns)

@@ -1,4 +1,4 @@
--- `counting::day_of` meets its contract. Assumes nothing.
+-- `counting::day_on` meets its contract. Assumes nothing.
 use borrow.Author.Needs.{needs}
 use mathlib.Core.Path.{_∙_, ap}
 use native.Mathlib.Omega.{arith}
@@ -9,8 +9,8 @@ use mir.Facts.{toZ-ofZ}
 use Rattle.laws.specs.Numbers.{posPart}
 use Rattle.laws.proofs.Signed.{is-ge}
 use Rattle.values.proofs.Numbers.{within-true}
-use Rattle.counting.proofs.day_of.Statement.{statement}
-use Rattle.counting.proofs.day_of.Tie as tie
+use Rattle.counting.proofs.day_on.Statement.{statement}
+use Rattle.counting.proofs.day_on.Tie as tie
 
 head-fits : (c : tie.Start) → SFits w64 (c .args .v .head)
 head-fits c = search needs
@@ -24,5 +24,5 @@ as-count-requires c κs =
 returns : tie.Need-returns
 returns c = c .as-count .ensures ∙ ap posPart (toZ-ofZ (head-fits (c .before .before)))
 
-pub day-of-spec : {M : Type 1} → statement M
-day-of-spec = tie.close (tie.spec as-count-requires returns)
+pub day-on-spec : {M : Type 1} → statement M
+day-on-spec = tie.close (tie.spec as-count-requires returns)

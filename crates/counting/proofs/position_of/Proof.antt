@@ -58,12 +58,12 @@ returns-2 c =
     let q = ap (λ (d : Date). d .year) (c .date-on2 .ensures) ∙ sym (position-years (s .a) (s .v) (not-months e) y) in
     λ i. record { from = p i; at = q i }
 
-day-of-requires : tie.Need-day-of-requires
-day-of-requires c κs = let s = c .before .before .before .before .before in
+day-on-requires : tie.Need-day-on-requires
+day-on-requires c κs = let s = c .before .before .before .before .before in
     rw (c .start .ensures) (is-day (start (s .args .a)) (starts (s .args .a) (s .pre .0)))
 
-day-of-requires-2 : tie.Need-day-of-requires-2
-day-of-requires-2 c κs = let s = c .before .before .before .before .before .before in
+day-on-requires-2 : tie.Need-day-on-requires-2
+day-on-requires-2 c κs = let s = c .before .before .before .before .before .before in
     is-day (s .args .v) (on-day (s .args .a) (s .pre .0) (s .args .v) (s .pre .1))
 
 returns-3 : tie.Need-returns-3
@@ -74,9 +74,9 @@ returns-3 c =
     let e = n .before .before in
     let s = e .before .before .args in
     let y : yearly (s .a) ≡ false = sym (n .before .yearly .ensures) ∙ n .if2 .left in
-    let p = d .day-of .ensures ∙ ap (λ (v : Value). posPart (v .head)) (b .start .ensures)
+    let p = d .day-on .ensures ∙ ap (λ (v : Value). posPart (v .head)) (b .start .ensures)
     ∙ sym (origin-days (s .a) (not-months e) y) in
-    let q = c .day-of2 .ensures ∙ sym (position-days (s .a) (s .v) (not-months e) y) in
+    let q = c .day-on2 .ensures ∙ sym (position-days (s .a) (s .v) (not-months e) y) in
     λ i. record { from = p i; at = q i }
 
 pub position-of-spec : {M : Type 1} → statement M
@@ -84,4 +84,4 @@ position-of-spec =
     tie.close
     (tie.spec (λ c κs. search needs) (λ c κs. search needs) date-on-requires months-from-requires returns
     (λ c κs. search needs) (λ c κs. search needs) date-on-requires-2 returns-2
-    (λ c κs. search needs) day-of-requires day-of-requires-2 returns-3)
+    (λ c κs. search needs) day-on-requires day-on-requires-2 returns-3)

@@ -30,12 +30,12 @@ returns c =
 day-number-requires : tie.Need-day-number-requires
 day-number-requires c κs = let s = c .before in (a-first (s .args .year) 1 (s .pre .1) (omega arith) (omega arith), omega arith)
 
-day-of-requires : tie.Need-day-of-requires
-day-of-requires c κs = let s = c .before .before .before in
+day-on-requires : tie.Need-day-on-requires
+day-on-requires c κs = let s = c .before .before .before in
     rw (c .start .ensures) (is-day (start (s .args .a)) (starts (s .args .a) (s .pre .0)))
 
-start-day : (c : tie.After-day-of) → c .day-of .result ≡ posPart (c .before .before .before .before .args .a .«start_head»)
-start-day c = c .day-of .ensures ∙ ap (λ (v : Value). posPart (v .head)) (c .before .start .ensures)
+start-day : (c : tie.After-day-on) → c .day-on .result ≡ posPart (c .before .before .before .before .args .a .«start_head»)
+start-day c = c .day-on .ensures ∙ ap (λ (v : Value). posPart (v .head)) (c .before .start .ensures)
 
 returns-2 : tie.Need-returns-2
 returns-2 c =
@@ -62,5 +62,5 @@ returns-3 c =
 pub january-spec : {M : Type 1} → statement M
 january-spec =
     tie.close
-    (tie.spec returns day-number-requires (λ c κs. search needs) day-of-requires (λ c κs. search needs)
+    (tie.spec returns day-number-requires (λ c κs. search needs) day-on-requires (λ c κs. search needs)
     returns-2 (λ c κs. search needs) returns-3)

@@ -20,20 +20,20 @@ use Rattle.discrete.proofs.Answers.{next-before, next-end, next-inside}
 use Rattle.discrete.proofs.next_day.Statement.{statement}
 use Rattle.discrete.proofs.next_day.Tie as tie
 
-day-of-requires : tie.Need-day-of-requires
-day-of-requires c κs = is-day (c .args .v) (on-day (c .args .a) (c .pre .0) (c .args .v) (c .pre .1))
+day-on-requires : tie.Need-day-on-requires
+day-on-requires c κs = is-day (c .args .v) (on-day (c .args .a) (c .pre .0) (c .args .v) (c .pre .1))
 
-day-of-requires-2 : tie.Need-day-of-requires-2
-day-of-requires-2 c κs = let s = c .before .before in
+day-on-requires-2 : tie.Need-day-on-requires-2
+day-on-requires-2 c κs = let s = c .before .before in
     rw (c .start .ensures) (is-day (start (s .args .a)) (starts (s .args .a) (s .pre .0)))
 
-at-is : (c : tie.After-day-of) → c .day-of .result ≡ position (c .before .args .a) (c .before .args .v)
-at-is c = let s = c .before in c .day-of .ensures ∙ sym (position-days (s .args .a) (s .args .v) (s .pre .2) (s .pre .3))
+at-is : (c : tie.After-day-on) → c .day-on .result ≡ position (c .before .args .a) (c .before .args .v)
+at-is c = let s = c .before in c .day-on .ensures ∙ sym (position-days (s .args .a) (s .args .v) (s .pre .2) (s .pre .3))
 
-from-is : (c : tie.After-day-of2) → c .day-of2 .result ≡ origin (c .before .before .before .args .a)
+from-is : (c : tie.After-day-on2) → c .day-on2 .result ≡ origin (c .before .before .before .args .a)
 from-is c =
     let s = c .before .before .before in
-    c .day-of2 .ensures ∙ ap (λ (v : Value). posPart (v .head)) (c .before .start .ensures)
+    c .day-on2 .ensures ∙ ap (λ (v : Value). posPart (v .head)) (c .before .start .ensures)
     ∙ sym (origin-days (s .args .a) (s .pre .2) (s .pre .3))
 
 returns : tie.Need-returns
@@ -43,17 +43,17 @@ returns c =
     let x = t .before .args in
     no-value ∙ ap checked (sym (next-before (x .a) (x .v) (omega (arith, c .if1 .taken, from-is d, at-is t))))
 
-day-of-requires-3 : tie.Need-day-of-requires-3
-day-of-requires-3 c κs =
+day-on-requires-3 : tie.Need-day-on-requires-3
+day-on-requires-3 c κs =
     let s = c .before .before .before .before .before in
     rw (c .end .ensures) (is-day (end (s .args .a)) (on-day (s .args .a) (s .pre .0) (end (s .args .a))
     (end-on (s .args .a) (s .pre .0))))
 
-to-is : (c : tie.After-day-of3) → c .day-of3 .result ≡ position (c .before .before .before .before .before .before .args .a)
+to-is : (c : tie.After-day-on3) → c .day-on3 .result ≡ position (c .before .before .before .before .before .before .args .a)
     (end (c .before .before .before .before .before .before .args .a))
 to-is c =
     let s = c .before .before .before .before .before .before in
-    c .day-of3 .ensures ∙ ap (λ (v : Value). posPart (v .head)) (c .before .end .ensures)
+    c .day-on3 .ensures ∙ ap (λ (v : Value). posPart (v .head)) (c .before .end .ensures)
     ∙ sym (position-days (s .args .a) (end (s .args .a)) (s .pre .2) (s .pre .3))
 
 from-to : (c : tie.Else1) → let s = c .before .before .before .before in origin (s .args .a) ≤ position (s .args .a) (s .args .v)
@@ -75,7 +75,7 @@ returns-3 c =
     let t = e .before .before .before in
     let s = t .before in
     let x = s .args in
-    let place : t .day-of .result + 1 ≡ posPart (x .a .«start_head») + (position (x .a) (x .v) - origin (x .a) + 1) =
+    let place : t .day-on .result + 1 ≡ posPart (x .a .«start_head») + (position (x .a) (x .v) - origin (x .a) + 1) =
     omega (arith, at-is t, from-to e, origin-days (x .a) (s .pre .2) (s .pre .3)) in
     c .at-midnight .ensures
     ∙ ap (λ (k : ℕ). checked (value.At (midnight (pos k)))) place
@@ -86,5 +86,5 @@ returns-3 c =
 pub next-day-spec : {M : Type 1} → statement M
 next-day-spec =
     tie.close
-    (tie.spec day-of-requires (λ c κs. search needs) day-of-requires-2 returns (λ c κs. search needs)
-    day-of-requires-3 returns-2 (λ c. search needs) (λ c κs. search needs) returns-3)
+    (tie.spec day-on-requires (λ c κs. search needs) day-on-requires-2 returns (λ c κs. search needs)
+    day-on-requires-3 returns-2 (λ c. search needs) (λ c κs. search needs) returns-3)

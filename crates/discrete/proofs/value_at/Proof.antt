@@ -35,13 +35,13 @@ returns-2 c =
     let y : yearly (s .a) ≡ true = sym (t .before .yearly .ensures) ∙ t .if2 .taken in
     c .year-at .ensures ∙ ap (λ (v : Value). checked (value.At v)) (sym (value-years (s .a) (s .i) (not-months e) y))
 
-day-of-requires : tie.Need-day-of-requires
-day-of-requires c κs = let s = c .before .before .before .before .before in
+day-on-requires : tie.Need-day-on-requires
+day-on-requires c κs = let s = c .before .before .before .before .before in
     rw (c .start .ensures) (is-day (start (s .args .a)) (starts (s .args .a) (s .pre .0)))
 
-start-day : (c : tie.After-day-of) →
-    c .day-of .result ≡ posPart (c .before .before .before .before .before .before .args .a .«start_head»)
-start-day c = c .day-of .ensures ∙ ap (λ (v : Value). posPart (v .head)) (c .before .start .ensures)
+start-day : (c : tie.After-day-on) →
+    c .day-on .result ≡ posPart (c .before .before .before .before .before .before .args .a .«start_head»)
+start-day c = c .day-on .ensures ∙ ap (λ (v : Value). posPart (v .head)) (c .before .start .ensures)
 
 add-at-midnight : tie.Need-add-at-midnight
 add-at-midnight c = let s = c .before .before .before .before .before .before in
@@ -66,5 +66,5 @@ pub value-at-spec : {M : Type 1} → statement M
 value-at-spec =
     tie.close
     (tie.spec (λ c κs. search needs) (λ c κs. search needs) returns (λ c κs. search needs)
-    (λ c κs. search needs) returns-2 (λ c κs. search needs) day-of-requires add-at-midnight
+    (λ c κs. search needs) returns-2 (λ c κs. search needs) day-on-requires add-at-midnight
     at-midnight-requires returns-3)

@@ -1,21 +1,17 @@
 -- `ordered::ordered_count_bold` meets its contract: each number, read back from its bits, is itself. Assumes nothing.
 use borrow.Author.Needs.{needs}
 use mathlib.Core.Path.{_∙_}
-use mir.Facts.{toZ-ofZ}
-use Rattle.axis.specs.declared.Hint.the-variants.{Bold}
 use Rattle.ticks.specs.Answers.{ticksAnswer}
 use Rattle.ordered.specs.Replies.{countReply}
-use Rattle.ordered.proofs.Axes.{axis-read}
+use Rattle.ordered.proofs.Axes.{axis-read, bold-read}
 use Rattle.ordered.proofs.ordered_count_bold.Statement.{statement}
 use Rattle.ordered.proofs.ordered_count_bold.Tie as tie
 
 returns : tie.Need-returns
 returns c =
     let f = c .before .before .fits in
-    c .count-ticks .ensures
-    ∙ (λ i. countReply (ticksAnswer ((c .before .axis-of .ensures ∙ axis-read (f .kind) (f .start-head) (f .start-tail)
-    (f .end-head) (f .end-tail)) i)
-    (Bold (record { n = toZ-ofZ (f .n) i })) (c .before .before .args .lent-len)))
+    let a = c .before .axis-of .ensures ∙ axis-read (f .kind) (f .start-head) (f .start-tail) (f .end-head) (f .end-tail) in
+    c .count-ticks .ensures ∙ (λ i. countReply (ticksAnswer (a i) (bold-read (f .n) i) (c .before .before .args .lent-len)))
 
 pub ordered-count-bold-spec : {M : Type 1} → statement M
 ordered-count-bold-spec = tie.close (tie.spec (λ c κs. search needs) (λ c κs. search needs) returns)
