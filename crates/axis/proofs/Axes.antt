@@ -1,22 +1,18 @@
 -- The ends of an axis and a value on it are values of one kind; the sign of its span. Assumes nothing.
-use mathlib.Core.Path.{_≡_, _∙_, ap}
-use mathlib.Core.Logic.{_⊎_, inl, inr}
+use mathlib.Core.Path.{_≡_}
 use mathlib.Core.Bool.{true}
-use Prim.Native.Nat.{_≤_}
 use native.Mathlib.Omega.{arith}
-use lib.IntN.{pos}
 use borrow.Author.Tests.{not-true}
-use Rattle.laws.specs.Numbers.{within, posPart, negPart}
+use Rattle.laws.specs.Numbers.{within, negPart}
 use Rattle.laws.proofs.Signed.{same}
 use Rattle.laws.proofs.Tests.{both-true}
 use Rattle.values.specs.declared.Value.{Value}
 use Rattle.values.specs.Values.{isValue, earlier, Both}
-use Rattle.values.specs.Differences.{difference}
-use Rattle.values.proofs.Numbers.{within-true, either-true}
-use Rattle.values.proofs.Differences.{later-apart, no-earlier-apart, none-apart}
+use Rattle.values.proofs.Numbers.{within-true}
+use Rattle.values.proofs.Differences.{no-earlier-apart}
 use Rattle.axis.specs.declared.Axis.{Axis}
-use Rattle.axis.specs.Axes.{start, end, spanOf, offsetOf}
-use Rattle.axis.specs.Questions.{ends, inOrder, valueOn, equals, mappable}
+use Rattle.axis.specs.Axes.{start, end, spanOf}
+use Rattle.axis.specs.Questions.{ends, inOrder, valueOn, equals}
 
 module _ (a : Axis) (e : ends a ≡ true) where
   -- question 3

@@ -104,6 +104,11 @@ year-most y m d r h =
     past g = omega (arith, in-year y m d r, last-day)
 
 -- ---- the day after
+-- each month has a first
+pub a-first : (y m : ℕ) → 1 ≤ y → 1 ≤ m → m ≤ 12 → Real y m 1
+a-first y m a b c =
+    record { year = a; month = b; last = c; day = omega arith; within = omega (arith, monthLength-range y m c) }
+
 following : (y m d : ℕ) → Real y m d → (b e : Bool) → (b ≡ true → d < monthLength y m) → (b ≡ false → monthLength y m ≤ d)
     → (e ≡ true → m < 12) → (e ≡ false → 12 ≤ m)
     → let t = cond b (date y m (d + 1)) (cond e (date y (m + 1) 1) (date (y + 1) 1 1)) in
@@ -113,14 +118,7 @@ following y m d r true e p q u v =
     (record { year = r .year; month = r .month; last = r .last; day = omega arith; within = omega (arith, p refl) }, omega arith)
 following y m d r false true p q u v =
     let before : m + 1 - 1 ≡ m = omega arith in (
-      record {
-        year = r .year;
-        month = omega arith;
-        last = omega (arith, u refl);
-        day = omega arith;
-        within =
-            omega (arith, monthLength-range y (m + 1) (omega (arith, u refl)));
-      },
+      a-first y (m + 1) (r .year) (omega arith) (omega (arith, u refl)),
       rw before (omega (arith, months-to y m (r .month), q refl, r .within)),
     )
 following y m d r false false p q u v =
@@ -128,14 +126,7 @@ following y m d r false false p q u v =
     let last : m ≡ 12 = omega (arith, v refl, r .last) in
     let whole : months y 12 ≡ months y (m - 1) + monthLength y m =
     subst (λ (x : ℕ). months y x ≡ months y (m - 1) + monthLength y m) last (months-to y m (r .month)) in (
-      record {
-        year = omega arith;
-        month = omega arith;
-        last = omega arith;
-        day = omega arith;
-        within =
-            omega (arith, monthLength-range (y + 1) 1 (omega arith));
-      },
+      a-first (y + 1) 1 (omega arith) (omega arith) (omega arith),
       rw before (omega (arith, years-to y (r .year), year-is y, whole, months-none (y + 1), q refl, r .within)),
     )
 
@@ -151,17 +142,7 @@ next-day t r =
 -- ---- the date of a day number
 first : Real 1 1 1 × (dayNumber 1 1 1 ≡ 1)
 unfolding dayNumber
-first = (
-  record {
-    year = omega arith;
-    month = omega arith;
-    last = omega arith;
-    day = omega arith;
-    within =
-        omega (arith, monthLength-range 1 1 (omega arith));
-  },
-  refl,
-)
+first = (a-first 1 1 (omega arith) (omega arith) (omega arith), refl)
 
 later-is : (k : ℕ) → let t = daysLater k in Real (t .year) (t .month) (t .day) × (dayNumber (t .year) (t .month) (t .day) ≡ k + 1)
 unfolding daysLater

@@ -10,15 +10,15 @@ use lib.Dec.{ltb}
 use borrow.Author.Tests.{ltb-false}
 use lib.IntN.{ℤ, pos}
 use lib.Signed.{ltZ, leZ}
-use Rattle.laws.specs.Numbers.{within, isNumber, posPart, negPart}
+use Rattle.laws.specs.Numbers.{within, posPart, negPart}
 use Rattle.laws.proofs.Signed.{le-true, is-ge}
-use Rattle.laws.proofs.Tests.{both-true}
+use Rattle.laws.proofs.Tests.{both-true, bit}
 use Rattle.calendar.specs.declared.Date.{Date}
 use Rattle.calendar.specs.Gregorian.{dateOf}
 use Rattle.calendar.specs.Questions.{isDay}
 use Rattle.values.specs.declared.Value.{Value}
 use Rattle.values.specs.Values.{isDuration}
-use Rattle.values.proofs.Numbers.{is-le, is-gt, within-true, either-true}
+use Rattle.values.proofs.Numbers.{is-le, is-gt, either-true}
 use Rattle.values.proofs.Values.{DayValue, day-value}
 use Rattle.axis.specs.declared.Axis.{Axis}
 use Rattle.axis.specs.Axes.{start, end}
@@ -105,10 +105,6 @@ near-next n h l = near-year n 10000 h most
     ]
 
 -- ---- the first day
-bit : (b : Bool) → cond b 1 0 ≤ 1
-bit true = omega arith
-bit false = omega arith
-
 module _ (a : Axis) where
   -- it is the start's only within its first second
   pub from-start : (posPart (a .«start_head») ≤ fromDay a)

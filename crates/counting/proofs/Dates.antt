@@ -8,8 +8,7 @@ use native.Mathlib.Omega.{arith}
 use lib.Dec.{ltb}
 use Rattle.calendar.specs.declared.Date.{Date}
 use Rattle.calendar.specs.Gregorian.{monthLength, dayNumber, Real, date, nextDay, dateOf}
-use Rattle.calendar.proofs.Formulas.{monthLength-range}
-use Rattle.calendar.proofs.Dates.{date-number, the-date, date-follows, number-most, year-most}
+use Rattle.calendar.proofs.Dates.{date-number, the-date, date-follows, number-most, year-most, a-first}
 
 -- ---- the year of the next day
 pub record Onward (y z : ℕ) : Type 0 where
@@ -51,9 +50,6 @@ pub year-9999 : (n : ℕ) → 1 ≤ n → n ≤ 3652059 → dateOf n .year ≤ 9
 year-9999 n h l = let (r, e) = date-number n h in year-most (dateOf n .year) (dateOf n .month) (dateOf n .day) r (omega arith)
 
 -- ---- the first of a month
-pub a-first : (y m : ℕ) → 1 ≤ y → 1 ≤ m → m ≤ 12 → Real y m 1
-a-first y m a b c = record { year = a; month = b; last = c; day = omega arith; within = omega (arith, monthLength-range y m c) }
-
 module _ (y m : ℕ) (a : 1 ≤ y) (b : 1 ≤ m) (c : m ≤ 12) where
   pub first-least : 1 ≤ dayNumber y m 1
   unfolding dayNumber

@@ -5,7 +5,7 @@ use mathlib.Core.Bool.{Bool, true, false}
 use Prim.Native.Nat.{ℕ, _+_, _-_, _/_, _%_, _≤_, _<_}
 use native.Mathlib.Omega.{arith}
 use borrow.Author.Tests.{eq-eqb, ne-eqb, le-leb, lt-leb}
-use lib.IntN.{ℤ, pos}
+use lib.IntN.{pos}
 use Rattle.laws.specs.Numbers.{posPart}
 use Rattle.calendar.specs.Gregorian.{dayNumber}
 use Rattle.calendar.specs.Questions.{isDay}

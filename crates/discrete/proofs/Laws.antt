@@ -10,7 +10,7 @@ use lib.IntN.{ℤ, pos}
 use lib.ListN.{length, getD}
 use lib.Signed.{leZ}
 use borrow.Author.Tests.{ltb-true, leb-true}
-use Rattle.laws.specs.Asking.{ask, thenAsk, firstNo, unless, asked}
+use Rattle.laws.specs.Asking.{ask, thenAsk, firstNo, unless}
 use Rattle.laws.specs.Numbers.{posPart}
 use Rattle.laws.proofs.Signed.{same}
 use Rattle.values.specs.declared.Value.{Value}

@@ -6,7 +6,7 @@ use mathlib.Core.List.{List, [], _∷_, _++_}
 use Prim.Native.Nat.{ℕ, zero, suc, _<_}
 use native.Mathlib.Omega.{arith}
 use lib.Dec.{T, eqb, ltb, ltb→lt}
-use Rattle.laws.specs.Asking.{Question, ask, thenAsk, askedFrom, firstNo, unless, asked}
+use Rattle.laws.specs.Asking.{Question, thenAsk, askedFrom, firstNo, unless, asked}
 
 -- the test of question n, true where it is not in the row
 abbrev pub testOf : ℕ → List Question → Bool

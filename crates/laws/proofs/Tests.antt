@@ -1,7 +1,7 @@
 -- Tests that were joined: what the whole says of its parts. Assumes nothing.
 use mathlib.Core.Path.{_≡_, refl}
-use mathlib.Core.Bool.{Bool, true, false, _&&_, _||_}
-use Prim.Native.Nat.{ℕ}
+use mathlib.Core.Bool.{Bool, true, false, cond, _&&_, _||_}
+use Prim.Native.Nat.{ℕ, _≤_}
 use native.Mathlib.Omega.{arith}
 use lib.Dec.{T}
 
@@ -24,3 +24,11 @@ and-false false = refl
 pub holds : (b : Bool) → T b → b ≡ true
 holds true t = refl
 holds false t = absurd t
+
+pub is-true : (b : Bool) → b ≡ true → T b
+is-true true e = tt
+is-true false e = let z : _≡_ {A = ℕ} 0 1 = cc in absurd (let w : ⊥ = omega arith in w)
+
+pub bit : (b : Bool) → cond b 1 0 ≤ 1
+bit true = omega arith
+bit false = omega arith

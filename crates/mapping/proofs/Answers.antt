@@ -9,7 +9,7 @@ use Rattle.values.specs.declared.Value.{Value}
 use Rattle.axis.specs.declared.Axis.{Axis}
 use Rattle.axis.specs.declared.Limits.{Limits}
 use Rattle.mapping.specs.declared.Pixel.the-variants.{Refused, At}
-use Rattle.mapping.specs.Mapping.{scaleOf, placedBy, placed, scaleQuestions, pixelQuestions, mapQuestions, mapped, mappedBy}
+use Rattle.mapping.specs.Mapping.{scaleOf, placed, scaleQuestions, pixelQuestions, mapQuestions, mapped, mappedBy}
 
 answer-at : (q : ℕ) (p r : ℤ) → unless q Refused (At p) ≡ At r → (q ≡ 0) × (p ≡ r)
 answer-at zero p r e = (refl, cc)

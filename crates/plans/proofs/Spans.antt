@@ -25,16 +25,13 @@ use Rattle.axis.specs.Axes.{start, end, spanOf}
 use Rattle.axis.specs.Questions.{ends, equals}
 use Rattle.axis.proofs.Axes.{both-ends, span-from-0, equal}
 use Rattle.axis.proofs.Questions.{of-seven, near-where-fits, near-range}
+use Rattle.laws.proofs.Tests.{bit}
 use Rattle.period.specs.Periods.{periodOf, powerOf}
 use Rattle.period.proofs.Periods.{any-step, period-above, period-fits}
 use Rattle.plans.specs.Times.{shift, periodIn, Timed, daysIn, ofDays, firstSecond, secondsLeft, Long}
 use Rattle.plans.specs.Plans.{Accepted}
 use Rattle.plans.proofs.Cases.{choose, by-test}
 use Rattle.plans.proofs.Times.{up-most, shift-most}
-
-bit : (b : Bool) → cond b 1 0 ≤ 1
-bit true = omega arith
-bit false = omega arith
 
 -- ---- the start's tail, and the start of a duration
 module _ (a : Axis) (r : ends a ≡ true) where

@@ -10,6 +10,7 @@ use lib.Signed.{ltZ, remZ}
 use borrow.Author.Tests.{eq-eqb, ne-eqb}
 use Rattle.laws.proofs.Signed.{sub, same, lt-true, lt-false}
 use Rattle.values.specs.declared.Value.{Value}
+use Rattle.values.specs.Values.{isValue}
 use Rattle.values.specs.Differences.{nanoseconds, difference}
 use Rattle.plans.specs.Times.{shiftUp, bits, shiftOf}
 use Rattle.plans.proofs.Cases.{choose}
@@ -74,6 +75,10 @@ module _ (k : ℕ) (p : 0 < k) where
 -- ---- a duration is its difference from zero
 abbrev pub zeroSpan : Value
 zeroSpan = record { head = pos 0; tail = pos 0 }
+
+pub zero-value : isValue (pos 7) zeroSpan ≡ true
+unfolding isValue
+zero-value = refl
 
 pub from-zero : (v : Value) → difference (pos 7) zeroSpan v ≡ nanoseconds (pos 7) v
 unfolding difference nanoseconds

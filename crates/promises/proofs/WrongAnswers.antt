@@ -9,7 +9,7 @@ use lib.Dec.{T, eqb}
 use lib.IntN.{ℤ, pos, negsuc}
 use borrow.Author.Tests.{eq-eqb}
 use lib.Ieee as ieee
-use Rattle.laws.proofs.Tests.{both-true}
+use Rattle.laws.proofs.Tests.{both-true, is-true}
 use Rattle.calendar.specs.Gregorian as calendar
 use Rattle.calendar.specs.Questions.{isDate, inRanges, numberOf, dateAt}
 use Rattle.floats.specs.Rounding as rounding
@@ -69,16 +69,12 @@ abbrev allTold : List Row → Bool
 allTold [] = true
 allTold (r ∷ rs) = told r && allTold rs
 
-true-is : (b : Bool) → b ≡ true → T b
-true-is true e = tt
-true-is false e = let z : _≡_ {A = ℕ} 0 1 = cc in absurd (let w : ⊥ = omega arith in w)
-
 ruled : (rs : List Row) → allTold rs ≡ true → AllRuledOut rs
 ruled [] e = tt
 ruled (r ∷ rs) e =
     let (here, later) = both-true (told r) (allTold rs) e in
     let (a, b) = both-true (not (same (r .answer) (r .wrong))) (not (same (r .answer) (r .other))) here in
-    ((apart (r .answer) (r .wrong) (true-is _ a), apart (r .answer) (r .other) (true-is _ b)), ruled rs later)
+    ((apart (r .answer) (r .wrong) (is-true _ a), apart (r .answer) (r .other) (is-true _ b)), ruled rs later)
 
 -- THE THEOREM, of all exports
 pub ruled-out : AllRuledOut wrongTable

@@ -1,11 +1,10 @@
 -- The margin as whole-number work. It goes no further than the width, so the inner limits are pixels too. Assumes nothing.
-use mathlib.Core.Path.{_≡_, refl, _∙_, ap}
+use mathlib.Core.Path.{_≡_, refl}
 use mathlib.Core.Logic.{inl, inr}
-use mathlib.Core.Bool.{true, _&&_}
-use Prim.Native.Nat.{ℕ, _+_, _≤_, _<_}
+use mathlib.Core.Bool.{true}
+use Prim.Native.Nat.{ℕ, _+_, _≤_}
 use native.Mathlib.Omega.{arith}
 use lib.IntN.{ℤ, pos, negsuc, _-ℤ_, natAbs}
-use lib.Signed.{leZ}
 use lib.Ieee.{binary32}
 use mir.Syntax.{w64}
 use mir.Val.{SFits}

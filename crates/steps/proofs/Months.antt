@@ -14,16 +14,6 @@ use Rattle.calendar.proofs.Formulas.{monthLength-range, years-next, years-close
 use Rattle.calendar.proofs.Dates.{months-to, months-none, date-number}
 use Rattle.steps.specs.Months.{firstDay, monthNumber, monthOf, wholeMonth, InMonth, FromMonth}
 
--- every month has the days 1 to 28
-pub early-day : (m d : ℕ) → 1 ≤ d → d ≤ 28 → Real (m / 12 + 1) (m % 12 + 1) d
-early-day m d a b = record {
-  year = omega arith;
-  month = omega arith;
-  last = omega arith;
-  day = a;
-  within = let h : m % 12 + 1 ≤ 12 = omega arith in omega (arith, monthLength-range (m / 12 + 1) (m % 12 + 1) h);
-}
-
 -- ---- the next month begins after all the days of this one
 in-year : (y m : ℕ) → 1 ≤ m → dayNumber y (m + 1) 1 ≡ dayNumber y m 1 + monthLength y m
 unfolding dayNumber

@@ -5,13 +5,12 @@ use mathlib.Core.Logic.{_⊎_, inl, inr}
 use Prim.Native.Nat.{ℕ, _+_, _*_, _/_, _%_, _≤_, _<_}
 use native.Mathlib.Nat.{eq-or-lt-of-le, div-add-mod', div-mul-le-self, le-div-iff-mul-le}
 use native.Mathlib.Omega.{arith}
-use lib.Dec.{T}
 use lib.IntN.{ℤ, pos, _+ℤ_}
 use lib.Signed.{_<ℤ_, ltZ, ltZ-yes}
 use Rattle.laws.specs.Numbers.{posPart, negPart}
 use Rattle.laws.specs.Units.{perSecond}
 use Rattle.laws.proofs.Signed.{add, is-lt, lt-true}
-use Rattle.laws.proofs.Tests.{holds}
+use Rattle.laws.proofs.Tests.{holds, is-true}
 use Rattle.steps.specs.declared.Steps.{Steps}
 use Rattle.values.specs.declared.Value.{Value}
 use Rattle.steps.specs.Progression.{evenTick, tickOfNumber}
@@ -19,10 +18,6 @@ use Rattle.steps.specs.Promise.{Later, by-head, by-tail, wholeSecond}
 use Rattle.steps.proofs.Months.{first-days}
 
 -- ---- a smaller number, for `omega`
-is-true : (b : Bool) → b ≡ true → T b
-is-true true e = tt
-is-true false e = let z : _≡_ {A = ℕ} 0 1 = cc in absurd (let w : ⊥ = omega arith in w)
-
 pub smaller : (a b : ℤ) → posPart a + negPart b < posPart b + negPart a → a <ℤ b
 smaller a b h = ltZ-yes (is-true (ltZ a b) (is-lt a b h))
 

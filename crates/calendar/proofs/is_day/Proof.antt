@@ -1,6 +1,5 @@
 -- `calendar::is_day` meets its contract: a number read back from its bits is itself. Assumes nothing.
 use mir.Facts.{toZ-ofZ}
-use Rattle.calendar.specs.Questions.{isDay}
 use Rattle.calendar.proofs.is_day.Statement.{statement}
 use Rattle.calendar.proofs.is_day.Tie as tie
 

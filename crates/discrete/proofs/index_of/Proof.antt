@@ -1,8 +1,7 @@
 -- `discrete::index_of` meets its contract. Assumes nothing.
 use borrow.Author.Needs.{needs}
-use mathlib.Core.Path.{_≡_, sym, _∙_, ap}
-use Prim.Native.Nat.{ℕ}
-use Rattle.laws.specs.Asking.{firstNo, asked}
+use mathlib.Core.Path.{_≡_, sym, _∙_}
+use Rattle.laws.specs.Asking.{firstNo}
 use Rattle.laws.proofs.Asked.{told, refused-by, passed-by}
 use Rattle.discrete.specs.declared.NumberAnswer.the-variants as number
 use Rattle.discrete.specs.Answers.{valueQuestions, indexIn, indexAnswer}

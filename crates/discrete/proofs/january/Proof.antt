@@ -11,7 +11,8 @@ use Rattle.axis.specs.Axes.{start}
 use Rattle.axis.specs.declared.ValueAnswer.the-variants as value
 use Rattle.values.specs.Values.{midnight}
 use Rattle.axis.specs.Questions.{checked}
-use Rattle.counting.proofs.Dates.{a-first, first-beyond}
+use Rattle.calendar.proofs.Dates.{a-first}
+use Rattle.counting.proofs.Dates.{first-beyond}
 use Rattle.counting.proofs.Counting.{starts, is-day}
 use Rattle.discrete.proofs.Indices.{january-start, january-later}
 use Rattle.axis.proofs.Checked.{in-range, out-of-range, day-beyond}

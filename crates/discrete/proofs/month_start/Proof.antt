@@ -7,7 +7,8 @@ use Rattle.calendar.specs.Gregorian.{dayNumber}
 use Rattle.axis.specs.declared.ValueAnswer.the-variants as value
 use Rattle.values.specs.Values.{midnight}
 use Rattle.axis.specs.Questions.{checked}
-use Rattle.counting.proofs.Dates.{a-first, first-least, first-beyond}
+use Rattle.calendar.proofs.Dates.{a-first}
+use Rattle.counting.proofs.Dates.{first-least, first-beyond}
 use Rattle.axis.proofs.Checked.{out-of-range, day-beyond}
 use Rattle.discrete.proofs.month_start.Statement.{statement}
 use Rattle.discrete.proofs.month_start.Tie as tie

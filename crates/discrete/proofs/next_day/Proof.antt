@@ -2,15 +2,13 @@
 use borrow.Author.Needs.{needs}
 use mathlib.Core.Path.{_≡_, sym, _∙_, ap}
 use native.Mathlib.Omega.{arith}
-use Prim.Native.Nat.{ℕ, _+_, _-_, _*_, _/_, _%_, _≤_, _<_}
+use Prim.Native.Nat.{ℕ, _+_, _-_, _≤_}
 use lib.IntN.{pos}
 use Rattle.laws.specs.Numbers.{posPart}
-use Rattle.calendar.specs.declared.Date.{Date}
 use Rattle.values.specs.declared.Value.{Value}
 use Rattle.axis.specs.Axes.{start, end}
 use Rattle.axis.specs.declared.ValueAnswer.the-variants as value
-use Rattle.counting.specs.Counting.{firstDate, dateOn, origin, position}
-use Rattle.discrete.specs.Indices.{january, valueAt}
+use Rattle.counting.specs.Counting.{origin, position}
 use Rattle.values.specs.Values.{midnight}
 use Rattle.axis.specs.Questions.{checked}
 use Rattle.counting.proofs.Counting.{on-day, starts, end-on, is-day, origin-days, position-days}

@@ -2,7 +2,7 @@
 use borrow.Author.Needs.{needs}
 use mathlib.Core.Path.{_≡_, sym, _∙_, ap}
 use native.Mathlib.Omega.{arith}
-use Prim.Native.Nat.{ℕ, _+_, _-_, _*_, _/_, _%_, _≤_, _<_}
+use Prim.Native.Nat.{_+_, _-_, _*_, _/_, _%_, _≤_}
 use lib.IntN.{pos}
 use Rattle.calendar.specs.declared.Date.{Date}
 use Rattle.values.specs.declared.Value.{Value}
@@ -10,7 +10,6 @@ use Rattle.calendar.specs.Gregorian.{dayNumber}
 use Rattle.axis.specs.Axes.{end}
 use Rattle.axis.specs.declared.ValueAnswer.the-variants as value
 use Rattle.counting.specs.Counting.{firstDate, dateOn, origin, position}
-use Rattle.discrete.specs.Indices.{valueAt}
 use Rattle.values.specs.Values.{midnight}
 use Rattle.axis.specs.Questions.{checked}
 use Rattle.counting.proofs.Counting.{Near, on-day, on-near, first-near, position-most, end-on, is-day}

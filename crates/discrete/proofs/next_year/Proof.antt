@@ -2,17 +2,15 @@
 use borrow.Author.Needs.{needs}
 use mathlib.Core.Path.{_≡_, sym, _∙_, ap}
 use native.Mathlib.Omega.{arith}
-use Prim.Native.Nat.{ℕ, _+_, _-_, _*_, _/_, _%_, _≤_, _<_}
-use Rattle.laws.specs.Numbers.{posPart}
+use Prim.Native.Nat.{ℕ, _+_, _-_, _≤_}
 use Rattle.calendar.specs.declared.Date.{Date}
 use Rattle.values.specs.declared.Value.{Value}
-use Rattle.axis.specs.Axes.{start, end}
+use Rattle.axis.specs.Axes.{end}
 use Rattle.axis.specs.declared.ValueAnswer.the-variants as value
 use Rattle.counting.specs.Counting.{firstDate, dateOn, origin, position}
-use Rattle.discrete.specs.Indices.{january, valueAt}
-use Rattle.values.specs.Values.{midnight}
+use Rattle.discrete.specs.Indices.{january}
 use Rattle.axis.specs.Questions.{checked}
-use Rattle.counting.proofs.Counting.{on-day, on-near, end-on, is-day, origin-years, position-years}
+use Rattle.counting.proofs.Counting.{on-day, end-on, is-day, origin-years, position-years}
 use Rattle.discrete.proofs.Indices.{value-years}
 use Rattle.axis.proofs.Checked.{no-value}
 use Rattle.discrete.proofs.Answers.{next-before, next-end, next-inside}

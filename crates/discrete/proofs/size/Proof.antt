@@ -1,7 +1,6 @@
 -- `discrete::size` meets its contract. Assumes nothing.
 use borrow.Author.Needs.{needs}
 use mathlib.Core.Path.{_≡_, sym, _∙_, ap}
-use Prim.Native.Nat.{ℕ}
 use Rattle.laws.specs.Asking.{firstNo}
 use Rattle.discrete.specs.declared.NumberAnswer.the-variants as number
 use Rattle.counting.specs.Counting.{sizeOf}

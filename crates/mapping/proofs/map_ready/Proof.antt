@@ -1,5 +1,4 @@
 -- `mapping::map_ready` meets its contract. Assumes nothing.
-use borrow.Author.Needs.{needs}
 use mathlib.Core.Path.{_≡_, sym, _∙_, ap, subst}
 use Rattle.laws.specs.Asking.{firstNo}
 use Rattle.laws.proofs.Asked.{told}

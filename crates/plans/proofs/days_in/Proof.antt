@@ -1,20 +1,13 @@
 -- `plans::days_in` meets its contract. Assumes nothing.
 use borrow.Author.Needs.{needs}
-use mathlib.Core.Path.{_≡_, refl, _∙_, ap}
-use mathlib.Core.Bool.{true}
-use lib.IntN.{pos}
+use mathlib.Core.Path.{_∙_, ap}
 use mir.Syntax.{w64}
 use mir.Facts.{toZ-ofZ}
-use Rattle.values.specs.Values.{isValue}
 use Rattle.values.specs.Differences.{wholeDays}
 use Rattle.plans.specs.Times.{daysIn}
-use Rattle.plans.proofs.Times.{zeroSpan, from-zero}
+use Rattle.plans.proofs.Times.{zero-value, from-zero}
 use Rattle.plans.proofs.days_in.Statement.{statement}
 use Rattle.plans.proofs.days_in.Tie as tie
-
-zero-value : isValue (pos 7) zeroSpan ≡ true
-unfolding isValue
-zero-value = refl
 
 whole-days-between-requires : tie.Need-whole-days-between-requires
 whole-days-between-requires c κs = record { first = zero-value; second = c .pre }

@@ -2,7 +2,7 @@
 use borrow.Author.Needs.{needs}
 use mathlib.Core.Path.{_≡_, refl, sym, _∙_}
 use mathlib.Core.Bool.{_&&_}
-use lib.IntN.{ℤ, pos, _*ℤ_, +ℤ-idr}
+use lib.IntN.{pos, _*ℤ_, +ℤ-idr}
 use lib.Signed.{leZ}
 use mir.Syntax.{w64}
 use mir.Val.{SFits, toZ, ofZ}

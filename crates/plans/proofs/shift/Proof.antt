@@ -1,7 +1,7 @@
 -- `plans::shift` meets its contract. Assumes nothing.
 use borrow.Author.Needs.{needs}
 use borrow.Author.Tests.{not-true, not-false}
-use mathlib.Core.Path.{_≡_, refl, sym, _∙_, ap}
+use mathlib.Core.Path.{_≡_, sym, _∙_, ap}
 use mathlib.Core.Bool.{true, false}
 use Prim.Native.Nat.{ℕ}
 use native.Mathlib.Omega.{arith}
@@ -11,13 +11,13 @@ use mir.Val.{SFits}
 use mir.Facts.{toZ-ofZ}
 use Rattle.laws.specs.Numbers.{posPart}
 use Rattle.values.specs.declared.Nanoseconds.{Nanoseconds}
-use Rattle.values.specs.Values.{isDuration, isValue}
+use Rattle.values.specs.Values.{isDuration}
 use Rattle.values.specs.Differences.{nanoseconds, difference, nanosecondsOf}
 use Rattle.values.proofs.Fits.{fits-yes, value-is}
 use Rattle.axis.specs.Axes.{start}
 use Rattle.counting.proofs.Counting.{no-less}
 use Rattle.plans.specs.Times.{shiftUp, shiftOf, shift}
-use Rattle.plans.proofs.Times.{zeroSpan, from-zero}
+use Rattle.plans.proofs.Times.{zeroSpan, zero-value, from-zero}
 use Rattle.plans.proofs.Spans.{tail-range, start-seven, near-start}
 use Rattle.plans.proofs.shift.Statement.{statement}
 use Rattle.plans.proofs.shift.Tie as tie
@@ -33,10 +33,6 @@ asked c = rw (toZ-ofZ (kind-fits (c .before .before))) at (c .is-duration .ensur
 
 seven : (c : tie.Else1) → isDuration (c .before .before .before .args .a .kind) ≡ true
 seven c = sym (asked (c .before)) ∙ not-false _ (c .if1 .left)
-
-zero-value : isValue (pos 7) zeroSpan ≡ true
-unfolding isValue
-zero-value = refl
 
 -- the start's nanoseconds, which fit
 worked : (c : tie.After-nanoseconds-between) → c .nanoseconds-between .result .value ≡ nanoseconds (pos 7)

@@ -1,8 +1,7 @@
 -- `segmented::map` meets its contract. Assumes nothing.
 use borrow.Author.Needs.{needs}
 use mathlib.Core.Path.{_≡_, sym, _∙_, ap, subst}
-use mathlib.Core.Bool.{Bool, true}
-use Prim.Native.Nat.{ℕ}
+use mathlib.Core.Bool.{true}
 use borrow.Author.Tests.{not-true, not-false}
 use Rattle.laws.specs.Asking.{firstNo}
 use Rattle.laws.proofs.Asked.{told}
@@ -10,7 +9,7 @@ use Rattle.counting.specs.Counting.{Dated}
 use Rattle.counting.proofs.Counting.{dated, size-most}
 use Rattle.segmented.specs.declared.SegmentValue.{SegmentValue}
 use Rattle.segmented.specs.Segments.{SegmentOn, segmentOf, segmentMappable, segmentWorked, pixelChecked}
-use Rattle.segmented.specs.Answers.{segmentValueQuestions, segmentMapAnswer}
+use Rattle.segmented.specs.Answers.{segmentValueQuestions}
 use Rattle.segmented.proofs.Answers.{on-kind, some-size, map-refused, map-nine, map-is}
 use Rattle.segmented.proofs.map.Statement.{statement}
 use Rattle.segmented.proofs.map.Tie as tie

@@ -2,12 +2,12 @@
 use native.Mathlib.Omega.{arith}
 use borrow.Author.Needs.{needs}
 use Rattle.steps.specs.Months.{firstDay}
-use Rattle.steps.proofs.Months.{early-day}
+use Rattle.calendar.proofs.Dates.{a-first}
 use Rattle.steps.proofs.first_day.Statement.{statement}
 use Rattle.steps.proofs.first_day.Tie as tie
 
 day-number-requires : tie.Need-day-number-requires
-day-number-requires c κs = (early-day (c .args .m) _ (omega arith) (omega arith), omega arith)
+day-number-requires c κs = (a-first _ _ (omega arith) (omega arith) (omega arith), omega arith)
 
 returns : tie.Need-returns
 unfolding firstDay
