@@ -1,23 +1,20 @@
 -- Two values of a kind: how far apart their heads, their tails and their nanoseconds are. Assumes nothing.
-use mathlib.Core.Path.{_≡_, refl, sym, _∙_, ap}
-use mathlib.Core.Logic.{inl, inr}
-use mathlib.Core.Bool.{Bool, true, false, _&&_}
+use mathlib.Core.Path.{_≡_, refl, sym, ap}
+use mathlib.Core.Bool.{Bool, true, false}
 use Prim.Native.Nat.{ℕ, _+_, _*_, _≤_, _<_}
 use native.Mathlib.Omega.{arith}
-use lib.IntN.{ℤ, pos, _+ℤ_, _-ℤ_, _*ℤ_}
-use lib.Signed.{ltZ, leZ, quotZ}
+use lib.IntN.{ℤ, pos, negsuc, _+ℤ_, _-ℤ_, _*ℤ_}
+use lib.Signed.{quotZ}
 use mir.Syntax.{w64}
 use mir.Val.{SFits}
 use Rattle.laws.specs.Numbers.{posPart, negPart}
-use Rattle.laws.proofs.Signed.{lt-true, lt-false, le-true, le-false, add, sub, mul-up, mul-dn, quot-up, quot-dn, fits, same}
-use Rattle.laws.proofs.Tests.{both-true, either-false}
+use Rattle.laws.proofs.Signed.{add, sub, mul-up, mul-dn, quot-up, quot-dn, fits, same}
 use Rattle.values.specs.declared.Value.{Value}
-use Rattle.values.specs.declared.Parts.{Parts}
-use Rattle.values.specs.Values.{isDuration, Both, earlier}
+use Rattle.values.specs.Values.{isDuration, isValue, Both, earlier}
 use Rattle.values.specs.Differences.{unit, nanoseconds, difference, wholeDays}
 use Rattle.values.specs.Parts.{day, second, Of}
-use Rattle.values.proofs.Numbers.{bounded, not-below, either-true, not-both}
-use Rattle.values.proofs.Joining.{joint, Ahead, ahead}
+use Rattle.values.proofs.Numbers.{bounded, not-below}
+use Rattle.values.proofs.Joining.{joint, Before, not-earlier, order}
 use Rattle.values.proofs.Values.{day-value, duration-value}
 
 -- ---- heads and tails
@@ -108,9 +105,9 @@ module _ (kind : ℤ) (a b : Value) (v : Both kind a b) where
   pub days-of : isDuration kind ≡ false → Of kind a b (record {
     heads = b .head -ℤ a .head;
     tails = b .tail -ℤ a .tail;
-    unit =
-        pos 86400000000000;
-    most = pos 106751;
+    unit = pos 86400000000000;
+    most = record { head = pos 106751; tail = pos 85636854775807 };
+    least = record { head = negsuc 106750; tail = negsuc 85636854775807 };
   })
   days-of e =
       let n = days-near kind a b v e in
@@ -120,21 +117,19 @@ module _ (kind : ℤ) (a b : Value) (v : Both kind a b) where
           tails-up = n .tails-up;
           tails-dn = n .tails-dn;
           heads-up = omega arith;
-          heads-dn =
-              omega arith;
+          heads-dn = omega arith;
         };
         unit-is = rw e;
         sum-is = sym (days-apart kind a b e);
       }
 
-  pub seconds-of : isDuration kind ≡ true →
-      Of kind a b (record {
-        heads = b .head -ℤ a .head;
-        tails = b .tail -ℤ a .tail;
-        unit = pos 1000000000;
-        most =
-            pos 9223372036;
-      })
+  pub seconds-of : isDuration kind ≡ true → Of kind a b (record {
+    heads = b .head -ℤ a .head;
+    tails = b .tail -ℤ a .tail;
+    unit = pos 1000000000;
+    most = record { head = pos 9223372036; tail = pos 854775807 };
+    least = record { head = negsuc 9223372035; tail = negsuc 854775807 };
+  })
   seconds-of e =
       let n = durations-near kind a b v e in
       record {
@@ -143,8 +138,7 @@ module _ (kind : ℤ) (a b : Value) (v : Both kind a b) where
           tails-up = n .tails-up;
           tails-dn = n .tails-dn;
           heads-up = n .heads-up;
-          heads-dn =
-              n .heads-dn;
+          heads-dn = n .heads-dn;
         };
         unit-is = rw e;
         sum-is = sym (durations-apart kind a b e);
@@ -190,52 +184,22 @@ module _ (kind : ℤ) (a b : Value) (v : Both kind a b) where
           limited (b .head -ℤ a .head) (b .tail -ℤ a .tail) 86400000000000 (days-apart kind a b e) (omega arith) (omega arith)
 
 -- ---- the order of values is that of their nanoseconds
+tail-range : (kind : ℤ) (v : Value) → isValue kind v ≡ true → (negPart (v .tail) ≡ 0) × (posPart (v .tail) < unit kind)
+tail-range kind v e = go (isDuration kind) refl
+  where
+    go : (d : Bool) → isDuration kind ≡ d → (negPart (v .tail) ≡ 0) × (posPart (v .tail) < unit kind)
+    go true f = let x = duration-value kind v e f in rw f (x .tail-dn, omega (arith, x .tail-most))
+    go false f = let x = day-value kind v e f in rw f (x .tail-dn, omega (arith, x .tail-most))
+
 module _ (kind : ℤ) (a b : Value) (v : Both kind a b) where
-  order : (s : ℕ) → s ≤ 1 → Ahead (b .head -ℤ a .head) (b .tail -ℤ a .tail) s → negPart (difference kind a b)
-      + s ≤ posPart (difference kind a b)
-  order s l o = go (isDuration kind) refl
-    where
-      at : (p : Parts) → p .heads ≡ b .head -ℤ a .head → p .tails ≡ b .tail -ℤ a .tail → Of kind a b p →
-          negPart (difference kind a b) + s ≤ posPart (difference kind a b)
-      at p h t q = rw (q .sum-is) at (ahead (p .heads) (p .tails) (p .unit) (p .most) s l (q .sound .known)
-          (q .sound .tails-dn) (rw (h, t) o))
-
-      go : (d : Bool) → isDuration kind ≡ d → negPart (difference kind a b) + s ≤ posPart (difference kind a b)
-      go true e = at _ refl refl (seconds-of kind a b v e)
-      go false e = at _ refl refl (days-of kind a b v e)
-
-  -- from an earlier value to a later one is more than nothing
-  pub later-apart : earlier a b ≡ true → (negPart (difference kind a b) ≡ 0) × (1 ≤ posPart (difference kind a b))
-  unfolding earlier
-  later-apart e =
-      let h = sub (b .head) (a .head) in
-      let t = sub (b .tail) (a .tail) in
-      let o : Ahead (b .head -ℤ a .head) (b .tail -ℤ a .tail) 1 =
-      elim (either-true (ltZ (a .head) (b .head)) (leZ (a .head) (b .head) && ltZ (a .tail) (b .tail)) e) [
-        | inl x ↦ inl (omega (arith, lt-true (a .head) (b .head) x))
-        | inr y ↦ (let (x, z) = both-true (leZ (a .head) (b .head)) (ltZ (a .tail) (b .tail)) y in
-            inr (omega (arith, le-true (a .head) (b .head) x), omega (arith, lt-true (a .tail) (b .tail) z)))
-      ] in
-      let k = order 1 (omega arith) o in
-      let z : negPart (difference kind a b) ≡ 0 = not-below (difference kind a b) (omega arith) in
-      (z, omega arith)
+  ordered : (s : ℕ) → s ≤ 1 → Before a b s → negPart (difference kind a b) + s ≤ posPart (difference kind a b)
+  unfolding difference
+  ordered s l o =
+      let (x, y) = tail-range kind a (v .first) in
+      let (z, w) = tail-range kind b (v .second) in
+      omega (arith, sub (nanoseconds kind b) (nanoseconds kind a), order a b (unit kind) s l o (λ h. omega arith))
 
   -- to a value that is no earlier it is not below nothing
   pub no-earlier-apart : earlier b a ≡ false → negPart (difference kind a b) ≡ 0
-  unfolding earlier
-  no-earlier-apart e =
-      let h = sub (b .head) (a .head) in
-      let t = sub (b .tail) (a .tail) in
-      let (x, y) = either-false (ltZ (b .head) (a .head)) (leZ (b .head) (a .head) && ltZ (b .tail) (a .tail)) e in
-      let o : Ahead (b .head -ℤ a .head) (b .tail -ℤ a .tail) 0 =
-      elim (not-both (leZ (b .head) (a .head)) (ltZ (b .tail) (a .tail)) y) [
-        | inl w ↦ inl (omega (arith, le-false (b .head) (a .head) w))
-        | inr w ↦ inr (omega (arith, lt-false (b .head) (a .head) x), omega (arith, lt-false (b .tail) (a .tail) w))
-      ] in
-      let k = order 0 (omega arith) o in
+  no-earlier-apart e = let k = ordered 0 (omega arith) (not-earlier a b e) in
       not-below (difference kind a b) (omega arith)
-
--- from a value to itself
-pub none-apart : (kind : ℤ) (a : Value) → difference kind a a ≡ pos 0
-unfolding difference
-none-apart kind a = let n = nanoseconds kind a in same (n -ℤ n) (pos 0) (omega (arith, sub n n))

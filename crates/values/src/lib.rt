@@ -2,12 +2,10 @@
 // Whether a difference fits a signed 64-bit number of nanoseconds is decided on heads and tails, before any product.
 use calendar::LAST_DAY;
 ghost use mathlib.Core.Path.{_≡_};
-ghost use mathlib.Core.Bool.{true};
-ghost use lib.IntN.{negℤ};
-ghost use lib.Signed.{leZ, quotZ};
+ghost use lib.Signed.{quotZ};
 ghost use Rattle.values.specs.Values.{isDuration, isValue, earlier, Both};
 ghost use Rattle.values.specs.Differences.{difference, nanosecondsOf, wholeDays};
-ghost use Rattle.values.specs.Parts.{Bounded, Of, sum};
+ghost use Rattle.values.specs.Parts.{Bounded, TowardZero, Of, sum};
 
 // Date: day number and 0. Date-time: day number and nanosecond of the day. Duration: seconds and nanoseconds.
 pub struct Value {
@@ -21,12 +19,14 @@ pub struct Nanoseconds {
     pub value: i64,
 }
 
-// A difference as heads and tails. A head is unit nanoseconds, and most is the largest number of heads below 2^63 ns.
+// A difference as heads and tails, of unit nanoseconds a head. So are the ends of the signed 64-bit numbers: most is
+// 2^63 - 1 nanoseconds, and least is -2^63, both cut toward zero.
 struct Parts {
     heads: i64,
     tails: i64,
     unit: i64,
-    most: i64,
+    most: Value,
+    least: Value,
 }
 
 // Is the kind over durations?
@@ -72,32 +72,61 @@ fn split(kind: i64, a: Value, b: Value) -> Parts
             heads: heads,
             tails: tails,
             unit: 1000000000,
-            most: 9223372036,
+            most: Value {
+                head: 9223372036,
+                tail: 854775807,
+            },
+            least: Value {
+                head: -9223372036,
+                tail: -854775808,
+            },
         };
     }
     Parts {
         heads: heads,
         tails: tails,
         unit: 86400000000000,
-        most: 106751,
+        most: Value {
+            head: 106751,
+            tail: 85636854775807,
+        },
+        least: Value {
+            head: -106751,
+            tail: -85636854775808,
+        },
     }
 }
 
-// At least most heads: one of them goes to the tails, so that the product fits.
-fn far_above(p: Parts) -> Nanoseconds
-    requires { ⌜ Bounded p × (leZ (p .most) (p .heads) ≡ true) ⌝ }
-    ensures { λ r. ⌜ r ≡ nanosecondsOf (sum p) ⌝ }
+// The parts cut toward zero: where the tails go the other way than the heads, one head goes to them.
+fn toward_zero(p: Parts) -> Value
+    requires { ⌜ Bounded p ⌝ }
+    ensures { λ r. ⌜ TowardZero (p .unit) (sum p) r ⌝ }
 {
-    let heads = p.heads - 1;
-    if p.most < heads {
-        return Nanoseconds {
-            fits: false,
-            value: 0,
+    if (0 < p.heads) & (p.tails < 0) {
+        return Value {
+            head: p.heads - 1,
+            tail: p.tails + p.unit,
         };
     }
-    let n = heads * p.unit;
-    let rest = p.tails + p.unit;
-    if 9223372036854775807 - n < rest {
+    if (p.heads < 0) & (0 < p.tails) {
+        return Value {
+            head: p.heads + 1,
+            tail: p.tails - p.unit,
+        };
+    }
+    Value {
+        head: p.heads,
+        tail: p.tails,
+    }
+}
+
+// The parts as one number: cut toward zero, they are compared with the ends before any product.
+fn far(p: Parts) -> Nanoseconds
+    requires { ⌜ Bounded p ⌝ }
+    ensures { λ r. ⌜ r ≡ nanosecondsOf (sum p) ⌝ }
+{
+    let v = toward_zero(p);
+    if earlier(v, p.least) | earlier(p.most, v) {
         return Nanoseconds {
             fits: false,
             value: 0,
@@ -105,65 +134,31 @@ fn far_above(p: Parts) -> Nanoseconds
     }
     Nanoseconds {
         fits: true,
-        value: n + rest,
+        value: v.head * p.unit + v.tail,
     }
 }
 
-// The same below zero, where one number more fits.
-fn far_below(p: Parts) -> Nanoseconds
-    requires { ⌜ Bounded p × (leZ (p .heads) (negℤ (p .most)) ≡ true) ⌝ }
-    ensures { λ r. ⌜ r ≡ nanosecondsOf (sum p) ⌝ }
-{
-    let heads = p.heads + 1;
-    if heads < 0 - p.most {
-        return Nanoseconds {
-            fits: false,
-            value: 0,
-        };
-    }
-    let n = heads * p.unit;
-    let rest = p.tails - p.unit;
-    if rest < -9223372036854775808 - n {
-        return Nanoseconds {
-            fits: false,
-            value: 0,
-        };
-    }
-    Nanoseconds {
-        fits: true,
-        value: n + rest,
-    }
-}
-
-// The parts as one number. Fewer heads than most fit with any tails.
+// The same, quicker where there are fewer heads than in the ends: these fit with any tails.
 fn joined(p: Parts) -> Nanoseconds
     requires { ⌜ Bounded p ⌝ }
     ensures { λ r. ⌜ r ≡ nanosecondsOf (sum p) ⌝ }
 {
-    if p.most <= p.heads {
-        return far_above(p);
+    if (p.heads < p.most.head) && (p.least.head < p.heads) {
+        return Nanoseconds {
+            fits: true,
+            value: p.heads * p.unit + p.tails,
+        };
     }
-    if p.heads <= 0 - p.most {
-        return far_below(p);
-    }
-    Nanoseconds {
-        fits: true,
-        value: p.heads * p.unit + p.tails,
-    }
+    far(p)
 }
 
-// The whole heads, cut toward zero: one less where the tails go the other way.
+// The whole heads, cut toward zero.
 fn whole(p: Parts) -> i64
     requires { ⌜ Bounded p ⌝ }
     ensures { λ r. ⌜ r ≡ quotZ (sum p) (p .unit) ⌝ }
 {
-    if (0 < p.heads) & (p.tails < 0) {
-        return p.heads - 1;
-    }
-    if (p.heads < 0) & (0 < p.tails) {
-        return p.heads + 1;
-    }
-    p.heads
+    let v = toward_zero(p);
+    v.head
 }
 
 // From a to b, in nanoseconds.
