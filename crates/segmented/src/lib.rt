@@ -300,5 +300,5 @@ pub fn list(a: Axis, h: Hint, lent: &mut [i64]) -> Listed
     if q != 0 {
         return Listed::Refused(q);
     }
-    ticks::list(a, h, lent)
+    ticks::list_plan(ticks::plan(a, h), lent)
 }

@@ -1,4 +1,4 @@
--- Laws of hints, of the answers, and demand 3 of every list.
+-- Laws of hints, demand 3 of every list, and laws of the answers.
 pub mod Hints
-pub mod Answers
 pub mod Promise
+pub mod Answers

@@ -10,11 +10,18 @@ ghost use mathlib.Core.Bool.{true};
 ghost use Prim.Native.Nat.{_≤_};
 ghost use lib.ListN.{length};
 ghost use denote.Ref.{ptr};
-ghost use Rattle.laws.specs.Asking.{firstNo};
+ghost use Rattle.laws.specs.Asking.{firstNo, unless};
 ghost use Rattle.axis.specs.Questions.{ends};
-ghost use Rattle.ticks.specs.Hints.{refined, planFor};
-ghost use Rattle.ticks.specs.Answers.{tickQuestions, ticksAnswer, ticksWritten, ticksHanded};
+ghost use Rattle.steps.specs.Listing.{listedOf, lentAfter};
+ghost use Rattle.ticks.specs.Hints.{refined, axisFor, planFor};
+ghost use Rattle.ticks.specs.Answers.{tickQuestions, PlannedFor, Listable, ticksAnswer, ticksWritten, ticksHanded};
 ghost use Rattle.ticks.specs.Answers.{periodQuestions, periodAnswer};
+
+// What was asked of an axis and a hint, and the plan of their list; no number of it is used where the refusal is not 0.
+pub struct Planned {
+    pub refusal: u8,
+    pub plan: Steps,
+}
 
 // A period in nanoseconds; none where days are listed.
 pub enum PeriodAnswer {
@@ -51,18 +58,58 @@ pub fn refusal(a: Axis, h: Hint) -> u8
     axis::then_ask(q, 6, axis::hint_on(a, h))
 }
 
-// With a light hint years may go to months, and these to dates or date-times.
+// The axis that lists: with a light hint years may go to months, and these to dates or date-times.
+fn axis_for(a: Axis, h: Hint) -> Axis
+    requires { ⌜ firstNo (tickQuestions a h) ≡ 0 ⌝ }
+    ensures { λ r. ⌜ r ≡ axisFor a h ⌝ }
+{
+    match h {
+        Hint::Bold(_) => a,
+        Hint::Light(l) => {
+            let bold = calendar::as_count(l.bold);
+            let once = refined(bold, a);
+            refined(bold, once)
+        }
+    }
+}
+
 fn plan_for(a: Axis, h: Hint) -> Steps
     requires { ⌜ firstNo (tickQuestions a h) ≡ 0 ⌝ }
     ensures { λ r. ⌜ r ≡ planFor a h ⌝ }
 {
+    let f = axis_for(a, h);
     match h {
-        Hint::Bold(b) => plans::plan_of(a, calendar::as_count(b.n)),
-        Hint::Light(l) => {
-            let bold = calendar::as_count(l.bold);
-            let once = refined(bold, a);
-            plans::plan_of(refined(bold, once), calendar::as_count(l.n))
-        }
+        Hint::Bold(b) => plans::plan_of(f, calendar::as_count(b.n)),
+        Hint::Light(l) => plans::plan_of(f, calendar::as_count(l.n)),
+    }
+}
+
+// In place of a plan, where the axis or the hint is refused.
+fn no_plan() -> Steps {
+    Steps {
+        by_month: false,
+        base: 0,
+        per: 0,
+        first: 0,
+        step: 0,
+        count: 0,
+    }
+}
+
+// Asks the questions before the list's length is known, and makes the plan.
+pub fn plan(a: Axis, h: Hint) -> Planned
+    ensures { λ r. ⌜ PlannedFor a h r ⌝ }
+{
+    let q = refusal(a, h);
+    if q != 0 {
+        return Planned {
+            refusal: q,
+            plan: no_plan(),
+        };
+    }
+    Planned {
+        refusal: 0,
+        plan: plan_for(a, h),
     }
 }
 
@@ -70,23 +117,33 @@ fn plan_for(a: Axis, h: Hint) -> Steps
 pub fn count(a: Axis, h: Hint, lent_len: u64) -> Listed
     ensures { λ r. ⌜ r ≡ ticksAnswer a h «lent_len» ⌝ }
 {
-    let q = refusal(a, h);
-    if q != 0 {
-        return Listed::Refused(q);
+    let p = plan(a, h);
+    if p.refusal != 0 {
+        return Listed::Refused(p.refusal);
     }
-    steps::count(plan_for(a, h), lent_len)
+    let s = p.plan;
+    steps::count(s, lent_len)
 }
 
-// The same, and the list at the front of the lent numbers.
+// The list of a plan at the front of the lent numbers.
+pub fn list_plan(p: Planned, lent: &mut [i64]) -> Listed
+    requires { ⌜ Listable p ⌝ }
+    ensures { λ r. ⌜ r ≡ unless (p .refusal) Listed.Refused (listedOf (p .plan) (length (now (lent .entry)))) ⌝ }
+    ensures { λ r. ⌜ now (lent .exit) ≡ unless (p .refusal) (λ q. now (lent .entry)) (lentAfter (p .plan) (now (lent .entry))) ⌝ }
+{
+    if p.refusal != 0 {
+        return Listed::Refused(p.refusal);
+    }
+    let s = p.plan;
+    steps::list(s, lent)
+}
+
+// How many ticks a hint gets, and the list at the front of the lent numbers.
 pub fn list(a: Axis, h: Hint, lent: &mut [i64]) -> Listed
     ensures { λ r. ⌜ r ≡ ticksAnswer a h (length (now (lent .entry))) ⌝ }
     ensures { λ r. ⌜ now (lent .exit) ≡ ticksWritten a h (now (lent .entry)) ⌝ }
 {
-    let q = refusal(a, h);
-    if q != 0 {
-        return Listed::Refused(q);
-    }
-    steps::list(plan_for(a, h), lent)
+    list_plan(plan(a, h), lent)
 }
 
 // The part of the lent numbers that holds the list; empty when refused.

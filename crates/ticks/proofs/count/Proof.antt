@@ -1,28 +1,32 @@
 -- `ticks::count` meets its contract. Assumes nothing.
 use borrow.Author.Needs.{needs}
-use mathlib.Core.Path.{_≡_, sym, _∙_}
-use Rattle.laws.specs.Asking.{firstNo}
-use Rattle.laws.proofs.Asked.{refused-by, passed-by}
+use mathlib.Core.Path.{sym, _∙_, ap}
+use Prim.Native.Nat.{ℕ}
+use Rattle.laws.specs.Asking.{unless}
+use Rattle.laws.proofs.Asked.{refuses}
 use Rattle.steps.specs.declared.Listed.the-variants.{Refused}
-use Rattle.ticks.specs.Answers.{tickQuestions, ticksAnswer}
+use Rattle.steps.specs.Listing.{listedOf}
+use Rattle.ticks.proofs.Answers.{made-answer}
 use Rattle.ticks.proofs.count.Statement.{statement}
 use Rattle.ticks.proofs.count.Tie as tie
 
-none : (c : tie.Else1) → firstNo (tickQuestions (c .before .before .args .a) (c .before .before .args .h)) ≡ 0
-none c = sym (c .before .refusal .ensures) ∙ c .if1 .left
-
 returns : tie.Need-returns
-unfolding ticksAnswer
-returns c = let x = c .before .before .args in let r = c .before .refusal in
-    refused-by Refused _ (tickQuestions (x .a) (x .h)) (r .result) (r .ensures) (c .if1 .taken)
-
-plan-for-requires : tie.Need-plan-for-requires
-plan-for-requires c κs = none c
+returns c =
+    let r = c .before .before in
+    let p = r .plan .result in
+    let x = r .before .args in
+    sym (refuses Refused (listedOf (p .plan) (x .lent-len)) (p .refusal) (c .if1 .taken))
+    ∙ made-answer (x .a) (x .h) p (r .plan .ensures) (x .lent-len)
 
 returns-2 : tie.Need-returns-2
-unfolding ticksAnswer
-returns-2 c = let p = c .before in let x = p .before .before .before .args in
-    c .count .ensures ∙ rw (p .plan-for .ensures) (passed-by Refused _ (tickQuestions (x .a) (x .h)) (none (p .before)))
+returns-2 c =
+    let e = c .before .before in
+    let r = e .before .before in
+    let p = r .plan .result in
+    let x = r .before .args in
+    c .count .ensures
+    ∙ sym (ap (λ (q : ℕ). unless q Refused (listedOf (p .plan) (x .lent-len))) (e .if1 .left))
+    ∙ made-answer (x .a) (x .h) p (r .plan .ensures) (x .lent-len)
 
 pub count-spec : {M : Type 1} → statement M
-count-spec = tie.close (tie.spec (λ c κs. search needs) returns plan-for-requires (λ c κs. search needs) returns-2)
+count-spec = tie.close (tie.spec (λ c κs. search needs) returns (λ c κs. search needs) returns-2)
