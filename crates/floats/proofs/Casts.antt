@@ -8,7 +8,7 @@ use native.Mathlib.Nat.{le-trans, le-of-eq, lt-of-lt-of-le, mul-assoc, mul-le-mu
 use native.Mathlib.Nat.{mul-div-cancel, le-div-iff-mul-le, not-suc-le-zero, lt-of-le-of-lt, add-comm, div-le-self}
 use native.Mathlib.Nat.{mod-eq-of-lt, eq-or-lt-of-le, eq-zero-or-pos, zero-div}
 use native.Mathlib.Omega.{arith}
-use lib.Dec.{T, eqb, ltb, lit<, lit≤}
+use lib.Dec.{T, eqb, ltb, leb, lit<, lit≤}
 use lib.IntN.{ℤ, pos, negℤ}
 use lib.Pow.{pow-add, pow-pos, pow-mono, shl-lt}
 use lib.Ieee.{Float, nan, inf, fin, Format, binary32, binary64, prec, low, hid, ones, up, down, lt, ne, eq, isNan}
@@ -84,7 +84,7 @@ module _ (s : Bool) (e t : ℕ) (T52 : t < 2 ^ 52) where
       (digits-val binary64 s e t p l) ∙ ap (λ (x : ℕ). min x (2 ^ 64 - 1)) h ∙ least q r
 
   -- below 1
-  pub small : e < 1023 → toUnsigned 64 (absF (ofFields binary64 s e t)) ≡ 0
+  small : e < 1023 → toUnsigned 64 (absF (ofFields binary64 s e t)) ≡ 0
   small l = elim (eq-zero-or-pos e) [
     | inl z ↦ rw z (no-field s t T52)
     | inr p ↦ whole-is 0 p (omega arith)
@@ -95,7 +95,7 @@ module _ (s : Bool) (e t : ℕ) (T52 : t < 2 ^ 52) where
       room = omega arith
 
   -- the digits below 1 are dropped
-  pub middle : 1023 ≤ e → e ≤ 1075 → toUnsigned 64 (absF (ofFields binary64 s e t)) ≡ (t + 2 ^ 52) / 2 ^ (1075 - e)
+  middle : 1023 ≤ e → e ≤ 1075 → toUnsigned 64 (absF (ofFields binary64 s e t)) ≡ (t + 2 ^ 52) / 2 ^ (1075 - e)
   middle a b =
       whole-is (d / 2 ^ (1075 - e)) (omega arith) (omega arith)
       (div-same (d * 2 ^ (e - 1)) (2 ^ 1074) d (2 ^ (1075 - e)) (pow-pos 1074) (pow-pos (1075 - e))
@@ -107,7 +107,7 @@ module _ (s : Bool) (e t : ℕ) (T52 : t < 2 ^ 52) where
       places = omega arith
 
   -- and above 2 ^ 53 there are none
-  pub large : 1075 < e → e < 1087 → toUnsigned 64 (absF (ofFields binary64 s e t)) ≡ (t + 2 ^ 52) * 2 ^ (e - 1075) % 2 ^ 64
+  large : 1075 < e → e < 1087 → toUnsigned 64 (absF (ofFields binary64 s e t)) ≡ (t + 2 ^ 52) * 2 ^ (e - 1075) % 2 ^ 64
   large a b =
       whole-is (d * 2 ^ (e - 1075)) (omega arith) (omega arith)
       (ap (λ (x : ℕ). x / 2 ^ 1074) (ap (λ (x : ℕ). d * 2 ^ x) places ∙ ap (λ (x : ℕ). d * x) (pow-add 2 (e - 1075) 1074)
@@ -125,7 +125,7 @@ module _ (s : Bool) (e t : ℕ) (T52 : t < 2 ^ 52) where
       under = lt-of-lt-of-le (shl-lt 53 (e - 1075) d-hi) (pow-mono room)
 
   -- from 2 ^ 64 on, an infinity too
-  pub beyond : 1087 ≤ e → e ≤ 2047 → T (not (isNan (ofFields binary64 s e t))) →
+  beyond : 1087 ≤ e → e ≤ 2047 → T (not (isNan (ofFields binary64 s e t))) →
       toUnsigned 64 (absF (ofFields binary64 s e t)) ≡ 2 ^ 64 - 1
   beyond a b n = elim (eq-or-lt-of-le b) [ inl z ↦ rw z (all-set s t (rw z at n)) | inr l ↦ finite l ]
     where
@@ -142,6 +142,37 @@ module _ (s : Bool) (e t : ℕ) (T52 : t < 2 ^ 52) where
           ∙ most (d * 2 ^ (e - 1) / 2 ^ 1074)
           (le-div-iff-mul-le (pow-pos 1074) .1 (le-trans (le-of-eq (sym (pow-add 2 52 1086)))
           (mul-le-mul up52 (pow-mono room))))
+
+-- ---- of the bits of an f64: its exponent and its digits
+module _ (b : ℕ) where
+  abbrev exponent : ℕ
+  exponent = b % 2 ^ 63 / 2 ^ 52
+
+  abbrev digits : ℕ
+  digits = b % 2 ^ 52
+
+  few : digits < 2 ^ 52
+  few = omega arith
+
+  abbrev whole-part : ℕ
+  whole-part = toUnsigned 64 (absF (ofBits binary64 b))
+
+  pub cut-small : exponent < 1023 → whole-part ≡ 0
+  unfolding ofBits
+  cut-small = small (leb (2 ^ 63) b) exponent digits few
+
+  pub cut-middle : 1023 ≤ exponent → exponent ≤ 1075 → whole-part ≡ (digits + 2 ^ 52) / 2 ^ (1075 - exponent)
+  unfolding ofBits
+  cut-middle = middle (leb (2 ^ 63) b) exponent digits few
+
+  pub cut-large : 1075 < exponent → exponent < 1087 → whole-part ≡ (digits + 2 ^ 52) * 2 ^ (exponent - 1075) % 2 ^ 64
+  unfolding ofBits
+  cut-large = large (leb (2 ^ 63) b) exponent digits few
+
+  pub cut-beyond : 1087 ≤ exponent → T (not (nanBits binary64 b)) → whole-part ≡ 2 ^ 64 - 1
+  unfolding ofBits
+  cut-beyond l n = beyond (leb (2 ^ 63) b) exponent digits few l (omega arith)
+      (subst (λ (t : Bool). T (not t)) (nanBits-is binary64 b) n)
 
 -- ---- the casts, by the sign and the whole part
 not-below : (a b : ℕ) → b ≡ 0 → ltb a b ≡ false

@@ -11,7 +11,8 @@ use native.Mathlib.Omega.{arith}
 use lib.Dec.{T, eqb, ltb, leb, lit<, lit≤}
 use lib.Pow.{pow-add, pow-pos, pow-mono, shl-lt}
 use lib.Ieee.{Float, nan, inf, fin, Format, binary32, prec, emax, low, hid, ones, top, up, down, isNan, odd, units, round}
-use lib.Ieee.{ofFields, ofBits, toUnsigned}
+use lib.Ieee.{ofFields, ofBits, toUnsigned, nanBits}
+use lib.Ieee.Bits.{nanBits-is}
 use lib.Ieee.Exact.{HasValue, odd-sign, round-exact}
 use lib.Ieee.Back.{round-whole}
 use lib.Ieee.Fits.{round-is}
@@ -80,7 +81,7 @@ module _ (s : Bool) (e t : ℕ) (T23 : t < 2 ^ 23) where
   abbrev size-of : ℕ
   size-of = toUnsigned 64 (absF (roundF binary32 (ofFields binary32 s e t)))
 
-  pub small : e < 126 → size-of ≡ 0
+  small : e < 126 → size-of ≡ 0
   unfolding ofFields
   small l = elim (eq-zero-or-pos e) [
     | inl z ↦ rw z (under-half (ofFields binary32 s 0 t) s (t * 1) (odd-sign 24 s t 0 149)
@@ -92,7 +93,7 @@ module _ (s : Bool) (e t : ℕ) (T23 : t < 2 ^ 23) where
       room : 24 + (e - 1) ≤ 148
       room = omega arith
 
-  pub middle : 126 ≤ e → e < 150 → size-of ≡ ((t + 2 ^ 23) / 2 ^ (149 - e) + 1) / 2
+  middle : 126 ≤ e → e < 150 → size-of ≡ ((t + 2 ^ 23) / 2 ^ (149 - e) + 1) / 2
   middle a b =
       rounded (ofFields binary32 s e t) s (d * 2 ^ (e - 1)) (2 ^ 149) n (pow-pos 149)
       (digits-val binary32 s e t (omega arith) (omega arith))
@@ -135,7 +136,7 @@ module _ (s : Bool) (e t : ℕ) (T23 : t < 2 ^ 23) where
       room : 24 + (e - 1) ≤ 277
       room = omega arith
 
-  pub large : 150 ≤ e → e < 191 → size-of ≡ (t + 2 ^ 23) * 2 ^ (e - 150) % 2 ^ 64
+  large : 150 ≤ e → e < 191 → size-of ≡ (t + 2 ^ 23) * 2 ^ (e - 150) % 2 ^ 64
   large a b = whole a (omega arith) ∙ least (d * 2 ^ (e - 150)) under ∙ sym (mod-eq-of-lt under)
     where
       room : 24 + (e - 150) ≤ 64
@@ -145,7 +146,7 @@ module _ (s : Bool) (e t : ℕ) (T23 : t < 2 ^ 23) where
       under = lt-of-lt-of-le (shl-lt 24 (e - 150) d-hi) (pow-mono room)
 
   -- from 2 ^ 64 on, an infinity too
-  pub beyond : 191 ≤ e → e ≤ 255 → T (not (isNan (ofFields binary32 s e t))) → size-of ≡ 2 ^ 64 - 1
+  beyond : 191 ≤ e → e ≤ 255 → T (not (isNan (ofFields binary32 s e t))) → size-of ≡ 2 ^ 64 - 1
   beyond a b n = elim (eq-or-lt-of-le b) [
     | inl z ↦ rw z (at-infinity s t (rw z at n))
     | inr l ↦ whole (omega arith) l ∙ most (d * 2 ^ (e - 150)) reaches
@@ -159,6 +160,37 @@ module _ (s : Bool) (e t : ℕ) (T23 : t < 2 ^ 23) where
 
       reaches : 2 ^ 64 ≤ d * 2 ^ (e - 150)
       reaches = le-trans (le-of-eq (pow-add 2 23 41)) (mul-le-mul up23 (pow-mono room))
+
+-- ---- of the bits of an f32: its exponent and its digits
+module _ (b : ℕ) where
+  abbrev exponent : ℕ
+  exponent = b % 2 ^ 31 / 2 ^ 23
+
+  abbrev digits : ℕ
+  digits = b % 2 ^ 23
+
+  pub few : digits < 2 ^ 23
+  few = omega arith
+
+  abbrev nearest-whole : ℕ
+  nearest-whole = toUnsigned 64 (absF (roundF binary32 (ofBits binary32 b)))
+
+  pub round-small : exponent < 126 → nearest-whole ≡ 0
+  unfolding ofBits
+  round-small = small (leb (2 ^ 31) b) exponent digits few
+
+  pub round-middle : 126 ≤ exponent → exponent < 150 → nearest-whole ≡ ((digits + 2 ^ 23) / 2 ^ (149 - exponent) + 1) / 2
+  unfolding ofBits
+  round-middle = middle (leb (2 ^ 31) b) exponent digits few
+
+  pub round-large : 150 ≤ exponent → exponent < 191 → nearest-whole ≡ (digits + 2 ^ 23) * 2 ^ (exponent - 150) % 2 ^ 64
+  unfolding ofBits
+  round-large = large (leb (2 ^ 31) b) exponent digits few
+
+  pub round-beyond : 191 ≤ exponent → T (not (nanBits binary32 b)) → nearest-whole ≡ 2 ^ 64 - 1
+  unfolding ofBits
+  round-beyond l n = beyond (leb (2 ^ 31) b) exponent digits few l (omega arith)
+      (subst (λ (t : Bool). T (not t)) (nanBits-is binary32 b) n)
 
 -- ---- the sign stays
 odd-has : (d : ℕ) (s : Bool) (q k l : ℕ) → HasSign (odd d s q k l) s

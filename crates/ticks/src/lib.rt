@@ -129,7 +129,8 @@ pub fn count(a: Axis, h: Hint, lent_len: u64) -> Listed
 pub fn list_plan(p: Planned, lent: &mut [i64]) -> Listed
     requires { ⌜ Listable p ⌝ }
     ensures { λ r. ⌜ r ≡ unless (p .refusal) Listed.Refused (listedOf (p .plan) (length (now (lent .entry)))) ⌝ }
-    ensures { λ r. ⌜ now (lent .exit) ≡ unless (p .refusal) (λ q. now (lent .entry)) (lentAfter (p .plan) (now (lent .entry))) ⌝ }
+    ensures { λ r. ⌜ now (lent .exit) ≡ unless (p .refusal) (λ q. now (lent .entry))
+        (lentAfter (p .plan) (now (lent .entry))) ⌝ }
 {
     if p.refusal != 0 {
         return Listed::Refused(p.refusal);

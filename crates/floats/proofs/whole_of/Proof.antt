@@ -1,50 +1,21 @@
 -- `floats::whole_of` meets its contract, by the laws of a pattern's whole part. Assumes nothing.
 use borrow.Author.Needs.{needs}
-use mathlib.Core.Path.{sym, subst}
-use mathlib.Core.Bool.{Bool, not}
-use Prim.Native.Nat.{ℕ, _/_, _%_, _^_, _<_}
-use native.Mathlib.Omega.{arith}
-use lib.Dec.{T, leb}
-use lib.Ieee.{binary64, ofBits}
-use lib.Ieee.Bits.{nanBits-is}
-use Rattle.floats.proofs.Casts.{small, middle, large, beyond}
+use mathlib.Core.Path.{sym}
+use Rattle.floats.proofs.Casts.{cut-small, cut-middle, cut-large, cut-beyond}
 use Rattle.floats.proofs.whole_of.Statement.{statement}
 use Rattle.floats.proofs.whole_of.Tie as tie
 
--- the sign, the exponent and the digits
-abbrev sign : ℕ → Bool
-sign b = leb (2 ^ 63) b
-
-abbrev exponent : ℕ → ℕ
-exponent b = b % 2 ^ 63 / 2 ^ 52
-
-abbrev digits : ℕ → ℕ
-digits b = b % 2 ^ 52
-
-few : (b : ℕ) → digits b < 2 ^ 52
-few b = omega arith
-
 returns : tie.Need-returns
-unfolding ofBits
-returns c = let b = c .before .args .bits in sym (small (sign b) (exponent b) (digits b) (few b) (c .if1 .taken))
+returns c = sym (cut-small (c .before .args .bits) (c .if1 .taken))
 
 returns-2 : tie.Need-returns-2
-unfolding ofBits
-returns-2 c = let b = c .before .before .args .bits in
-    sym (middle (sign b) (exponent b) (digits b) (few b) (c .before .if1 .left) (c .if2 .taken))
+returns-2 c = sym (cut-middle (c .before .before .args .bits) (c .before .if1 .left) (c .if2 .taken))
 
 returns-3 : tie.Need-returns-3
-unfolding ofBits
-returns-3 c = let b = c .before .before .before .args .bits in
-    sym (large (sign b) (exponent b) (digits b) (few b) (c .before .if2 .left) (c .if3 .taken))
+returns-3 c = sym (cut-large (c .before .before .before .args .bits) (c .before .if2 .left) (c .if3 .taken))
 
 returns-4 : tie.Need-returns-4
-unfolding ofBits
-returns-4 c =
-    let a = c .before .before .before in
-    let b = a .args .bits in
-    sym (beyond (sign b) (exponent b) (digits b) (few b) (c .if3 .left) (omega arith)
-    (subst (λ (t : Bool). T (not t)) (nanBits-is binary64 b) (a .pre)))
+returns-4 c = let s = c .before .before .before in sym (cut-beyond (s .args .bits) (c .if3 .left) (s .pre))
 
 pub whole-of-spec : {M : Type 1} → statement M
 whole-of-spec =
