@@ -133,7 +133,7 @@ checked v = asked (ask 10 (inCalendar v) ∷ []) Refused v
 
 -- 11 is asked where a list's length is known: `hasRoom` in steps/specs/Listing.antt
 
--- the rows of operations that kind 7 does not have, and of those that it has
+-- the row of operations that kind 7 does not have
 abbrev pub plainQuestions : Bool → Axis → List Question
 plainQuestions has a =
     ask 1 (known a)

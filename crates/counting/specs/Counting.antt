@@ -32,7 +32,7 @@ yearly a = isKind 3 a || isKind 6 a
 abbrev pub dateTime : Value → DateTime
 dateTime v = record { day = posPart (v .head); nano = posPart (v .tail) }
 
--- date_ceil of the start, which may be 10000-01-01, and date_floor of the end
+-- date_ceil of the start, which may be 10000-01-01
 unfoldable pub fromDay : Axis → ℕ
 fromDay a = dateCeil (dateTime (start a))
 

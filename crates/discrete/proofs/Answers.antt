@@ -11,13 +11,14 @@ use Rattle.laws.proofs.Asked.{told}
 use Rattle.values.specs.declared.Value.{Value}
 use Rattle.axis.specs.declared.Axis.{Axis}
 use Rattle.axis.specs.Axes.{end}
+use Rattle.axis.specs.Questions.{valueOn}
 use Rattle.discrete.specs.declared.NumberAnswer.{NumberAnswer}
 use Rattle.discrete.specs.declared.NumberAnswer.the-variants as number
 use Rattle.axis.specs.declared.ValueAnswer.the-variants as value
 use Rattle.counting.specs.Counting.{Dated, origin, position, sizeOf}
 use Rattle.counting.proofs.Counting.{dated}
 use Rattle.discrete.specs.Indices.{isIndexed, indexOf, valueAt}
-use Rattle.discrete.specs.Answers.{sizeQuestions, indexIn, nextIn, previousIn, valueIn}
+use Rattle.discrete.specs.Answers.{sizeQuestions, valueQuestions, indexIn, nextIn, previousIn, valueIn}
 
 number-is : (k : ℕ) (n : NumberAnswer) (i : ℕ) → unless k number.Refused n ≡ number.Is i → (k ≡ 0) × (n ≡ number.Is i)
 number-is zero n i e = (refl, e)
@@ -31,6 +32,12 @@ counted-as row n i e = number-is (firstNo row) n i e
 -- ---- the axis of an accepted call
 pub counted : (a : Axis) → firstNo (sizeQuestions a) ≡ 0 → Dated a
 counted a e = dated a (told 2 (sizeQuestions a) tt e) (told 3 (sizeQuestions a) tt e)
+
+-- and of a value on it
+pub value-asked : (a : Axis) (v : Value) → firstNo (valueQuestions a v) ≡ 0 → Dated a × (valueOn a v ≡ true)
+value-asked a v none =
+    let row = valueQuestions a v in
+    (dated a (told 2 row tt none) (told 3 row tt none), told 8 row tt none)
 
 -- ---- neighbours, by where a value stands
 module _ (a : Axis) (v : Value) where

@@ -16,7 +16,7 @@ pub record Ladder : Type 0 where
 abbrev pub ladder : ℕ → ℕ → List ℕ → Ladder
 ladder unit base counts = record { unit = unit; base = base; counts = counts }
 
--- step i: its unit, how many of it, and both together
+-- the unit of step i
 abbrev pub unitAt : Ladder → ℕ → ℕ
 unitAt l i = l .unit * l .base ^ (i / length (l .counts))
 

@@ -11,7 +11,7 @@ use Rattle.steps.specs.declared.Steps.{Steps}
 use Rattle.steps.specs.Months.{monthOf, wholeMonth}
 use Rattle.steps.specs.Progression.{fitting}
 
--- the first whole month, and the month of the last day
+-- the first whole month
 unfoldable pub fromMonth : Axis → ℕ
 fromMonth a = wholeMonth (fromDay a)
 

@@ -73,6 +73,7 @@ fn axis_for(a: Axis, h: Hint) -> Axis
     }
 }
 
+// The plan of that axis, by N.
 fn plan_for(a: Axis, h: Hint) -> Steps
     requires { ⌜ firstNo (tickQuestions a h) ≡ 0 ⌝ }
     ensures { λ r. ⌜ r ≡ planFor a h ⌝ }

@@ -2,10 +2,10 @@
 use borrow.Author.Needs.{needs}
 use mathlib.Core.Path.{_≡_, sym, _∙_}
 use Rattle.laws.specs.Asking.{firstNo}
-use Rattle.laws.proofs.Asked.{told, refused-by, passed-by}
+use Rattle.laws.proofs.Asked.{refused-by, passed-by}
 use Rattle.discrete.specs.declared.NumberAnswer.the-variants as number
 use Rattle.discrete.specs.Answers.{valueQuestions, indexIn, indexAnswer}
-use Rattle.counting.proofs.Counting.{dated}
+use Rattle.discrete.proofs.Answers.{value-asked}
 use Rattle.discrete.proofs.index_of.Statement.{statement}
 use Rattle.discrete.proofs.index_of.Tie as tie
 
@@ -21,10 +21,7 @@ none : (c : tie.Else1) → firstNo (valueQuestions (c .before .before .args .a) 
 none c = sym (c .before .value-refusal .ensures) ∙ c .if1 .left
 
 index-in-requires : tie.Need-index-in-requires
-index-in-requires c κs =
-    let x = c .before .before .args in
-    let row = valueQuestions (x .a) (x .v) in
-    (dated (x .a) (told 2 row tt (none c)) (told 3 row tt (none c)), told 8 row tt (none c))
+index-in-requires c κs = let x = c .before .before .args in value-asked (x .a) (x .v) (none c)
 
 returns-2 : tie.Need-returns-2
 unfolding indexAnswer

@@ -2,10 +2,9 @@
 use borrow.Author.Needs.{needs}
 use mathlib.Core.Path.{_≡_, sym, _∙_}
 use Rattle.laws.specs.Asking.{firstNo}
-use Rattle.laws.proofs.Asked.{told}
 use Rattle.discrete.specs.Answers.{valueQuestions, previousIn, previousAnswer}
 use Rattle.axis.proofs.Checked.{value-refused, passed}
-use Rattle.counting.proofs.Counting.{dated}
+use Rattle.discrete.proofs.Answers.{value-asked}
 use Rattle.discrete.proofs.previous.Statement.{statement}
 use Rattle.discrete.proofs.previous.Tie as tie
 
@@ -21,10 +20,7 @@ none : (c : tie.Else1) → firstNo (valueQuestions (c .before .before .args .a) 
 none c = sym (c .before .value-refusal .ensures) ∙ c .if1 .left
 
 previous-in-requires : tie.Need-previous-in-requires
-previous-in-requires c κs =
-    let x = c .before .before .args in
-    let row = valueQuestions (x .a) (x .v) in
-    (dated (x .a) (told 2 row tt (none c)) (told 3 row tt (none c)), told 8 row tt (none c))
+previous-in-requires c κs = let x = c .before .before .args in value-asked (x .a) (x .v) (none c)
 
 returns-2 : tie.Need-returns-2
 unfolding previousAnswer
