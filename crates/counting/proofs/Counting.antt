@@ -25,6 +25,7 @@ use Rattle.axis.specs.Axes.{start, end}
 use Rattle.axis.specs.Questions.{isKind, hasIndex, hasUnmap, ends, valueOn}
 use Rattle.axis.proofs.Axes.{both-ends}
 use Rattle.counting.specs.Counting.{Dated, monthly, yearly, fromDay, toDay, firstDate, dateOn, origin, position, sizeOf}
+use Rattle.counting.proofs.Sizes.{size-is}
 use Rattle.counting.proofs.Dates.{ranges, year-9999, year-onward}
 
 -- ---- kinds
@@ -212,5 +213,4 @@ module _ (a : Axis) (d : Dated a) where
       go false false = on-day v e .head-most
 
   pub size-most : sizeOf a ≤ 3652059
-  unfolding sizeOf
-  size-most = omega (arith, position-most (end a) end-on, origin-least)
+  size-most = omega (arith, size-is a, position-most (end a) end-on, origin-least)

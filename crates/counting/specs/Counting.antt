@@ -4,7 +4,9 @@
 use mathlib.Core.Path.{_≡_}
 use mathlib.Core.Bool.{Bool, true, false, cond, _||_}
 use Prim.Native.Nat.{ℕ, _+_, _-_, _*_}
-use Rattle.laws.specs.Numbers.{posPart}
+use lib.IntN.{ℤ, pos, _+ℤ_, _-ℤ_, _*ℤ_}
+use lib.Signed.{leZ}
+use Rattle.laws.specs.Numbers.{minus, posPart, asU64}
 use Rattle.calendar.specs.declared.Date.{Date}
 use Rattle.calendar.specs.declared.DateTime.{DateTime}
 use Rattle.calendar.specs.Gregorian.{dateOf}
@@ -59,6 +61,24 @@ position a v =
     (cond (yearly a) (dateOn v .year)
     (posPart (v .head)))
 
--- both ends are counted; where the first date lies behind the end, it may be 0
+-- ---- size(), as the Rust has it; where the first date lies behind the end, it may be 0
+-- x.max(y)
+abbrev pub larger : ℤ → ℤ → ℤ
+larger x y = cond (leZ x y) y x
+
+-- RangedDate, and Yearly by years: ((end - start).max(-1) + 1) as usize
+abbrev pub sizeFrom : ℕ → ℕ → ℕ
+sizeFrom from to = asU64 (larger (pos to -ℤ pos from) (minus 1) +ℤ pos 1)
+
+-- Monthly: ((end_year - start_year).max(0) * 12 + (1 - start_month as i32) + (end_month as i32 - 1) + 1).max(0) as usize
+abbrev pub monthSize : Date → Date → ℕ
+monthSize s e =
+    let years = larger (pos (e .year) -ℤ pos (s .year)) (pos 0) in
+    asU64 (larger (years *ℤ pos 12 +ℤ (pos 1 -ℤ pos (s .month)) +ℤ (pos (e .month) -ℤ pos 1) +ℤ pos 1) (pos 0))
+
+-- by days, months or years
 unfoldable pub sizeOf : Axis → ℕ
-sizeOf a = position a (end a) + 1 - origin a
+sizeOf a =
+    cond (monthly a) (monthSize (firstDate a) (dateOn (end a)))
+    (cond (yearly a) (sizeFrom (firstDate a .year) (dateOn (end a) .year))
+    (sizeFrom (posPart (a .«start_head»)) (posPart (a .«end_head»))))

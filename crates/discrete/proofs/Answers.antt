@@ -16,6 +16,7 @@ use Rattle.discrete.specs.declared.NumberAnswer.{NumberAnswer}
 use Rattle.discrete.specs.declared.NumberAnswer.the-variants as number
 use Rattle.axis.specs.declared.ValueAnswer.the-variants as value
 use Rattle.counting.specs.Counting.{Dated, origin, position, sizeOf}
+use Rattle.counting.proofs.Sizes.{size-is}
 use Rattle.counting.proofs.Counting.{dated}
 use Rattle.discrete.specs.Indices.{isIndexed, indexOf, valueAt}
 use Rattle.discrete.specs.Answers.{sizeQuestions, valueQuestions, indexIn, nextIn, previousIn, valueIn}
@@ -64,13 +65,11 @@ module _ (a : Axis) (v : Value) where
 
   -- the same by where the end stands
   pub next-end : origin a ≤ position a v → position a (end a) ≤ position a v → nextIn a v ≡ value.None
-  unfolding sizeOf
-  next-end h l = next-last h (omega arith)
+  next-end h l = next-last h (omega (arith, size-is a))
 
   pub next-inside : origin a ≤ position a v → position a v < position a (end a) →
       nextIn a v ≡ value.At (valueAt a (position a v - origin a + 1))
-  unfolding sizeOf
-  next-inside h l = next-is h (omega arith)
+  next-inside h l = next-is h (omega (arith, size-is a))
 
   pub previous-none : position a v ≤ origin a → previousIn a v ≡ value.None
   unfolding previousIn isIndexed indexOf

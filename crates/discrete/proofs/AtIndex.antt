@@ -26,6 +26,7 @@ use Rattle.counting.specs.Counting.{Dated, monthly, yearly, fromDay, firstDate,
 use Rattle.discrete.specs.Indices.{monthAt, yearAt, valueAt}
 use Rattle.discrete.specs.Walking.{Inside}
 use Rattle.counting.proofs.Dates.{years-grow, year-9999, first-least, first-date-is, first-most, begun}
+use Rattle.counting.proofs.Sizes.{size-is}
 use Rattle.counting.proofs.Counting.{from-start, from-next, starts, end-on, on-near, on-day, from-range, first-near, is-day}
 use Rattle.discrete.proofs.Indices.{value-months, value-years, value-days}
 use Rattle.counting.proofs.Counting.{origin-months, origin-years, origin-days, position-months}
@@ -173,7 +174,6 @@ module _ (a : Axis) (c : Dated a) where
   first-year l = year-9999 (fromDay a) (from-range a c .0) l
 
   month-below : (i : ℕ) → monthly a ≡ true → fromDay a ≤ 3652059 → i < sizeOf a → isDay (monthAt a i .head) ≡ true
-  unfolding sizeOf
   month-below zero m l h = rw (month-first a zero refl) (day-in (fromDay a) (from-range a c .0) l)
   month-below (suc n) m l h =
       let t = firstDate a in
@@ -182,7 +182,7 @@ module _ (a : Axis) (c : Dated a) where
       let e = on-near a c (end a) (end-on a c) in
       let y = first-year l in
       let size : suc n < 12 * (dateOn (end a) .year - t .year) + dateOn (end a) .month + 1 - t .month =
-      rw (position-months a (end a) m, origin-months a m) at h in
+      rw (size-is a, position-months a (end a) m, origin-months a m) at h in
       let most : t .year + k / 12 ≤ 9999 = omega arith in
       rw (month-later a (suc n) (λ z. omega arith))
       (day-in (dayNumber (t .year + k / 12) (k % 12 + 1) 1) (first-least (t .year + k / 12) (k % 12 + 1) (omega arith)
@@ -190,26 +190,24 @@ module _ (a : Axis) (c : Dated a) where
       most))
 
   year-below : (i : ℕ) → monthly a ≡ false → yearly a ≡ true → i < sizeOf a → isDay (yearAt a i .head) ≡ true
-  unfolding sizeOf
   year-below i m y h = elim (decLe (dayNumber (firstDate a .year + i) 1 1) (posPart (a .«start_head»))) [
     | yes l ↦ rw (year-start a i l) (is-day (start a) (starts a c))
     | no l ↦ (
         let r = first-near a c in
         let e = on-near a c (end a) (end-on a c) in
         let size : i < dateOn (end a) .year + 1 - firstDate a .year =
-        rw (position-years a (end a) m y, origin-years a m y) at h in
+        rw (size-is a, position-years a (end a) m y, origin-years a m y) at h in
         rw (year-later a i (omega arith))
         (day-in (dayNumber (firstDate a .year + i) 1 1) (first-least (firstDate a .year + i) 1 (omega arith) (omega arith)
         (omega arith)) (first-most (firstDate a .year + i) 1 (omega arith) (omega arith) (omega arith) (omega arith))))
   ]
 
   day-below : (i : ℕ) → monthly a ≡ false → yearly a ≡ false → i < sizeOf a → isDay (pos (posPart (a .«start_head») + i)) ≡ true
-  unfolding sizeOf
   day-below i m y h =
       let s = starts a c in
       let e = on-day a c (end a) (end-on a c) in
       let size : i < posPart (a .«end_head») + 1 - posPart (a .«start_head») =
-      rw (position-days a (end a) m y, origin-days a m y) at h in
+      rw (size-is a, position-days a (end a) m y, origin-days a m y) at h in
       day-in (posPart (a .«start_head») + i) (omega arith) (omega arith)
 
   pub below-size : Inside a → (i : ℕ) → i < sizeOf a → isDay (valueAt a i .head) ≡ true

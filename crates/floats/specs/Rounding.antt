@@ -3,7 +3,7 @@
 use mathlib.Core.Bool.{Bool, false, cond}
 use Prim.Native.Nat.{ℕ, _+_, _-_, _*_, _/_}
 use lib.IntN.{ℤ, pos, negℤ}
-use lib.Ieee.{Float, nan, inf, fin, Format, binary64, up, down, round, ofInt, mul, div, toSigned}
+use lib.Ieee.{Float, nan, inf, fin, Format, binary64, up, down, round, ofInt, mul, div, toSigned, toUnsigned}
 
 -- n, or -n
 abbrev pub withSign : Bool → ℕ → ℤ
@@ -43,6 +43,10 @@ unfolding round
 roundF f nan = nan
 roundF f (inf s) = inf s
 roundF f (fin s m e) = round f s (halfUp (m * up e) (down e)) 1
+
+-- (n as f64 / d as f64).ceil() as usize
+unfoldable pub ceilOf : ℕ → ℕ → ℕ
+ceilOf n d = toUnsigned 64 (ceilF binary64 (div binary64 (ofInt binary64 (pos n)) (ofInt binary64 (pos d))))
 
 -- width × offset ÷ total, both steps rounded
 unfoldable pub quotientOf : Float → ℤ → Float → Float

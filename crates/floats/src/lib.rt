@@ -7,7 +7,7 @@ ghost use Prim.Native.Nat.{suc, _^_, _≤_, _<_, min};
 ghost use lib.Dec.{T};
 ghost use lib.IntN.{pos, negℤ, natAbs};
 ghost use lib.Ieee.{binary32, binary64, ofInt, div, ofBits, nanBits, toSigned, toUnsigned};
-ghost use Rattle.floats.specs.Rounding.{withSign, absF, floorF, ceilF, roundF};
+ghost use Rattle.floats.specs.Rounding.{withSign, absF, floorF, ceilOf, roundF};
 
 // The weight of the exponent in a float's bits, and of a leading 1 before its 52 digits: 2^52.
 const LEAD: u64 = 4503599627370496;
@@ -162,8 +162,7 @@ pub fn floor_quotient(n: u64, d: u64) -> u64
 // (n as f64 / d as f64).ceil() as usize.
 pub fn ceil_quotient(n: u64, d: u64) -> u64
     requires { ⌜ (n < 2 ^ 53) × (0 < d) × (d ≤ 2 ^ 53) ⌝ }
-    ensures { λ r. ⌜ r ≡ toUnsigned 64
-        (ceilF binary64 (div binary64 (ofInt binary64 (pos n)) (ofInt binary64 (pos d)))) ⌝ }
+    ensures { λ r. ⌜ r ≡ ceilOf n d ⌝ }
 {
     (n + (d - 1)) / d
 }

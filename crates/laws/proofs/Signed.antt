@@ -13,7 +13,7 @@ use mir.Syntax.{w64}
 use mir.Val.{SFits, ofZ, toZ}
 use mir.Facts.{toZ-ofZ}
 use mir.ValLaws.{sfits-le, toZ-pos}
-use Rattle.laws.specs.Numbers.{posPart, negPart}
+use Rattle.laws.specs.Numbers.{asU64, posPart, negPart}
 use borrow.Author.Tests.{ltb-true, ltb-false, leb-true, leb-false, lt-ltb, le-ltb}
 
 -- ---- tests
@@ -97,6 +97,10 @@ quot-dn (pos a) k = sym (zero-div k)
 quot-dn (negsuc a) k = neg-dn (pos (suc a / k))
 
 -- ---- ranges, and equality
+pub as-u64 : (z : ℤ) → negPart z ≡ 0 → asU64 z ≡ posPart z
+as-u64 (pos n) e = refl
+as-u64 (negsuc n) e = absurd (let w : ⊥ = omega arith in w)
+
 pub one-is-zero : (z : ℤ) → (posPart z ≡ 0) ⊎ (negPart z ≡ 0)
 one-is-zero (pos n) = inr refl
 one-is-zero (negsuc n) = inl refl

@@ -1,7 +1,7 @@
 -- Signed numbers: ranges, and a number's two parts, of which one is 0. Definitions only.
 -- A z is `posPart z` less `negPart z`.
 use mathlib.Core.Bool.{Bool, _&&_}
-use Prim.Native.Nat.{ℕ, suc}
+use Prim.Native.Nat.{ℕ, suc, _-_, _^_}
 use lib.IntN.{ℤ, pos, negsuc, negℤ}
 use lib.Signed.{leZ}
 
@@ -26,3 +26,8 @@ posPart (negsuc n) = 0
 abbrev pub negPart : ℤ → ℕ
 negPart (pos n) = 0
 negPart (negsuc n) = suc n
+
+-- Rust's `as u64` and `as usize`: a number below 0 is counted from 2 ^ 64 down
+abbrev pub asU64 : ℤ → ℕ
+asU64 (pos n) = n
+asU64 (negsuc n) = 2 ^ 64 - suc n

@@ -1,4 +1,4 @@
--- Nanoseconds of a second, an hour and a day. Definitions only.
+-- Nanoseconds of a second, an hour and a day, and seconds of a day. Definitions only.
 use Prim.Native.Nat.{ℕ, _*_}
 
 -- a second
@@ -12,3 +12,7 @@ perHour = 3600 * perSecond
 -- a day
 abbrev pub perDay : ℕ
 perDay = 24 * perHour
+
+-- a day in seconds
+abbrev pub secondsPerDay : ℕ
+secondsPerDay = 86400

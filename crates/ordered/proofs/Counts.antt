@@ -1,17 +1,19 @@
 -- Answers that are signed numbers: a count of ticks, whose list has room in a slice, and a period. Assumes nothing.
-use mathlib.Core.Path.{_≡_, refl}
+use mathlib.Core.Path.{_≡_, refl, sym, ap, _∙_}
 use mathlib.Core.Bool.{Bool, true, false, cond}
 use Prim.Native.Nat.{ℕ, zero, suc, _*_, _^_, _≤_, _<_}
 use native.Mathlib.Omega.{arith}
-use lib.Dec.{leb, ltb}
-use borrow.Author.Tests.{leb-true, ltb-true}
+use lib.Dec.{leb}
+use lib.ListN.{length}
+use mathlib.Core.List.{List}
+use mathlib.Core.Option.{Option}
+use borrow.Author.Tests.{leb-true}
 use Rattle.laws.specs.Asking.{firstNo, unless}
 use Rattle.laws.specs.Numbers.{posPart}
 use Rattle.axis.specs.declared.Axis.{Axis}
 use Rattle.axis.specs.declared.BoldPoints.{BoldPoints}
 use Rattle.plans.specs.Times.{periodIn}
 use Rattle.plans.proofs.Spans.{timed}
-use Rattle.steps.specs.declared.Steps.{Steps}
 use Rattle.steps.specs.declared.Listed.the-variants.{Refused, Ticks}
 use Rattle.steps.specs.Listing.{listedOf, countOf}
 use Rattle.values.specs.declared.Value.{Value}
@@ -24,10 +26,12 @@ use Rattle.segmented.specs.Answers.{segmentKindQuestions, segmentTicksAnswer, s
 use Rattle.segmented.proofs.Answers.{segment-size-range, segment-index-range}
 use Rattle.ordered.specs.Replies.{numberIn}
 use Rattle.axis.specs.declared.Hint.{Hint}
-use Rattle.ticks.specs.Hints.{planFor}
+use Rattle.keypoints.specs.Hints.{keyPointsFor}
+use Rattle.keypoints.proofs.Periods.{optional}
 use Rattle.ticks.specs.declared.PeriodAnswer.the-variants as period
 use Rattle.ticks.specs.Answers.{tickQuestions, ticksAnswer, periodQuestions, aPeriod, periodAnswer}
 use Rattle.ticks.proofs.Hints.{period-accepted}
+use Rattle.ticks.proofs.KeyPoints.{period-is}
 
 room-most : (b : Bool) (n k : ℕ) → k < 2 ^ 64 → (b ≡ true → 2 * n ≤ k) → countOf (cond b (Ticks n) (Refused 11)) < 2 ^ 63
 room-most true n k l h = omega (arith, h refl)
@@ -35,10 +39,10 @@ room-most false n k l h = omega arith
 
 pub answer-most : (a : Axis) (h : Hint) (k : ℕ) → k < 2 ^ 64 → countOf (ticksAnswer a h k) < 2 ^ 63
 unfolding ticksAnswer
-answer-most a h k l = go (firstNo (tickQuestions a h)) (planFor a h)
+answer-most a h k l = go (firstNo (tickQuestions a h)) (keyPointsFor a h)
   where
-    go : (q : ℕ) (s : Steps) → countOf (unless q Refused (listedOf s k)) < 2 ^ 63
-    go zero s = room-most (leb (2 * s .count) k) (s .count) k l (leb-true (2 * s .count) k)
+    go : (q : ℕ) (s : List Value) → countOf (unless q Refused (listedOf s k)) < 2 ^ 63
+    go zero s = room-most (leb (2 * length s) k) (length s) k l (leb-true (2 * length s) k)
     go (suc q) s = omega arith
 
 pub segment-answer-most : (a : Axis) (h : Hint) (k : ℕ) → k < 2 ^ 64 → countOf (segmentTicksAnswer a h k) < 2 ^ 63
@@ -50,20 +54,24 @@ segment-answer-most a h k l = go (firstNo (segmentKindQuestions a))
     go (suc q) = omega arith
 
 -- ---- a period
-is-most : (q p k : ℕ) → (q ≡ 0 → 0 < p → p < 2 ^ 63) → unless q period.Refused (aPeriod p) ≡ period.Is k → k < 2 ^ 63
-is-most zero p k h e = go (ltb 0 p) (ltb-true 0 p) e
-  where
-    go : (b : Bool) → (b ≡ true → 0 < p) → cond b (period.Is p) period.None ≡ period.Is k → k < 2 ^ 63
-    go true u e = let same : p ≡ k = cc in omega (arith, h refl (u refl))
-    go false u e = let z : _≡_ {A = ℕ} 0 1 = cc in absurd (let w : ⊥ = omega arith in w)
-is-most (suc q) p k h e = let z : _≡_ {A = ℕ} 0 1 = cc in absurd (let w : ⊥ = omega arith in w)
+is-most : (p k : ℕ) → (0 < p → p < 2 ^ 63) → aPeriod (optional p) ≡ period.Is k → k < 2 ^ 63
+is-most zero k h e = let z : _≡_ {A = ℕ} 0 1 = cc in absurd (let w : ⊥ = omega arith in w)
+is-most (suc p) k h e = let same : suc p ≡ k = cc in omega (arith, h (omega arith))
 
 pub period-most : (a : Axis) (h : BoldPoints) (k : ℕ) → periodAnswer a h ≡ period.Is k → k < 2 ^ 63
 unfolding periodAnswer
-period-most a h k e = is-most (firstNo (periodQuestions a h)) (periodIn a (posPart (h .n))) k small e
+period-most a h k = go (firstNo (periodQuestions a h)) (period-is a h) small
   where
-    small : firstNo (periodQuestions a h) ≡ 0 → 0 < periodIn a (posPart (h .n)) → periodIn a (posPart (h .n)) < 2 ^ 63
+    p : ℕ
+    p = periodIn a (posPart (h .n))
+
+    small : firstNo (periodQuestions a h) ≡ 0 → 0 < p → p < 2 ^ 63
     small z l = let (q, k, d) = period-accepted a h z in timed a (posPart (h .n)) q k l .small
+
+    go : {x : Option ℕ} (q : ℕ) → (q ≡ 0 → x ≡ optional p) → (q ≡ 0 → 0 < p → p < 2 ^ 63) →
+        unless q period.Refused (aPeriod x) ≡ period.Is k → k < 2 ^ 63
+    go zero f l e = is-most p k (l refl) (sym (ap aPeriod (f refl)) ∙ e)
+    go (suc q) f l e = let z : _≡_ {A = ℕ} 0 1 = cc in absurd (let w : ⊥ = omega arith in w)
 
 -- ---- a size, an index
 number-fits : (x : NumberAnswer) → ((n : ℕ) → x ≡ number.Is n → n ≤ 3652060) → numberIn x < 2 ^ 63

@@ -39,7 +39,7 @@ module _ (span n : ℕ) where
 abbrev Largest : ℕ → ℕ → ℕ → ℕ → Type 0
 Largest span n k e = (e ≤ k) × ((e ≡ k) ⊎ (span < 10 ^ suc e * n))
 
-largest : (span n k : ℕ) → Largest span n k (exponentUpTo k span n)
+pub largest : (span n k : ℕ) → Largest span n k (exponentUpTo k span n)
 largest span n zero = rw (at-none span n) (zero-le, inl refl)
 largest span n (suc k) = rw (at-test span n k) (go (leb (10 ^ suc k * n) span) refl (largest span n k))
   where

@@ -15,7 +15,8 @@ use Rattle.values.proofs.Numbers.{not-both}
 use Rattle.steps.specs.Progression.{fitting}
 use Rattle.steps.proofs.Fitting.{few-steps}
 use Rattle.steps.proofs.Demand.{Kept}
-use Rattle.plans.specs.Days.{weeksPer, dateStep}
+use Rattle.plans.specs.Days.{dateStep}
+use Rattle.floats.specs.Rounding.{ceilOf}
 use Rattle.plans.proofs.Cases.{choose}
 
 -- ---- the weeks of a step
@@ -27,15 +28,15 @@ min-left : (x y : ℕ) → x ≤ y → min x y ≡ x
 min-left x y h = omega arith
 
 module _ (w n : ℕ) (small : w < 4000000) where
-  exact : 0 < n → n < w → weeksPer w n ≡ upward w n
-  unfolding weeksPer
+  exact : 0 < n → n < w → ceilOf w n ≡ upward w n
+  unfolding ceilOf
   exact p h = ratio-ceil binary64 w n (omega arith) p (omega arith)
 
-  pub weeks-none : 0 < w → n ≡ 0 → w + 1 ≡ min (weeksPer w n) (w + 1)
-  unfolding weeksPer
+  pub weeks-none : 0 < w → n ≡ 0 → w + 1 ≡ min (ceilOf w n) (w + 1)
+  unfolding ceilOf
   weeks-none h e = rw (e, ceil-by-zero binary64 w h (omega arith)) (omega arith)
 
-  pub weeks-some : 0 < n → n < w → weeksPer w n ≡ min (weeksPer w n) (w + 1)
+  pub weeks-some : 0 < n → n < w → ceilOf w n ≡ min (ceilOf w n) (w + 1)
   weeks-some p h = rw (exact p h) (sym (min-left (upward w n) (w + 1) (omega (arith, upward-most w n p))))
 
 -- the step is above 0, and n + 1 steps are beyond the weeks
@@ -46,7 +47,7 @@ room-up w (suc m) p h =
     let e : suc m - 1 ≡ m = omega arith in
     rw e (le-div-iff-mul-le p .1 q, omega (arith, lt-div-mul-add {a = w + m} p))
 
-weeks-room : (w n : ℕ) → w < 4000000 → n < w → (0 < min (weeksPer w n) (w + 1)) × (w + 1 ≤ (n + 1) * min (weeksPer w n) (w + 1))
+weeks-room : (w n : ℕ) → w < 4000000 → n < w → (0 < min (ceilOf w n) (w + 1)) × (w + 1 ≤ (n + 1) * min (ceilOf w n) (w + 1))
 weeks-room w zero s h = rw (← weeks-none w 0 s h refl) (omega arith, omega arith)
 weeks-room w (suc m) s h =
     let n : ℕ = suc m in
@@ -72,7 +73,7 @@ module _ (d n : ℕ) where
       (choose (λ (k : ℕ). 7 ≡ k) (ltb 0 (d / 7)) (λ e. refl)
       (λ e. rw (eq-eqb (d / 7) 0 (omega (arith, ltb-false 0 (d / 7) e)))))
 
-  pub step-more : n < d / 7 → 7 * min (weeksPer (d / 7) n) (d / 7 + 1) ≡ dateStep d n
+  pub step-more : n < d / 7 → 7 * min (ceilOf (d / 7) n) (d / 7 + 1) ≡ dateStep d n
   unfolding dateStep
   step-more a =
       let p : 0 < d = omega arith in
@@ -84,7 +85,7 @@ module _ (d n : ℕ) where
   abbrev Wide : ℕ → Type 0
   Wide k = (0 < k) × (d + 1 ≤ (n + 1) * k) × (k ≤ d + 7)
 
-  few-weeks : n < d / 7 → d < 4000000 → Wide (7 * min (weeksPer (d / 7) n) (d / 7 + 1))
+  few-weeks : n < d / 7 → d < 4000000 → Wide (7 * min (ceilOf (d / 7) n) (d / 7 + 1))
   few-weeks h s =
       let (p, q) = weeks-room (d / 7) n (omega arith) h in
       (omega arith, omega arith, omega arith)

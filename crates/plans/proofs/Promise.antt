@@ -35,15 +35,17 @@ use Rattle.period.proofs.Fits.{fit-above, fit-most, fit-room}
 use Rattle.period.proofs.Periods.{period-room, day-long}
 use Rattle.steps.specs.declared.Steps.{Steps}
 use Rattle.steps.specs.Months.{firstDay}
-use Rattle.steps.specs.Progression.{fitting, tickOfNumber, Sound}
-use Rattle.steps.specs.Listing.{ticks}
+use Rattle.steps.specs.Progression.{fitting, tickOfNumber, ticks, Sound}
+use Rattle.steps.specs.Listing.{numbers}
 use Rattle.steps.specs.Promise.{Later, by-head, by-tail, wholeSecond, Fine}
 use Rattle.steps.proofs.Fitting.{few-steps}
 use Rattle.steps.proofs.Order.{is-smaller, not-earlier, not-before-second}
 use Rattle.steps.proofs.Demand.{Kept, steps-fine, kept-sound}
 use Rattle.plans.specs.Days.{evenly, dateStep, daysBy, dayPlan}
 use Rattle.plans.specs.Months.{fromMonth, toMonth, yearStep, monthStep, monthsBy, monthPlan, yearPlan}
-use Rattle.plans.specs.Times.{periodIn, shift, timePlan, Timed, daysIn, secondsPerDay, firstSecond, secondsLeft}
+use Rattle.plans.specs.Times.{periodIn, shift, timePlan, Timed, firstSecond, secondsLeft}
+use Rattle.laws.specs.Units.{secondsPerDay}
+use Rattle.values.specs.Differences.{daysIn}
 use Rattle.plans.specs.Times.{spanDaysPlan, Long}
 use Rattle.plans.specs.Plans.{Accepted, periodPlan, planOf}
 use Rattle.plans.proofs.Cases.{choose, by-test}
@@ -56,7 +58,7 @@ use Rattle.plans.proofs.Spans.{total-range}
 
 pub record Good (a : Axis) (n : ℕ) (s : Steps) : Type 0 where
   pub sound : Sound s
-  pub fine : Fine n (start a) (end a) (ticks s)
+  pub fine : Fine n (start a) (end a) (numbers (ticks s))
 
 mag-of : (z : ℤ) (k : ℕ) → posPart z < k → negPart z ≤ k → mag z < k
 mag-of (pos n) k a b = a
@@ -82,7 +84,7 @@ no-months : {A : Type 0} → false ≡ true → A
 no-months e = absurd (true≢false (sym e))
 
 -- a progression of whole heads
-heads-tick : (s : Steps) (x : ℕ) → s .«by_month» ≡ false → s .per ≡ 1 → tickOfNumber s x ≡ midnight (s .base +ℤ pos x)
+pub heads-tick : (s : Steps) (x : ℕ) → s .«by_month» ≡ false → s .per ≡ 1 → tickOfNumber s x ≡ midnight (s .base +ℤ pos x)
 heads-tick s x m e =
     let h : x / s .per ≡ x = rw e (div-one x) in
     let t : x % s .per ≡ 0 = rw e (mod-one x) in
@@ -157,14 +159,14 @@ number-tick s q t x h u m p e l b r =
     let c : x % s .per ≡ t = ap (λ (y : ℕ). y % s .per) e ∙ (mul-add-mod-self-right q (s .per) t ∙ mod-eq-of-lt l) in
     rw (m, d, c, b, r)
 
-heads-in-order : (a : Axis) → inOrder a ≡ true → posPart (a .«start_head») + negPart (a .«end_head») ≤ posPart (a .«end_head»)
+pub heads-in-order : (a : Axis) → inOrder a ≡ true → posPart (a .«start_head») + negPart (a .«end_head») ≤ posPart (a .«end_head»)
     + negPart (a .«start_head»)
 unfolding inOrder earlier
 heads-in-order a o =
     lt-false (a .«end_head») (a .«start_head») (either-false (ltZ (a .«end_head») (a .«start_head»))
     (leZ (a .«end_head») (a .«start_head») && ltZ (a .«end_tail») (a .«start_tail»)) (not-true _ o) .0)
 
-pos-up : (z : ℤ) → negPart z ≡ 0 → pos (posPart z) ≡ z
+pub pos-up : (z : ℤ) → negPart z ≡ 0 → pos (posPart z) ≡ z
 pos-up z e = same (pos (posPart z)) z (omega arith)
 
 module _ (a : Axis) (o : inOrder a ≡ true) where
@@ -188,18 +190,18 @@ module _ (a : Axis) (o : inOrder a ≡ true) where
       omega (arith, ap posPart e, ap negPart e, sub (a .«end_tail») (a .«start_tail»))
 
 -- the numbers of an axis over date-times or durations, per to a head
-record Counts (a : Axis) (per : ℕ) : Type 0 where
-  least : perSecond ≤ per
-  most : per ≤ perDay
-  start-dn : negPart (a .«start_tail») ≡ 0
-  start-most : posPart (a .«start_tail») < per
-  end-dn : negPart (a .«end_tail») ≡ 0
-  end-most : posPart (a .«end_tail») < per
-  head-dn : negPart (a .«start_head») ≤ 315576000000
-  head-up : posPart (a .«start_head») ≤ 315576000000
-  parts : spanOf a ≡ (a .«end_head» -ℤ a .«start_head») *ℤ pos per +ℤ (a .«end_tail» -ℤ a .«start_tail»)
+pub record Counts (a : Axis) (per : ℕ) : Type 0 where
+  pub least : perSecond ≤ per
+  pub most : per ≤ perDay
+  pub start-dn : negPart (a .«start_tail») ≡ 0
+  pub start-most : posPart (a .«start_tail») < per
+  pub end-dn : negPart (a .«end_tail») ≡ 0
+  pub end-most : posPart (a .«end_tail») < per
+  pub head-dn : negPart (a .«start_head») ≤ 315576000000
+  pub head-up : posPart (a .«start_head») ≤ 315576000000
+  pub parts : spanOf a ≡ (a .«end_head» -ℤ a .«start_head») *ℤ pos per +ℤ (a .«end_tail» -ℤ a .«start_tail»)
 
-counts : (a : Axis) → ends a ≡ true → Counts a (unit (a .kind))
+pub counts : (a : Axis) → ends a ≡ true → Counts a (unit (a .kind))
 unfolding spanOf
 counts a r =
     choose (Counts a) (isDuration (a .kind))
@@ -235,7 +237,7 @@ module _ (a : Axis) (n k per x : ℕ) (t : Timed a k) (c : Counts a per) (few : 
   abbrev from-head : ℕ
   from-head = posPart (a .«start_tail»)
 
-  abbrev even : Steps
+  abbrev pub even : Steps
   even =
       evenly (record {
         per = per;
@@ -254,7 +256,7 @@ module _ (a : Axis) (n k per x : ℕ) (t : Timed a k) (c : Counts a per) (few : 
       number-tick even 0 from-head from-head (a .«start_head») (a .«start_tail») refl above y (c .start-most)
       (+ℤ-idr (a .«start_head»)) (pos-up (a .«start_tail») (c .start-dn))
 
-  at-end-tick : tickOfNumber even (from-head + posPart (spanOf a)) ≡ end a
+  pub at-end-tick : tickOfNumber even (from-head + posPart (spanOf a)) ≡ end a
   at-end-tick =
       let o = t .order in
       let e = at-end a o per (c .parts) (span-from-0 a (t .real) o) (c .start-dn) (c .end-dn) in
@@ -349,7 +351,7 @@ module _ (a : Axis) (n : ℕ) (l : Long a) where
       }
 
 -- ---- the days of an axis are in order
-date-order : (a : Axis) (n : ℕ) → Accepted a n → leZ (a .kind) (pos 1) ≡ true → fromDay a ≤ toDay a
+pub date-order : (a : Axis) (n : ℕ) → Accepted a n → leZ (a .kind) (pos 1) ≡ true → fromDay a ≤ toDay a
 date-order a n q o =
     let three : leZ (a .kind) (pos 3) ≡ true = is-le (a .kind) (pos 3) (omega (arith, le-true (a .kind) (pos 1) o)) in
     let v = date-value (a .kind) (start a) (both-ends a (q .real) .first) three in
@@ -366,7 +368,7 @@ module _ (a : Axis) (n : ℕ) (q : Accepted a n) (some : 1 ≤ n) (d : isDuratio
       day-long (posPart (spanOf a)) n (omega arith) some (q .most) p)
       (λ e. omega (arith, not-fitting (spanOf a) (span-from-0 a (q .real) (q .order)) e))
 
-  day-order : fromDay a ≤ toDay a
+  pub day-order : fromDay a ≤ toDay a
   day-order =
       let c = counts a (q .real) in
       let dated : Dated a = record { real = q .real; dates = d } in

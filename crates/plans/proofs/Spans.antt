@@ -28,7 +28,9 @@ use Rattle.axis.proofs.Questions.{of-seven, near-where-fits, near-range}
 use Rattle.laws.proofs.Tests.{bit}
 use Rattle.period.specs.Periods.{periodOf, powerOf}
 use Rattle.period.proofs.Periods.{any-step, period-above, period-fits}
-use Rattle.plans.specs.Times.{shift, periodIn, Timed, daysIn, ofDays, firstSecond, secondsLeft, Long}
+use Rattle.plans.specs.Times.{shift, periodIn, Timed, firstSecond, secondsLeft, Long}
+use Rattle.values.specs.Differences.{ofDays}
+use Rattle.values.specs.Differences.{daysIn}
 use Rattle.plans.specs.Plans.{Accepted}
 use Rattle.plans.proofs.Cases.{choose, by-test}
 use Rattle.plans.proofs.Times.{up-most, shift-most}

@@ -12,7 +12,8 @@ use Rattle.laws.proofs.Signed.{sub, same, lt-true, lt-false}
 use Rattle.values.specs.declared.Value.{Value}
 use Rattle.values.specs.Values.{isValue}
 use Rattle.values.specs.Differences.{nanoseconds, difference}
-use Rattle.plans.specs.Times.{shiftUp, bits, shiftOf}
+use Rattle.plans.specs.Times.{shiftUp, shiftOf}
+use Rattle.laws.specs.Numbers.{asU64}
 use Rattle.plans.proofs.Cases.{choose}
 
 -- ---- by the code's tests
@@ -29,30 +30,30 @@ pub size-below : (z : ℤ) → ltZ z (pos 0) ≡ true → 1 ≤ natAbs z
 size-below (pos n) e = omega (arith, lt-true (pos n) (pos 0) e)
 size-below (negsuc n) e = omega arith
 
-pub bits-below : (z : ℤ) → ltZ z (pos 0) ≡ true → 2 ^ 64 - 1 - (natAbs z - 1) ≡ bits z
+pub bits-below : (z : ℤ) → ltZ z (pos 0) ≡ true → 2 ^ 64 - 1 - (natAbs z - 1) ≡ asU64 z
 bits-below (pos n) e = absurd (let w : ⊥ = omega (arith, lt-true (pos n) (pos 0) e) in w)
 bits-below (negsuc n) e = omega arith
 
-pub bits-above : (z : ℤ) → ltZ z (pos 0) ≡ false → natAbs z ≡ bits z
+pub bits-above : (z : ℤ) → ltZ z (pos 0) ≡ false → natAbs z ≡ asU64 z
 bits-above (pos n) e = refl
 bits-above (negsuc n) e = absurd (let w : ⊥ = omega (arith, lt-false (negsuc n) (pos 0) e) in w)
 
 module _ (z : ℤ) (k : ℕ) where
-  pub shift-none : bits z % k ≡ 0 → 0 ≡ shiftOf z k
+  pub shift-none : asU64 z % k ≡ 0 → 0 ≡ shiftOf z k
   unfolding shiftOf
-  shift-none e = rw (eq-eqb (bits z % k) 0 e)
+  shift-none e = rw (eq-eqb (asU64 z % k) 0 e)
 
-  module _ (e : bits z % k ≡ 0 → ⊥) where
+  module _ (e : asU64 z % k ≡ 0 → ⊥) where
     pub shift-up : ltZ (pos 0) z ≡ true → k - natAbs (remZ z (pos k)) ≡ shiftOf z k
     unfolding shiftOf
-    shift-up h = rw (ne-eqb (bits z % k) 0 e, h)
+    shift-up h = rw (ne-eqb (asU64 z % k) 0 e, h)
 
     pub shift-down : ltZ (pos 0) z ≡ false → natAbs (remZ z (pos k)) ≡ shiftOf z k
     unfolding shiftOf
-    shift-down h = rw (ne-eqb (bits z % k) 0 e, h)
+    shift-down h = rw (ne-eqb (asU64 z % k) 0 e, h)
 
 -- ---- a shift is at most a period
-turned-size : (n : ℕ) → natAbs (negℤ (pos n)) ≡ n
+pub turned-size : (n : ℕ) → natAbs (negℤ (pos n)) ≡ n
 turned-size zero = refl
 turned-size (suc n) = refl
 
@@ -69,7 +70,7 @@ module _ (k : ℕ) (p : 0 < k) where
   unfolding shiftOf
   shift-most z =
       let h = rest-most z in
-      choose (λ (s : ℕ). s ≤ k) (eqb (bits z % k) 0) (λ _. omega arith)
+      choose (λ (s : ℕ). s ≤ k) (eqb (asU64 z % k) 0) (λ _. omega arith)
       (λ _. choose (λ (s : ℕ). s ≤ k) (ltZ (pos 0) z) (λ _. omega arith) (λ _. omega arith))
 
 -- ---- a duration is its difference from zero

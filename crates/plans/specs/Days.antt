@@ -3,9 +3,8 @@
 use mathlib.Core.Bool.{false, cond, _&&_}
 use Prim.Native.Nat.{ℕ, _+_, _-_, _*_, _/_, min}
 use lib.Dec.{eqb, ltb, leb}
-use lib.Ieee.{binary64, ofInt, div, toUnsigned}
 use lib.IntN.{pos}
-use Rattle.floats.specs.Rounding.{ceilF}
+use Rattle.floats.specs.Rounding.{ceilOf}
 use Rattle.axis.specs.declared.Axis.{Axis}
 use Rattle.counting.specs.Counting.{fromDay, toDay}
 use Rattle.steps.specs.declared.Steps.{Steps}
@@ -24,10 +23,6 @@ evenly e =
       count = fitting (e .end - e .first) (e .step);
     }
 
--- (w as f64 / n as f64).ceil() as usize
-unfoldable pub weeksPer : ℕ → ℕ → ℕ
-weeksPer w n = toUnsigned 64 (ceilF binary64 (div binary64 (ofInt binary64 (pos w)) (ofInt binary64 (pos n))))
-
 -- d days to the last: every day, if they are at most n; else every week; else, within a week, the first day alone; else
 -- every few weeks, of which w + 1 are as good as more
 unfoldable pub dateStep : ℕ → ℕ → ℕ
@@ -35,7 +30,7 @@ dateStep d n =
     cond (ltb 0 d && leb d n) 1
     (cond (ltb 0 (d / 7) && leb (d / 7) n) 7
     (cond (eqb (d / 7) 0) 7
-    (7 * min (weeksPer (d / 7) n) (d / 7 + 1))))
+    (7 * min (ceilOf (d / 7) n) (d / 7 + 1))))
 
 -- the days from a first day on, of which the last is d later
 abbrev pub daysBy : ℕ → ℕ → ℕ → Steps

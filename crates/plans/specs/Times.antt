@@ -2,14 +2,15 @@
 -- nanoseconds, and whole days of a duration where it does not. Definitions only.
 use mathlib.Core.Path.{_≡_}
 use mathlib.Core.Bool.{true, false, not, cond}
-use Prim.Native.Nat.{ℕ, suc, _+_, _-_, _*_, _%_, _^_, _<_}
+use Prim.Native.Nat.{ℕ, _+_, _-_, _*_, _%_, _^_, _<_}
 use lib.Dec.{eqb}
-use lib.IntN.{ℤ, pos, negsuc, natAbs, _+ℤ_, _-ℤ_, _*ℤ_}
+use lib.IntN.{ℤ, pos, natAbs, _+ℤ_, _-ℤ_}
 use lib.Signed.{ltZ, remZ}
-use Rattle.laws.specs.Numbers.{posPart}
+use Rattle.laws.specs.Numbers.{posPart, asU64}
+use Rattle.laws.specs.Units.{secondsPerDay}
 use Rattle.values.specs.declared.Value.{Value}
 use Rattle.values.specs.Values.{isDuration}
-use Rattle.values.specs.Differences.{unit, nanoseconds, fitsI64, wholeDays}
+use Rattle.values.specs.Differences.{unit, nanoseconds, fitsI64, daysIn, ofDays}
 use Rattle.axis.specs.declared.Axis.{Axis}
 use Rattle.axis.specs.Axes.{start, end, spanOf}
 use Rattle.axis.specs.Questions.{ends, inOrder, nearOrLong, equals}
@@ -27,16 +28,11 @@ periodIn a n = cond (fitsI64 (spanOf a)) (periodOf (posPart (spanOf a)) n (not (
 unfoldable pub shiftUp : ℕ → ℕ → ℕ
 shiftUp x k = cond (eqb (x % k) 0) 0 (k - x % k)
 
--- the 64 bits of a signed number
-abbrev pub bits : ℤ → ℕ
-bits (pos n) = n
-bits (negsuc n) = 2 ^ 64 - suc n
-
 -- from z to the first tick: none where k divides the bits of z. Else the remainder, which has the sign of z, is left
 -- behind: from above zero up to the next multiple of k, and from below toward zero
 unfoldable pub shiftOf : ℤ → ℕ → ℕ
 shiftOf z k =
-    cond (eqb (bits z % k) 0) 0
+    cond (eqb (asU64 z % k) 0) 0
     (cond (ltZ (pos 0) z) (k - natAbs (remZ z (pos k)))
     (natAbs (remZ z (pos k))))
 
@@ -65,18 +61,6 @@ pub record Timed (a : Axis) (k : ℕ) : Type 0 where
   pub small : k < 2 ^ 63
 
 -- ---- whole days of a duration
--- cut toward zero
-unfoldable pub daysIn : Value → ℤ
-daysIn v = wholeDays (nanoseconds (pos 7) v)
-
--- a day in seconds
-abbrev pub secondsPerDay : ℕ
-secondsPerDay = 86400
-
--- that many days as a value
-abbrev pub ofDays : ℤ → Value
-ofDays d = record { head = d *ℤ pos secondsPerDay; tail = pos 0 }
-
 -- the seconds of the first tick: the whole days of the start, and one more unless the start is whole days
 unfoldable pub firstSecond : Value → ℤ
 firstSecond v = ofDays (daysIn v) .head +ℤ cond (equals v (ofDays (daysIn v))) (pos 0) (pos secondsPerDay)

@@ -12,10 +12,13 @@ ghost use Rattle.values.specs.Values.{isValue};
 ghost use Rattle.values.specs.Differences.{unit};
 ghost use Rattle.axis.specs.Axes.{start};
 ghost use Rattle.counting.specs.Counting.{Dated};
-ghost use Rattle.plans.specs.Days.{evenly, weeksPer, dateStep, dayPlan};
+ghost use Rattle.plans.specs.Days.{evenly, dateStep, dayPlan};
+ghost use Rattle.floats.specs.Rounding.{ceilOf};
 ghost use Rattle.plans.specs.Months.{fromMonth, toMonth, yearStep, monthStep, monthsBy, monthPlan, yearPlan};
-ghost use Rattle.plans.specs.Times.{periodIn, shiftUp, bits, shiftOf, shift, timePlan, Timed};
-ghost use Rattle.plans.specs.Times.{daysIn, firstSecond, secondsLeft, spanDaysPlan, Long};
+ghost use Rattle.plans.specs.Times.{periodIn, shiftUp, shiftOf, shift, timePlan, Timed};
+ghost use Rattle.laws.specs.Numbers.{asU64};
+ghost use Rattle.plans.specs.Times.{firstSecond, secondsLeft, spanDaysPlan, Long};
+ghost use Rattle.values.specs.Differences.{daysIn};
 ghost use Rattle.plans.specs.Plans.{Accepted, periodPlan, planOf};
 
 // Ticks step apart from the number first to the number end, which is left out. A head has per numbers, and base is the
@@ -51,7 +54,7 @@ fn even_plan(e: Even) -> Steps
 // The weeks of a step, which no hint makes longer than all of them and one.
 fn weeks_per(w: u64, n: u64) -> u64
     requires { ⌜ (w < 4000000) × (n < w) ⌝ }
-    ensures { λ r. ⌜ r ≡ min (weeksPer w n) (w + 1) ⌝ }
+    ensures { λ r. ⌜ r ≡ min (ceilOf w n) (w + 1) ⌝ }
 {
     if n == 0 {
         return w + 1;
@@ -187,7 +190,7 @@ fn shift_up(x: u64, k: u64) -> u64
 
 // The 64 bits of a number, as Rust's `as u64`. 2^64 is no number here.
 fn bits(v: Nanoseconds) -> u64
-    ensures { λ r. ⌜ r ≡ bits (v .value) ⌝ }
+    ensures { λ r. ⌜ r ≡ asU64 (v .value) ⌝ }
 {
     let size = floats::unsigned_abs(v.value);
     if v.value < 0 {

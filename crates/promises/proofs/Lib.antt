@@ -1,4 +1,7 @@
 -- The claim, proved.
 pub mod Demand
+pub mod DayNumbers
+pub mod OpenRows
+pub mod Misreadings
 pub mod Examples
 pub mod WrongAnswers

@@ -19,13 +19,14 @@ use Rattle.axis.specs.Axes.{spanOf, offsetOf}
 use Rattle.axis.specs.Questions as asks
 use Rattle.mapping.specs.Mapping as mapping
 use Rattle.counting.specs.Counting as count
-use Rattle.period.specs.Ladders as ladder
-use Rattle.period.specs.Periods.{exponentUpTo, exponentOf, ladderOf, periodOf}
-use Rattle.steps.specs.Months as month
-use Rattle.plans.specs.Days.{weeksPer, dateStep, dayPlan}
-use Rattle.plans.specs.Plans as plan
-use Rattle.plans.specs.Times as time
-use Rattle.ticks.specs.Hints as hints
+use Rattle.floats.specs.Rounding.{ceilOf}
+use Rattle.keypoints.specs.Loops.{while}
+use Rattle.keypoints.specs.Dates as dates
+use Rattle.keypoints.specs.Months as months
+use Rattle.keypoints.specs.Periods as periods
+use Rattle.keypoints.specs.Times as times
+use Rattle.keypoints.specs.KeyPoints.{keyPoints}
+use Rattle.keypoints.specs.Hints.{lightKeyPoints, monthlyLight, keyPointsFor}
 use Rattle.ticks.specs.Answers as ticks
 use Rattle.discrete.specs.Indices as index
 use Rattle.discrete.specs.Answers as discrete
@@ -79,19 +80,23 @@ ruled (r ∷ rs) e =
 -- THE THEOREM, of all exports
 pub ruled-out : AllRuledOut wrongTable
 unfolding calendar.leap calendar.leapDay calendar.monthLength calendar.months calendar.yearLength calendar.years
-    calendar.dayNumber calendar.nextDay calendar.daysLater calendar.dateOf isDate inRanges numberOf dateAt ieee.span ieee.climb
-    ieee.size ieee.odd ieee.units ieee.round ieee.mul ieee.div ieee.ofInt ieee.toUnsigned ieee.toSigned rounding.floorF
-    rounding.ceilF rounding.roundF rounding.quotientOf nanoseconds difference nanosecondsOf isValue earlier spanOf offsetOf
-    asks.known asks.hasUnmap asks.hasIndex asks.hasPeriod asks.ends asks.inOrder asks.nearOrLong asks.boldHint asks.lightHint
-    asks.pixels asks.differ asks.unmapPixels asks.valueOn asks.mappable asks.checked asks.answered mapping.scaleOf
-    mapping.mapCoord mapping.placedBy mapping.placed mapping.mapped count.monthly count.yearly count.fromDay count.toDay
-    count.firstDate count.dateOn count.origin count.position count.sizeOf ladder.firstFrom ladder.rungOf ladder.firstFit
-    exponentUpTo exponentOf ladderOf periodOf month.monthOf month.wholeMonth month.firstDay weeksPer dateStep dayPlan
-    plan.periodPlan plan.planOf time.periodIn hints.refined ticks.ticksAnswer ticks.ticksWritten ticks.periodAnswer
-    index.isIndexed index.indexOf index.monthAt index.january index.valueAt index.indexAt index.indexUnder discrete.indexIn
-    discrete.nextIn discrete.previousIn discrete.valueIn discrete.sizeAnswer discrete.indexAnswer discrete.fromIndexAnswer
-    discrete.nextAnswer discrete.previousAnswer discrete.valuesAnswer discrete.valueUnder discrete.unmapAnswer
-    segments.segmentOn segments.segmentOf segments.segmentMappable segments.marginOf segments.inner segments.segmentWorked
+    calendar.dayNumber calendar.nextDay calendar.daysLater calendar.dateOf isDate inRanges numberOf dateAt ieee.span
+    ieee.climb ieee.size ieee.odd ieee.units ieee.round ieee.mul ieee.div ieee.ofInt ieee.toUnsigned ieee.toSigned
+    rounding.floorF rounding.ceilF rounding.ceilOf rounding.roundF rounding.quotientOf nanoseconds difference nanosecondsOf
+    isValue earlier spanOf offsetOf asks.known asks.hasUnmap asks.hasIndex asks.hasPeriod asks.ends asks.inOrder
+    asks.nearOrLong asks.boldHint asks.lightHint asks.pixels asks.differ asks.unmapPixels asks.valueOn asks.mappable
+    asks.checked asks.answered mapping.scaleOf mapping.mapCoord mapping.placedBy mapping.placed mapping.mapped count.monthly
+    count.yearly count.fromDay count.toDay count.firstDate count.dateOn count.origin count.position count.sizeOf while
+    dates.datesFrom dates.dateKeyPoints months.startOf months.carried months.generateKeyPoints months.lastYear
+    months.exp10From months.tryFreq months.freqOf months.generateYearlyKeypoints months.totalMonth months.monthsFrom
+    months.monthKeyPoints periods.exponentFrom periods.determineActual periods.daysFrom periods.periodFrom
+    periods.computePeriodPerPoint times.plus times.periodOn times.alignedUp times.dateTimesBy times.dateTimeKeyPoints
+    times.aligned times.durationOf times.durationsBy times.durationKeyPoints keyPoints monthlyLight lightKeyPoints
+    keyPointsFor ticks.ticksAnswer ticks.ticksWritten ticks.periodAnswer index.isIndexed index.indexOf index.monthAt
+    index.january index.valueAt index.indexAt index.indexUnder discrete.indexIn discrete.nextIn discrete.previousIn
+    discrete.valueIn discrete.sizeAnswer discrete.indexAnswer discrete.fromIndexAnswer discrete.nextAnswer
+    discrete.previousAnswer discrete.valuesAnswer discrete.valueUnder discrete.unmapAnswer segments.segmentOn
+    segments.segmentOf segments.segmentMappable segments.marginOf segments.inner segments.segmentWorked
     segmented.segmentMapAnswer segmented.segmentSizeAnswer segmented.segmentIndexIn segmented.segmentIndexAnswer
     segmented.segmentAt segmented.segmentFromAnswer segmented.segmentTicksAnswer segmented.segmentTicksWritten
 ruled-out = ruled wrongTable refl

@@ -1,40 +1,53 @@
--- Demand 3 as one claim, over the definitions that the exports' statements cite. Definitions only.
+-- Demand 3 as one claim, of the numbers that the calls answer and leave. Definitions only.
 -- Its words are defined where they belong: lists in steps/specs/Promise.antt, days and pixels in mapping/specs/Days.antt.
 use mathlib.Core.Path.{_≡_}
 use mathlib.Core.List.{List}
-use Prim.Native.Nat.{ℕ, _*_}
-use lib.IntN.{ℤ}
+use Prim.Native.Nat.{ℕ, _+_, _*_, _≤_}
+use lib.IntN.{ℤ, pos}
 use lib.ListN.{length, take}
+use Rattle.values.specs.declared.Value.{Value}
+use Rattle.values.specs.Values.{midnight}
 use Rattle.axis.specs.declared.Axis.{Axis}
+use Rattle.axis.specs.declared.Hint.{Hint}
 use Rattle.axis.specs.declared.Limits.{Limits}
 use Rattle.axis.specs.Axes.{start, end}
-use Rattle.mapping.specs.declared.Pixel.{Pixel}
-use Rattle.mapping.specs.declared.Pixel.the-variants.{At}
 use Rattle.mapping.specs.Mapping.{mapped}
 use Rattle.mapping.specs.Days.{DayOf, MorePixels}
-use Rattle.values.specs.Values.{midnight}
-use Rattle.steps.specs.declared.Listed.{Listed}
-use Rattle.steps.specs.declared.Listed.the-variants.{Ticks}
 use Rattle.steps.specs.Promise.{Fine}
-use Rattle.axis.specs.declared.Hint.{Hint}
-use Rattle.ticks.specs.Hints.{limit}
-use Rattle.ticks.specs.Answers.{ticksAnswer, ticksWritten}
+use Rattle.keypoints.specs.Hints.{limit}
+use Rattle.ticks.specs.Answers.{ticksAnswer, ticksWritten, ticksHanded}
+use Rattle.segmented.specs.Answers.{segmentTicksAnswer, segmentTicksWritten}
+use Rattle.ordered.specs.declared.OrderedNumber.{OrderedNumber}
+use Rattle.ordered.specs.declared.OrderedPixel.{OrderedPixel}
+use Rattle.ordered.specs.Replies.{countReply, pixelReply}
 
--- a call with the hint h that answered r and left l in the lent numbers: where r is a count c, the c pairs at the front of l
--- are at most N + 1, each later than the one before, none after the end, none before the whole second of the start
-abbrev pub FineList : Axis → Hint → Listed → List ℤ → Type 0
-FineList a h r l = (c : ℕ) → r ≡ Ticks c → Fine (limit h) (start a) (end a) (take (2 * c) l)
+-- a count that is answered, where N is n and l are the lent numbers after the call: at most N + 1, the lent numbers hold two
+-- for each tick, and these are later each, none after the end, none before the whole second of the start
+pub record FineCount (n : ℕ) (start end : Value) (value : ℤ) (l : List ℤ) : Type 0 where
+  pub count : ℕ
+  pub counted : value ≡ pos count
+  pub few : count ≤ n + 1
+  pub held : 2 * count ≤ length l
+  pub fine : Fine n start end (take (2 * count) l)
 
--- mappings that answered x for the day i and y for the day j: where both are pixels, the days are different days of a date
+-- a call with the hint h that answered r and left l in the lent numbers, where it was not refused
+abbrev pub FineList : Axis → Hint → OrderedNumber → List ℤ → Type 0
+FineList a h r l = r .status ≡ pos 0 → FineCount (limit h) (start a) (end a) (r .value) l
+
+-- the part that is handed back, which is empty where the call was refused
+abbrev pub FinePart : Axis → Hint → List ℤ → Type 0
+FinePart a h part = Fine (limit h) (start a) (end a) part
+
+-- mappings that answered x for the day i and y for the day j: where none was refused, the days are different days of a date
 -- axis, and there are more pixels than days, the pixels differ
-abbrev pub DaysApart : Axis → Limits → ℤ → ℤ → Pixel → Pixel → Type 0
+abbrev pub DaysApart : Axis → Limits → ℤ → ℤ → OrderedPixel → OrderedPixel → Type 0
 DaysApart a l i j x y =
-    (p q : ℤ) → MorePixels a l → DayOf a i → DayOf a j → (i ≡ j → ⊥)
-    → x ≡ At p → y ≡ At q → p ≡ q → ⊥
+    MorePixels a l → DayOf a i → DayOf a j → (i ≡ j → ⊥) → x .status ≡ pos 0 → y .status ≡ pos 0 → x .pixel ≡ y .pixel → ⊥
 
--- the demand: for all kinds, spans, hints, lent slices, limits and pairs of days
-abbrev pub Demand3 : Type 0
-Demand3 =
-    (a : Axis) (h : Hint) (d : List ℤ) (l : Limits) (i j : ℤ)
-    → FineList a h (ticksAnswer a h (length d)) (ticksWritten a h d) × DaysApart a l i j (mapped a l (midnight i))
-    (mapped a l (midnight j))
+-- the demand, of an axis, a hint, lent numbers, limits and two days: `ordered_ticks_bold` and `_light`, the same of segments,
+-- `key_points`, and `ordered_map`; only pixels of segment values are apart
+pub record Demand3 (a : Axis) (h : Hint) (d : List ℤ) (l : Limits) (i j : ℤ) : Type 0 where
+  pub listed : FineList a h (countReply (ticksAnswer a h (length d))) (ticksWritten a h d)
+  pub segments : FineList a h (countReply (segmentTicksAnswer a h (length d))) (segmentTicksWritten a h d)
+  pub handed : FinePart a h (ticksHanded a h (length d))
+  pub apart : DaysApart a l i j (pixelReply (mapped a l (midnight i))) (pixelReply (mapped a l (midnight j)))

@@ -4,6 +4,7 @@ use mathlib.Core.Path.{_≡_}
 use mathlib.Core.List.{List, [], _∷_, _++_}
 use Prim.Native.Nat.{ℕ}
 use lib.IntN.{ℤ, pos}
+use lib.ListN.{length, drop}
 use Rattle.values.specs.declared.Value.{Value}
 use Rattle.axis.specs.declared.Axis.{Axis}
 use Rattle.axis.specs.declared.Limits.{Limits}
@@ -14,7 +15,7 @@ use Rattle.axis.specs.declared.Hint.the-variants.{Bold}
 use Rattle.axis.specs.Axes.{axisOf}
 use Rattle.laws.specs.Numbers.{minus}
 use Rattle.values.specs.Values.{midnight}
-use Rattle.ticks.specs.Answers.{ticksAnswer, ticksHanded, periodAnswer}
+use Rattle.ticks.specs.Answers.{ticksAnswer, ticksWritten, periodAnswer}
 use Rattle.discrete.specs.Answers.{sizeAnswer, indexAnswer, unmapAnswer}
 use Rattle.segmented.specs.declared.Segment.{Segment}
 use Rattle.segmented.specs.Answers.{segmentMapAnswer}
@@ -64,9 +65,13 @@ limitsOf low high = record { low = low; high = high }
 abbrev pub centreAt : Value → Segment
 centreAt v = record { case = pos 2; head = v .head; tail = v .tail }
 
--- the count of ticks, and the list that is handed back
-abbrev pub listedWith : Axis → Hint → List ℤ
-listedWith a h = countNumbers (countReply (ticksAnswer a h 8194)) ++ ticksHanded a h 8194
+-- the count of ticks, and all lent numbers after the call, where d are those before it
+abbrev pub listedInto : Axis → Hint → List ℤ → List ℤ
+listedInto a h d = countNumbers (countReply (ticksAnswer a h (length d))) ++ ticksWritten a h d
+
+-- six lent numbers before a call
+abbrev pub sevens : List ℤ
+sevens = pos 7 ∷ (pos 7 ∷ (pos 7 ∷ (pos 7 ∷ (pos 7 ∷ (pos 7 ∷ [])))))
 
 -- ---- the rows
 pub record Example : Type 0 where
@@ -89,25 +94,28 @@ leap-year = record { answer = countNumbers (dayReply (numberOf (ymd 2000 2 29)))
 abbrev pub six-days : Example
 six-days =
     record {
-      answer = listedWith (axisFrom (pos 1) (midnight (pos 737850)) (midnight (pos 737856))) (boldOf 0);
-      settled = pos 0 ∷ (pos 1 ∷ (pos 737850 ∷ (pos 0 ∷ [])));
+      answer = listedInto (axisFrom (pos 1) (midnight (pos 737850)) (midnight (pos 737856))) (boldOf 0) sevens;
+      settled = pos 0 ∷ (pos 1 ∷ (pos 737850 ∷ (pos 0 ∷ drop 2 sevens)));
     }
 
 -- dates 14 days apart, N 1: start, end
 abbrev pub two-weeks : Example
 two-weeks =
     record {
-      answer = listedWith (axisFrom (pos 1) (midnight (pos 737850)) (midnight (pos 737864))) (boldOf 1);
-      settled = pos 0 ∷ (pos 2 ∷ (pos 737850 ∷ (pos 0 ∷ (pos 737864 ∷ (pos 0 ∷ [])))));
+      answer = listedInto (axisFrom (pos 1) (midnight (pos 737850)) (midnight (pos 737864))) (boldOf 1) sevens;
+      settled = pos 0 ∷ (pos 2 ∷ (pos 737850 ∷ (pos 0 ∷ (pos 737864 ∷ (pos 0 ∷ drop 4 sevens)))));
     }
+
+-- kind 4, from the first midnight to a nanosecond of the twelfth day
+abbrev pub spanFrom : ℕ → Axis
+spanFrom t = axisFrom (pos 4) (midnight (pos 1)) (atNano (midnight (pos 12)) t)
 
 -- span 10^15 - 1 ns, N 100, kind 4: period 5 h
 abbrev pub below-the-power : Example
 below-the-power =
     record {
       answer = periodNumbers
-          (periodReply (periodAnswer (axisFrom (pos 4) (midnight (pos 1)) (atNano (midnight (pos 12)) 49599999999999))
-          (record { n = pos 100 })));
+          (periodReply (periodAnswer (spanFrom 49599999999999) (record { n = pos 100 })));
       settled = pos 0 ∷ (pos 18000000000000 ∷ []);
     }
 
@@ -116,8 +124,7 @@ abbrev pub at-the-power : Example
 at-the-power =
     record {
       answer = periodNumbers
-          (periodReply (periodAnswer (axisFrom (pos 4) (midnight (pos 1)) (atNano (midnight (pos 12)) 49600000000000))
-          (record { n = pos 100 })));
+          (periodReply (periodAnswer (spanFrom 49600000000000) (record { n = pos 100 })));
       settled = pos 0 ∷ (pos 14400000000000 ∷ []);
     }
 
@@ -125,12 +132,12 @@ at-the-power =
 abbrev pub negative-start : Example
 negative-start =
     record {
-      answer = listedWith (axisFrom (pos 7) (record { head = minus 1; tail = pos 999999999 }) (record {
+      answer = listedInto (axisFrom (pos 7) (record { head = minus 1; tail = pos 999999999 }) (record {
         head = pos 0;
         tail =
             pos 4;
-      })) (boldOf 1);
-      settled = pos 0 ∷ (pos 1 ∷ (minus 1 ∷ (pos 999999999 ∷ [])));
+      })) (boldOf 1) sevens;
+      settled = pos 0 ∷ (pos 1 ∷ (minus 1 ∷ (pos 999999999 ∷ drop 2 sevens)));
     }
 
 -- 2021-03-01 to 03-10, limits 0, 100, pixel 100: 2021-03-11
@@ -159,8 +166,8 @@ new-year = axisFrom (pos 5) (atNano (midnight (pos 738155)) 36000000000000) (atN
 abbrev pub no-whole-month : Example
 no-whole-month =
     record {
-      answer = countNumbers (numberReply (sizeAnswer new-year)) ++ listedWith new-year (boldOf 10);
-      settled = pos 0 ∷ (pos 12 ∷ (pos 0 ∷ (pos 0 ∷ [])));
+      answer = countNumbers (numberReply (sizeAnswer new-year)) ++ listedInto new-year (boldOf 10) sevens;
+      settled = pos 0 ∷ (pos 12 ∷ (pos 0 ∷ (pos 0 ∷ sevens)));
     }
 
 -- dates 2021-03-01 to 03-03, limits 0, 100, centre of the first: 16

@@ -1,4 +1,6 @@
 -- What the claim says, and the settled examples.
 pub mod Demand
 pub mod Examples
+pub mod OpenRows
+pub mod Misreadings
 pub mod WrongAnswers

@@ -12,7 +12,7 @@ use Rattle.axis.specs.declared.Hint.{Hint}
 use Rattle.axis.specs.declared.Hint.the-variants.{Light}
 use Rattle.laws.specs.Numbers.{minus}
 use Rattle.values.specs.Values.{midnight}
-use Rattle.ticks.specs.Answers.{ticksAnswer, ticksWritten, periodAnswer}
+use Rattle.ticks.specs.Answers.{ticksAnswer, periodAnswer}
 use Rattle.discrete.specs.Answers.{sizeAnswer, indexAnswer, fromIndexAnswer, nextAnswer, previousAnswer}
 use Rattle.discrete.specs.Answers.{valuesAnswer, unmapAnswer}
 use Rattle.segmented.specs.Answers.{segmentMapAnswer, segmentTicksAnswer, segmentTicksWritten, segmentSizeAnswer}
@@ -23,7 +23,7 @@ use Rattle.ordered.specs.declared.OrderedSegment.{OrderedSegment}
 use Rattle.ordered.specs.Replies.{dayReply, dateReply, pixelReply, countReply, periodReply, numberReply, valueReply}
 use Rattle.ordered.specs.Replies.{stepReply, segmentReply}
 use Rattle.promises.specs.Examples.{countNumbers, pixelNumbers, periodNumbers, valueNumbers, ymd, atNano}
-use Rattle.promises.specs.Examples.{axisFrom, boldOf, limitsOf, centreAt}
+use Rattle.promises.specs.Examples.{axisFrom, boldOf, limitsOf, centreAt, listedInto, sevens}
 
 -- the numbers of a date
 abbrev pub dateNumbers : OrderedDate → List ℤ
@@ -37,15 +37,7 @@ stepNumbers r = r .status ∷ (r .head ∷ (r .tail ∷ (r .next ∷ [])))
 abbrev pub segmentNumbers : OrderedSegment → List ℤ
 segmentNumbers r = r .status ∷ (r .segment ∷ (r .head ∷ (r .tail ∷ [])))
 
--- six lent numbers before a call, and what it answers and leaves in them
-abbrev pub sevens : List ℤ
-sevens = pos 7 ∷ (pos 7 ∷ (pos 7 ∷ (pos 7 ∷ (pos 7 ∷ (pos 7 ∷ [])))))
-
--- a list in these numbers
-abbrev pub listedInto : Axis → Hint → List ℤ
-listedInto a h = countNumbers (countReply (ticksAnswer a h (length sevens))) ++ ticksWritten a h sevens
-
--- a list of segments in these numbers
+-- a list of segments in six lent numbers
 abbrev pub segmentsInto : Axis → Hint → List ℤ
 segmentsInto a h = countNumbers (countReply (segmentTicksAnswer a h (length sevens))) ++ segmentTicksWritten a h sevens
 
@@ -92,7 +84,7 @@ ordered-map =
 abbrev pub ordered-ticks-bold : Row
 ordered-ticks-bold =
     record {
-      answer = listedInto (axisFrom (pos 1) (midnight (pos 1)) (midnight (pos 15))) (boldOf 1);
+      answer = listedInto (axisFrom (pos 1) (midnight (pos 1)) (midnight (pos 15))) (boldOf 1) sevens;
       wrong = pos 0 ∷ (pos 1 ∷ (pos 1 ∷ (pos 0 ∷ (pos 7 ∷ (pos 7 ∷ (pos 7 ∷ (pos 7 ∷ [])))))));
       other = pos 0 ∷ (pos 2 ∷ sevens);
     }
@@ -101,7 +93,7 @@ ordered-ticks-bold =
 abbrev pub ordered-ticks-light : Row
 ordered-ticks-light =
     record {
-      answer = listedInto (axisFrom (pos 2) (midnight (pos 1)) (midnight (pos 60))) (lightOf 2 2);
+      answer = listedInto (axisFrom (pos 2) (midnight (pos 1)) (midnight (pos 60))) (lightOf 2 2) sevens;
       wrong = pos 0 ∷ (pos 3 ∷ (pos 1 ∷ (pos 0 ∷ (pos 32 ∷ (pos 0 ∷ (pos 60 ∷ (pos 0 ∷ [])))))));
       other = pos 6 ∷ (pos 0 ∷ sevens);
     }

@@ -1,14 +1,15 @@
-// Demand 3 as one claim about what the calls hand back: a function that makes the calls, and ensures it of their answers.
+// Demand 3 as one claim about what the calls of C hand back: functions that make the calls, and ensure it of their answers.
 // specs/Demand.antt has the claim, proofs/Demand.antt its theorem.
 use axis::Axis;
 use axis::Hint;
 use axis::Limits;
-use mapping::Pixel;
-use steps::Listed;
-use values::Value;
+use ordered::OrderedNumber;
+use ordered::OrderedPixel;
 ghost use mathlib.Core.Path.{_≡_};
+ghost use Rattle.mapping.specs.Mapping.{mapped};
 ghost use Rattle.values.specs.Values.{midnight};
-ghost use Rattle.promises.specs.Demand.{FineList, DaysApart};
+ghost use Rattle.ordered.specs.Replies.{pixelReply};
+ghost use Rattle.promises.specs.Demand.{FineList, FinePart, DaysApart};
 
 // Two day numbers.
 pub struct TwoDays {
@@ -16,26 +17,96 @@ pub struct TwoDays {
     pub second: i64,
 }
 
-// What the calls handed back: the list's answer, and the pixels of the two days.
-pub struct HandedBack {
-    pub listed: Listed,
-    pub first: Pixel,
-    pub second: Pixel,
+// What the mappings of two days answered.
+pub struct TwoPixels {
+    pub first: OrderedPixel,
+    pub second: OrderedPixel,
 }
 
-fn at_midnight_of(n: i64) -> Value
-    ensures { λ r. ⌜ r ≡ midnight n ⌝ }
+// The ticks of an axis, by the export of the hint.
+pub fn ticks_listed(a: Axis, h: Hint, lent: &mut [i64]) -> OrderedNumber
+    ensures { λ r. ⌜ FineList a h r (now (lent .exit)) ⌝ }
 {
-    Value { head: n, tail: 0 }
+    match h {
+        Hint::Bold(b) => ordered::ordered_ticks_bold(
+            a.kind,
+            a.start_head,
+            a.start_tail,
+            a.end_head,
+            a.end_tail,
+            b.n,
+            lent,
+        ),
+        Hint::Light(l) => ordered::ordered_ticks_light(
+            a.kind,
+            a.start_head,
+            a.start_tail,
+            a.end_head,
+            a.end_tail,
+            l.bold,
+            l.n,
+            lent,
+        ),
+    }
 }
 
-pub fn list_and_map(a: Axis, h: Hint, l: Limits, d: TwoDays, lent: &mut [i64]) -> HandedBack
-    ensures { λ r. ⌜ FineList a h (r .listed) (now (lent .exit)) ⌝ }
+// The ticks of an axis' segments, by the export of the hint.
+pub fn segment_ticks_listed(a: Axis, h: Hint, lent: &mut [i64]) -> OrderedNumber
+    ensures { λ r. ⌜ FineList a h r (now (lent .exit)) ⌝ }
+{
+    match h {
+        Hint::Bold(b) => ordered::ordered_segment_ticks_bold(
+            a.kind,
+            a.start_head,
+            a.start_tail,
+            a.end_head,
+            a.end_tail,
+            b.n,
+            lent,
+        ),
+        Hint::Light(l) => ordered::ordered_segment_ticks_light(
+            a.kind,
+            a.start_head,
+            a.start_tail,
+            a.end_head,
+            a.end_tail,
+            l.bold,
+            l.n,
+            lent,
+        ),
+    }
+}
+
+// The part of the lent numbers that is handed back, with a bold or a light hint.
+pub fn part_handed(a: Axis, h: Hint, lent: &mut [i64]) -> &mut [i64]
+    ensures { λ r. ⌜ FinePart a h (now r) ⌝ }
+{
+    ticks::key_points(a, h, lent)
+}
+
+// The pixel of a day.
+fn day_mapped(a: Axis, l: Limits, day: i64) -> OrderedPixel
+    ensures { λ r. ⌜ r ≡ pixelReply (mapped a l (midnight day)) ⌝ }
+{
+    ordered::ordered_map(
+        a.kind,
+        a.start_head,
+        a.start_tail,
+        a.end_head,
+        a.end_tail,
+        l.low,
+        l.high,
+        day,
+        0,
+    )
+}
+
+// The pixels of two days.
+pub fn days_mapped(a: Axis, l: Limits, d: TwoDays) -> TwoPixels
     ensures { λ r. ⌜ DaysApart a l (d .first) (d .second) (r .first) (r .second) ⌝ }
 {
-    HandedBack {
-        listed: ticks::list(a, h, lent),
-        first: mapping::map(a, l, at_midnight_of(d.first)),
-        second: mapping::map(a, l, at_midnight_of(d.second)),
+    TwoPixels {
+        first: day_mapped(a, l, d.first),
+        second: day_mapped(a, l, d.second),
     }
 }

@@ -14,12 +14,12 @@ use lib.ListN.{length, take}
 use Rattle.steps.specs.declared.Steps.{Steps}
 use Rattle.values.specs.declared.Value.{Value}
 use Rattle.steps.specs.declared.Listed.the-variants.{Ticks}
-use Rattle.steps.specs.Progression.{fitting, numberAt, tickOfNumber, tickOf, Sound}
-use Rattle.steps.specs.Listing.{pairs, ticks, hasRoom, listedOf, lentAfter, front, countOf}
+use Rattle.steps.specs.Progression.{fitting, numberAt, tickOfNumber, tickOf, ticks, Sound}
+use Rattle.steps.specs.Listing.{numbers, hasRoom, listedOf, lentAfter, front, countOf}
 use Rattle.steps.specs.Promise.{Later, wholeSecond, Fine}
 use Rattle.steps.proofs.Fitting.{inside}
 use Rattle.steps.proofs.Places.{next-place}
-use Rattle.steps.proofs.Pairs.{length-pairs, nth-pairs}
+use Rattle.steps.proofs.Pairs.{pairs, pairs-are, length-pairs, nth-pairs}
 use Rattle.steps.proofs.Fronts.{front-is}
 use Rattle.steps.proofs.Order.{trans, later}
 
@@ -74,15 +74,16 @@ module _ (s : Steps) (n room last : ℕ) (start end : Value) (p : 0 < s .per) (k
         | inr q ↦ to (trans l (later s x last p q))
       ]
 
-  pub steps-fine : Fine n start end (ticks s)
+  pub steps-fine : Fine n start end (numbers (ticks s))
   steps-fine =
-      pairs-fine (tickOf s) (s .count) n start end (k .few)
+      rw (pairs-are (tickOf s) (s .count))
+      (pairs-fine (tickOf s) (s .count) n start end (k .few)
       (λ i h. later s (numberAt s i) (numberAt s (i + 1)) p (step-up i))
       (λ i h. not-after (numberAt s i) (in-room i h))
-      (λ i h. let a : s .first ≤ numberAt s i = omega arith in not-before (numberAt s i) a)
+      (λ i h. let a : s .first ≤ numberAt s i = omega arith in not-before (numberAt s i) a))
 
 -- ---- what a caller reads after the call
-none-fine : (n : ℕ) (start end : Value) → Fine n start end []
+pub none-fine : (n : ℕ) (start end : Value) → Fine n start end []
 none-fine n start end = record {
   paired = refl;
   few = omega arith;
@@ -92,24 +93,23 @@ none-fine n start end = record {
 }
 
 -- the part that is handed back; a refused call's is empty
-front-fine : (s : Steps) (k n : ℕ) (start end : Value) → Fine n start end (ticks s) → Fine n start end (front s k)
-front-fine s k n start end f = go (hasRoom s k)
+pub front-fine : (l : List Value) (k n : ℕ) (start end : Value) → Fine n start end (numbers l) → Fine n start end (front l k)
+front-fine l k n start end f = go (hasRoom l k)
   where
-    go : (b : Bool) → Fine n start end (cond b (ticks s) [])
+    go : (b : Bool) → Fine n start end (cond b (numbers l) [])
     go true = f
     go false = none-fine n start end
 
 -- the part that the answer counts, of all lent numbers
-counted-fine : (s : Steps) (d : List ℤ) (n : ℕ) (start end : Value) → Fine n start end (ticks s)
-    → Fine n start end (take (2 * countOf (listedOf s (length d))) (lentAfter s d))
-counted-fine s d n start end f = rw (front-is s d) (front-fine s (length d) n start end f)
+counted-fine : (l : List Value) (d : List ℤ) (n : ℕ) (start end : Value) → Fine n start end (numbers l)
+    → Fine n start end (take (2 * countOf (listedOf l (length d))) (lentAfter l d))
+counted-fine l d n start end f = rw (front-is l d) (front-fine l (length d) n start end f)
 
 -- the same where the answer is a count
-pub read-fine : (s : Steps) (d : List ℤ) (n c : ℕ) (start end : Value) → Fine n start end (ticks s) → listedOf s (length d)
-    ≡ Ticks c
-    → Fine n start end (take (2 * c) (lentAfter s d))
-read-fine s d n c start end f e = subst (λ (x : ℕ). Fine n start end (take (2 * x) (lentAfter s d))) (ap countOf e)
-    (counted-fine s d n start end f)
+pub read-fine : (l : List Value) (d : List ℤ) (n c : ℕ) (start end : Value) → Fine n start end (numbers l)
+    → listedOf l (length d) ≡ Ticks c → Fine n start end (take (2 * c) (lentAfter l d))
+read-fine l d n c start end f e = subst (λ (x : ℕ). Fine n start end (take (2 * x) (lentAfter l d))) (ap countOf e)
+    (counted-fine l d n start end f)
 
 -- ---- the same facts keep a progression in range
 last-in : (k c n room : ℕ) → Kept k c n room → (c - 1) * k ≤ room

@@ -11,6 +11,11 @@ pub inside : (room k i : ℕ) → 0 < k → i < fitting room k → i * k < room
 inside zero k i p h = absurd (not-suc-le-zero h)
 inside (suc r) k i p h = let a : i ≤ r / k = omega arith in omega (arith, le-div-iff-mul-le p .0 a)
 
+-- as many steps as fit reach the end of the room
+pub all-fit : (room k : ℕ) → 0 < k → room ≤ fitting room k * k
+all-fit zero k p = omega arith
+all-fit (suc r) k p = let h : r / k < r / k + 1 = omega arith in omega (arith, div-lt-iff-lt-mul p .0 h)
+
 -- a room of n + 1 steps has no more
 pub few-steps : (room k n : ℕ) → 0 < k → room ≤ (n + 1) * k → fitting room k ≤ n + 1
 few-steps zero k n p h = omega arith

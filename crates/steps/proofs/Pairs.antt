@@ -1,6 +1,6 @@
--- A list of pairs: its length, the tick that is read at each place, and how a lent slice comes to hold it, two stores for
--- each tick. Assumes nothing.
-use mathlib.Core.Path.{_≡_, refl, sym, _∙_}
+-- The numbers of a list of ticks: their length, the tick that is read at each place, and how a lent slice comes to hold
+-- them, two stores for each tick. Assumes nothing.
+use mathlib.Core.Path.{_≡_, refl, sym, ap, _∙_}
 use mathlib.Core.Logic.{inl, inr}
 use mathlib.Core.List.{List, [], _∷_, _++_}
 use Prim.Native.Nat.{ℕ, zero, suc, _+_, _*_, _≤_, _<_}
@@ -13,11 +13,29 @@ use lib.Seq.{getD-at}
 use Rattle.laws.proofs.Lent.{length-push, push-two}
 use Rattle.steps.specs.declared.Steps.{Steps}
 use Rattle.values.specs.declared.Value.{Value}
-use Rattle.steps.specs.Progression.{tickOf}
-use Rattle.steps.specs.Listing.{pairs, ticks}
+use Rattle.steps.specs.Progression.{tickOf, valuesOf, ticks}
+use Rattle.steps.specs.Listing.{numbers}
 use Rattle.steps.specs.Promise.{nth}
 
+-- n pairs, as two stores for each make them
+abbrev pub pairs : (ℕ → Value) → ℕ → List ℤ
+pairs f zero = []
+pairs f (suc n) = (pairs f n ++ (f n .head ∷ [])) ++ (f n .tail ∷ [])
+
+numbers-push : (l : List Value) (t : Value) → numbers (l ++ (t ∷ [])) ≡ (numbers l ++ (t .head ∷ [])) ++ (t .tail ∷ [])
+numbers-push [] t = refl
+numbers-push (x ∷ l) t = ap (λ (r : List ℤ). x .head ∷ (x .tail ∷ r)) (numbers-push l t)
+
 module _ (f : ℕ → Value) where
+  -- they are the numbers of n ticks
+  pub pairs-are : (n : ℕ) → numbers (valuesOf f n) ≡ pairs f n
+  pairs-are zero = refl
+  pairs-are (suc n) = numbers-push (valuesOf f n) (f n) ∙ rw (pairs-are n)
+
+  pub length-values : (n : ℕ) → length (valuesOf f n) ≡ n
+  length-values zero = refl
+  length-values (suc n) = simp length-append (omega (arith, length-values n))
+
   pub length-pairs : (n : ℕ) → length (pairs f n) ≡ 2 * n
   length-pairs zero = refl
   length-pairs (suc n) = simp length-append (omega (arith, length-pairs n))
@@ -54,6 +72,15 @@ module _ (f : ℕ → Value) where
   pub nth-pairs : (n i : ℕ) → i < n → nth (pairs f n) i ≡ f i
   nth-pairs n i h = λ k. record { head = head-at n i h k; tail = tail-at n i h k }
 
+-- a progression has as many ticks as it counts
+pub count-is : (s : Steps) → length (ticks s) ≡ s .count
+count-is s = length-values (tickOf s) (s .count)
+
+-- and two numbers for each tick of a list
+pub length-numbers : (l : List Value) → length (numbers l) ≡ 2 * length l
+length-numbers [] = refl
+length-numbers (t ∷ l) = omega (arith, length-numbers l)
+
 -- ---- d with the ticks before place i written at its front
 pub record Written (s : Steps) (d l : List ℤ) (i at : ℕ) : Type 0 where
   pub turns : i ≤ s .count
@@ -78,8 +105,8 @@ module _ {s : Steps} {d l : List ℤ} {i at : ℕ} (w : Written s d l i at) wher
             (length-pairs (tickOf s) i ∙ sym (w .at-is)) next);
       }
 
-  pub all-written : s .count ≤ i → l ≡ ticks s ++ drop (2 * s .count) d
+  pub all-written : s .count ≤ i → l ≡ numbers (ticks s) ++ drop (2 * s .count) d
   all-written h =
       let i≡ : i ≡ s .count = omega (arith, w .turns) in
       let at≡ : at ≡ 2 * s .count = omega (arith, w .at-is) in
-      rw (← at≡, ← i≡) (w .list-is)
+      rw (pairs-are (tickOf s) (s .count), ← at≡, ← i≡) (w .list-is)

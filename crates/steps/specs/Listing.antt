@@ -1,40 +1,34 @@
--- The numbers of a list, and what a lent slice holds after it was listed. Definitions only.
-use Prim.Native.Nat.{ℕ, zero, suc, _*_}
+-- A list of ticks in lent numbers: what listing answers, and what the lent slice holds after it. Definitions only.
+use Prim.Native.Nat.{ℕ, _*_}
 use mathlib.Core.Bool.{Bool, cond}
 use mathlib.Core.List.{List, [], _∷_, _++_}
 use lib.IntN.{ℤ}
 use lib.Dec.{leb}
 use lib.ListN.{length, drop}
-use Rattle.steps.specs.declared.Steps.{Steps}
 use Rattle.values.specs.declared.Value.{Value}
 use Rattle.steps.specs.declared.Listed.{Listed}
 use Rattle.steps.specs.declared.Listed.the-variants.{Refused, Ticks}
-use Rattle.steps.specs.Progression.{tickOf}
 
--- n pairs: the head and then the tail of each tick
-abbrev pub pairs : (ℕ → Value) → ℕ → List ℤ
-pairs f zero = []
-pairs f (suc n) = (pairs f n ++ (f n .head ∷ [])) ++ (f n .tail ∷ [])
-
--- the numbers of a whole list
-abbrev pub ticks : Steps → List ℤ
-ticks s = pairs (tickOf s) (s .count)
+-- the head and then the tail of each tick
+abbrev pub numbers : List Value → List ℤ
+numbers [] = []
+numbers (t ∷ ts) = t .head ∷ (t .tail ∷ numbers ts)
 
 -- question 11: has the lent slice, of k numbers, two for each tick?
-abbrev pub hasRoom : Steps → ℕ → Bool
-hasRoom s k = leb (2 * s .count) k
+abbrev pub hasRoom : List Value → ℕ → Bool
+hasRoom l k = leb (2 * length l) k
 
 -- what a list answers where k numbers are lent
-abbrev pub listedOf : Steps → ℕ → Listed
-listedOf s k = cond (hasRoom s k) (Ticks (s .count)) (Refused 11)
+abbrev pub listedOf : List Value → ℕ → Listed
+listedOf l k = cond (hasRoom l k) (Ticks (length l)) (Refused 11)
 
 -- the list and then the old numbers, or all old numbers
-abbrev pub lentAfter : Steps → List ℤ → List ℤ
-lentAfter s d = cond (hasRoom s (length d)) (ticks s ++ drop (2 * s .count) d) d
+abbrev pub lentAfter : List Value → List ℤ → List ℤ
+lentAfter l d = cond (hasRoom l (length d)) (numbers l ++ drop (2 * length l) d) d
 
 -- the part that is handed back
-abbrev pub front : Steps → ℕ → List ℤ
-front s k = cond (hasRoom s k) (ticks s) []
+abbrev pub front : List Value → ℕ → List ℤ
+front l k = cond (hasRoom l k) (numbers l) []
 
 -- the count of an answer, 0 if it was refused
 abbrev pub countOf : Listed → ℕ

@@ -1,7 +1,8 @@
--- A progression: its numbers, and the tick of each. Definitions only.
+-- A progression: its numbers, the tick of each, and the list of its ticks. Definitions only.
 use Prim.Native.Nat.{ℕ, zero, suc, _+_, _-_, _*_, _/_, _%_, _^_, _<_}
 use mathlib.Core.Path.{_≡_}
 use mathlib.Core.Bool.{true, cond}
+use mathlib.Core.List.{List, [], _∷_, _++_}
 use lib.IntN.{pos, _+ℤ_}
 use lib.Signed.{mag}
 use Rattle.steps.specs.declared.Steps.{Steps}
@@ -33,6 +34,15 @@ tickOfNumber s x = cond (s .«by_month») (monthTick x) (evenTick s x)
 -- the tick at place i
 abbrev pub tickOf : Steps → ℕ → Value
 tickOf s i = tickOfNumber s (numberAt s i)
+
+-- n values, in their order
+abbrev pub valuesOf : (ℕ → Value) → ℕ → List Value
+valuesOf f zero = []
+valuesOf f (suc n) = valuesOf f n ++ (f n ∷ [])
+
+-- the list of a progression
+abbrev pub ticks : Steps → List Value
+ticks s = valuesOf (tickOf s) (s .count)
 
 -- the numbers are in the ranges in which the listing neither wraps nor leaves the calendar
 pub record Sound (s : Steps) : Type 0 where

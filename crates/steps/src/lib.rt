@@ -6,8 +6,8 @@ ghost use mathlib.Core.List.{_++_};
 ghost use Prim.Native.Nat.{_*_, _<_, _≤_};
 ghost use lib.ListN.{length, drop};
 ghost use Rattle.steps.specs.Months.{firstDay, monthNumber, monthOf, wholeMonth};
-ghost use Rattle.steps.specs.Progression.{fitting, Sound};
-ghost use Rattle.steps.specs.Listing.{ticks, hasRoom, listedOf, lentAfter, countOf};
+ghost use Rattle.steps.specs.Progression.{fitting, ticks, Sound};
+ghost use Rattle.steps.specs.Listing.{numbers, hasRoom, listedOf, lentAfter, countOf};
 
 // The numbers first, first + step, .. : count of them. With by_month set a number is a month, counted from 0001-01,
 // which is 0. Else a head has per numbers, and base is the head at which they start.
@@ -77,14 +77,14 @@ pub fn how_many(room: u64, step: u64) -> u64
 
 // Question 11: are k lent numbers two for each tick?
 fn has_room(s: Steps, k: u64) -> bool
-    ensures { λ r. ⌜ r ≡ hasRoom s k ⌝ }
+    ensures { λ r. ⌜ r ≡ hasRoom (ticks s) k ⌝ }
 {
     s.count <= k / 2
 }
 
 // The answer of a list where k numbers are lent, with nothing listed.
 pub fn count(s: Steps, k: u64) -> Listed
-    ensures { λ r. ⌜ r ≡ listedOf s k ⌝ }
+    ensures { λ r. ⌜ r ≡ listedOf (ticks s) k ⌝ }
 {
     if !has_room(s, k) {
         return Listed::Refused(11);
@@ -105,7 +105,7 @@ pub fn count_of(a: Listed) -> u64
 // A day number for each tick; months have no common length.
 fn list_months(s: Steps, lent: &mut [i64])
     requires { ⌜ (Sound s × (s .«by_month» ≡ true)) × (2 * s .count ≤ length (now lent)) ⌝ }
-    ensures { λ r. ⌜ now (lent .exit) ≡ ticks s ++ drop (2 * s .count) (now (lent .entry)) ⌝ }
+    ensures { λ r. ⌜ now (lent .exit) ≡ numbers (ticks s) ++ drop (2 * s .count) (now (lent .entry)) ⌝ }
 {
     let months = s.count;
     let mut i: u64 = 0;
@@ -123,7 +123,7 @@ fn list_months(s: Steps, lent: &mut [i64])
 // No division for each tick: the step's whole heads and its rest are added, and a head is carried.
 fn list_even(s: Steps, lent: &mut [i64])
     requires { ⌜ (Sound s × (s .«by_month» ≡ false)) × (2 * s .count ≤ length (now lent)) ⌝ }
-    ensures { λ r. ⌜ now (lent .exit) ≡ ticks s ++ drop (2 * s .count) (now (lent .entry)) ⌝ }
+    ensures { λ r. ⌜ now (lent .exit) ≡ numbers (ticks s) ++ drop (2 * s .count) (now (lent .entry)) ⌝ }
 {
     let n = s.count;
     let per = s.per;
@@ -153,8 +153,8 @@ fn list_even(s: Steps, lent: &mut [i64])
 // Sets the pairs of the list at the front of the lent numbers, unless these are too few.
 pub fn list(s: Steps, lent: &mut [i64]) -> Listed
     requires { ⌜ Sound s ⌝ }
-    ensures { λ r. ⌜ r ≡ listedOf s (length (now (lent .entry))) ⌝ }
-    ensures { λ r. ⌜ now (lent .exit) ≡ lentAfter s (now (lent .entry)) ⌝ }
+    ensures { λ r. ⌜ r ≡ listedOf (ticks s) (length (now (lent .entry))) ⌝ }
+    ensures { λ r. ⌜ now (lent .exit) ≡ lentAfter (ticks s) (now (lent .entry)) ⌝ }
 {
     if !has_room(s, lent.len() as u64) {
         return Listed::Refused(11);

@@ -27,17 +27,16 @@ use Rattle.axis.specs.Questions.{ends}
 use Rattle.axis.proofs.Axes.{both-ends}
 use Rattle.mapping.specs.Mapping.{mapped}
 use Rattle.steps.specs.declared.Listed.the-variants.{Refused, Ticks}
-use Rattle.steps.specs.Progression.{tickOf}
-use Rattle.steps.specs.Listing.{ticks, listedOf}
-use Rattle.steps.proofs.Pairs.{length-pairs}
+use Rattle.steps.specs.Listing.{numbers, listedOf}
+use Rattle.steps.proofs.Pairs.{length-numbers}
 use Rattle.steps.specs.Promise.{nth, by-head, Fine}
 use Rattle.steps.proofs.Order.{smaller}
 use Rattle.plans.specs.Plans.{Accepted}
 use Rattle.axis.specs.declared.Hint.the-variants.{Bold}
-use Rattle.ticks.specs.Hints.{limit, planFor}
+use Rattle.keypoints.specs.Hints.{limit, keyPointsFor}
 use Rattle.ticks.specs.Answers.{tickQuestions, ticksAnswer, ticksHanded}
 use Rattle.ticks.proofs.Hints.{accepted}
-use Rattle.ticks.proofs.Promise.{plan-fine}
+use Rattle.ticks.proofs.Promise.{key-points-fine}
 use Rattle.text_line.specs.declared.Request.{Request}
 use Rattle.text_line.specs.declared.Line.the-variants.{Read, Unread}
 use Rattle.text_line.specs.Line.{readLine}
@@ -78,26 +77,24 @@ module _ (a : Axis) (h : BoldPoints) (z : firstNo (tickQuestions a (Bold h)) ≡
   fine-axis = accepted a (Bold h) z
 
   -- at most 4,097 ticks, so 8,194 numbers have room for them
-  room : 2 * planFor a (Bold h) .count ≤ 8194
-  room =
-      let s = planFor a (Bold h) in
-      omega (arith, plan-fine a (Bold h) z .few, length-pairs (tickOf s) (s .count), fine-axis .most)
+  room : 2 * length (keyPointsFor a (Bold h)) ≤ 8194
+  room = omega (arith, key-points-fine a (Bold h) z .few, length-numbers (keyPointsFor a (Bold h)), fine-axis .most)
 
-  pub has-list : ticksAnswer a (Bold h) 8194 ≡ Ticks (planFor a (Bold h) .count)
+  pub has-list : ticksAnswer a (Bold h) 8194 ≡ Ticks (length (keyPointsFor a (Bold h)))
   unfolding ticksAnswer
-  has-list = rw (z, le-leb (2 * planFor a (Bold h) .count) 8194 room)
+  has-list = rw (z, le-leb (2 * length (keyPointsFor a (Bold h))) 8194 room)
 
-  handed : ticksHanded a (Bold h) 8194 ≡ ticks (planFor a (Bold h))
+  handed : ticksHanded a (Bold h) 8194 ≡ numbers (keyPointsFor a (Bold h))
   unfolding ticksHanded
-  handed = rw (z, le-leb (2 * planFor a (Bold h) .count) 8194 room)
+  handed = rw (z, le-leb (2 * length (keyPointsFor a (Bold h))) 8194 room)
 
   -- and 65 bytes for each
   pub printable : (space : ℕ) → 266305 ≤ space → Printable (a .kind) (ticksHanded a (Bold h) 8194) space
   printable space l =
-      let f = plan-fine a (Bold h) z in
+      let f = key-points-fine a (Bold h) z in
       rw handed (record {
         ticks = λ i k. record {
-          day = λ x. on-day a (limit (Bold h)) (fine-axis .real) (ticks (planFor a (Bold h))) f i
+          day = λ x. on-day a (limit (Bold h)) (fine-axis .real) (numbers (keyPointsFor a (Bold h))) f i
               (omega arith) x;
         };
         most = omega (arith, f .few, fine-axis .most);
@@ -108,7 +105,7 @@ module _ (number : ℕ) (q : Request) where
   pub request-refused : (n : ℕ) → n ≡ firstNo (tickQuestions (q .axis) (Bold (q .hint))) → (n ≡ 0 → ⊥) →
       requestText number q ≡ refusalText number n
   unfolding requestText ticksAnswer
-  request-refused n e k = rw (← refused-by Refused (listedOf (planFor (q .axis) (Bold (q .hint))) 8194) _ n e k)
+  request-refused n e k = rw (← refused-by Refused (listedOf (keyPointsFor (q .axis) (Bold (q .hint))) 8194) _ n e k)
 
   pub request-listed : firstNo (tickQuestions (q .axis) (Bold (q .hint))) ≡ 0 → requestText number q
       ≡ listText number (q .axis) (q .limits) (ticksHanded (q .axis) (Bold (q .hint)) 8194)

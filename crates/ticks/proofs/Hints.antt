@@ -32,8 +32,9 @@ use Rattle.counting.specs.Counting.{monthly, yearly, sizeOf}
 use Rattle.counting.proofs.Counting.{monthly-dated, yearly-dated}
 use Rattle.plans.specs.Plans.{Accepted}
 use Rattle.plans.proofs.Cases.{choose}
-use Rattle.ticks.specs.Hints.{finer, refined, axisFor, limit}
+use Rattle.keypoints.specs.Hints.{limit, finer}
 use Rattle.ticks.specs.Answers.{tickQuestions, periodQuestions}
+use Rattle.ticks.specs.Plans.{refined, axisFor}
 
 -- ---- the kinds that have a finer one, which is over the same values
 record Coarse (k : ℤ) : Type 0 where
@@ -60,8 +61,11 @@ unfolding isValue
 six = record { known = refl; value = λ v e. e; days = refl; many = λ e. e; fits = count-fits 5 (omega arith) }
 
 module _ (a : Axis) where
+  pub kind-is : (m : ℕ) → isKind m a ≡ true → a .kind ≡ pos m
+  kind-is m e = let r = within-true (pos m) (a .kind) (pos m) e in same (a .kind) (pos m) (omega arith)
+
   of-kind : (P : ℤ → Type 0) (m : ℕ) → isKind m a ≡ true → P (pos m) → P (a .kind)
-  of-kind P m e p = let r = within-true (pos m) (a .kind) (pos m) e in subst P (same (pos m) (a .kind) (omega arith)) p
+  of-kind P m e p = subst P (sym (kind-is m e)) p
 
   module _ (e : monthly a || yearly a ≡ true) where
     coarse : Coarse (a .kind)

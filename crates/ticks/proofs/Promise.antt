@@ -1,7 +1,7 @@
 -- Demand 3 of every list of every kind and both hints, over what the exports cite: `promises` makes it one claim.
 -- Assumes nothing.
 use mathlib.Core.Path.{_≡_, refl, subst}
-use mathlib.Core.List.{List}
+use mathlib.Core.List.{List, []}
 use Prim.Native.Nat.{ℕ, zero, suc, _*_}
 use native.Mathlib.Omega.{arith}
 use lib.IntN.{ℤ}
@@ -12,14 +12,16 @@ use Rattle.axis.specs.declared.Axis.{Axis}
 use Rattle.axis.specs.declared.Hint.{Hint}
 use Rattle.axis.specs.Axes.{start, end}
 use Rattle.steps.specs.declared.Listed.the-variants.{Refused, Ticks}
-use Rattle.steps.specs.Progression.{Sound}
-use Rattle.steps.specs.Listing.{ticks, listedOf, lentAfter}
+use Rattle.steps.specs.Progression.{ticks, Sound}
+use Rattle.steps.specs.Listing.{numbers, listedOf, lentAfter, front}
 use Rattle.steps.specs.Promise.{Fine}
-use Rattle.steps.proofs.Demand.{read-fine}
+use Rattle.steps.proofs.Demand.{none-fine, front-fine, read-fine}
 use Rattle.plans.proofs.Promise.{Good, plan-good}
-use Rattle.ticks.specs.Hints.{limit, axisFor, planFor}
-use Rattle.ticks.specs.Answers.{tickQuestions, ticksAnswer, ticksWritten}
+use Rattle.keypoints.specs.Hints.{limit, keyPointsFor}
+use Rattle.ticks.specs.Answers.{tickQuestions, ticksAnswer, ticksWritten, ticksHanded}
+use Rattle.ticks.specs.Plans.{axisFor, planFor}
 use Rattle.ticks.proofs.Hints.{listing-accepted, listing-ends}
+use Rattle.ticks.proofs.KeyPoints.{plan-same}
 
 module _ (a : Axis) (h : Hint) (z : firstNo (tickQuestions a h) ≡ 0) where
   good : Good (axisFor a h) (limit h) (planFor a h)
@@ -30,20 +32,31 @@ module _ (a : Axis) (h : Hint) (z : firstNo (tickQuestions a h) ≡ 0) where
   plan-sound = good .sound
 
   -- at most N + 1 ticks, each later than the one before, none after the end, none before the whole second of the start
-  pub plan-fine : Fine (limit h) (start a) (end a) (ticks (planFor a h))
-  plan-fine =
+  pub key-points-fine : Fine (limit h) (start a) (end a) (numbers (keyPointsFor a h))
+  key-points-fine =
       let (s, e) = listing-ends a h in
-      subst (λ (v : Value). Fine (limit h) v (end a) (ticks (planFor a h))) s
-      (subst (λ (v : Value). Fine (limit h) (start (axisFor a h)) v (ticks (planFor a h))) e (good .fine))
+      let l = numbers (ticks (planFor a h)) in
+      rw (plan-same a h z) (subst (λ (v : Value). Fine (limit h) v (end a) l) s
+      (subst (λ (v : Value). Fine (limit h) (start (axisFor a h)) v l) e (good .fine)))
 
 -- the ticks that are read from the lent numbers after an accepted call
 pub list-fine : (a : Axis) (h : Hint) (d : List ℤ) (c : ℕ) → ticksAnswer a h (length d) ≡ Ticks c →
     Fine (limit h) (start a) (end a) (take (2 * c) (ticksWritten a h d))
 unfolding ticksAnswer ticksWritten
-list-fine a h d c = go (firstNo (tickQuestions a h)) (plan-fine a h)
+list-fine a h d c = go (firstNo (tickQuestions a h)) (key-points-fine a h)
   where
-    go : (q : ℕ) → (q ≡ 0 → Fine (limit h) (start a) (end a) (ticks (planFor a h))) →
-        unless q Refused (listedOf (planFor a h) (length d)) ≡ Ticks c → Fine (limit h) (start a) (end a)
-        (take (2 * c) (unless q (λ n. d) (lentAfter (planFor a h) d)))
-    go zero f e = read-fine (planFor a h) d (limit h) c (start a) (end a) (f refl) e
+    go : (q : ℕ) → (q ≡ 0 → Fine (limit h) (start a) (end a) (numbers (keyPointsFor a h))) →
+        unless q Refused (listedOf (keyPointsFor a h) (length d)) ≡ Ticks c → Fine (limit h) (start a) (end a)
+        (take (2 * c) (unless q (λ n. d) (lentAfter (keyPointsFor a h) d)))
+    go zero f e = read-fine (keyPointsFor a h) d (limit h) c (start a) (end a) (f refl) e
     go (suc q) f e = let w : _≡_ {A = ℕ} 0 1 = cc in absurd (let x : ⊥ = omega arith in x)
+
+-- the part that is handed back, which is empty after a refused call
+pub handed-fine : (a : Axis) (h : Hint) (k : ℕ) → Fine (limit h) (start a) (end a) (ticksHanded a h k)
+unfolding ticksHanded
+handed-fine a h k = go (firstNo (tickQuestions a h)) (key-points-fine a h)
+  where
+    go : (q : ℕ) → (q ≡ 0 → Fine (limit h) (start a) (end a) (numbers (keyPointsFor a h))) →
+        Fine (limit h) (start a) (end a) (unless q (λ n. []) (front (keyPointsFor a h) k))
+    go zero f = front-fine (keyPointsFor a h) k (limit h) (start a) (end a) (f refl)
+    go (suc q) f = none-fine (limit h) (start a) (end a)

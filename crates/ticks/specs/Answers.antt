@@ -1,13 +1,13 @@
--- What listing and counting ticks answer, what the lent numbers hold after it, and the period, refused calls too.
--- Definitions only.
-use mathlib.Core.Path.{_≡_}
-use mathlib.Core.Bool.{true, cond}
+-- What listing and counting ticks answer, what the lent numbers hold after it, and the period, refused calls too. The lists
+-- and the period are those of crate keypoints, which has them as the Rust does. Definitions only.
+use mathlib.Core.Bool.{true, not}
 use mathlib.Core.List.{List, [], _∷_, _++_}
+use mathlib.Core.Option.{Option, none, some}
 use Prim.Native.Nat.{ℕ}
-use lib.Dec.{ltb}
 use lib.IntN.{ℤ}
-use Rattle.laws.specs.Asking.{Question, ask, firstNo, asked}
+use Rattle.laws.specs.Asking.{Question, ask, asked}
 use Rattle.laws.specs.Numbers.{posPart}
+use Rattle.values.specs.Values.{isDuration}
 use Rattle.axis.specs.declared.Axis.{Axis}
 use Rattle.axis.specs.declared.BoldPoints.{BoldPoints}
 use Rattle.axis.specs.declared.Hint.{Hint}
@@ -15,47 +15,39 @@ use Rattle.axis.specs.declared.Hint.the-variants.{Bold}
 use Rattle.axis.specs.Questions.{axisQuestions, hasPeriod, hintOn}
 use Rattle.steps.specs.declared.Listed.{Listed}
 use Rattle.steps.specs.declared.Listed.the-variants.{Refused}
-use Rattle.steps.specs.Progression.{Sound}
 use Rattle.steps.specs.Listing.{listedOf, lentAfter, front}
-use Rattle.plans.specs.Times.{periodIn}
-use Rattle.ticks.specs.declared.Planned.{Planned}
+use Rattle.keypoints.specs.Times.{periodOn}
+use Rattle.keypoints.specs.Hints.{turnsFor, keyPointsFor}
 use Rattle.ticks.specs.declared.PeriodAnswer.{PeriodAnswer}
 use Rattle.ticks.specs.declared.PeriodAnswer.the-variants as period
-use Rattle.ticks.specs.Hints.{planFor}
 
 -- ---- the questions before the list's length is known; then the list asks question 11 of the lent numbers
 abbrev pub tickQuestions : Axis → Hint → List Question
 tickQuestions a h = axisQuestions true a ++ (ask 6 (hintOn a h) ∷ [])
 
--- what was asked, and the plan where nothing was refused
-pub record PlannedFor (a : Axis) (h : Hint) (p : Planned) : Type 0 where
-  pub refusal : p .refusal ≡ firstNo (tickQuestions a h)
-  pub plan : p .refusal ≡ 0 → p .plan ≡ planFor a h
-
--- a plan that is listed is in the ranges of the listing
-pub record Listable (p : Planned) : Type 0 where
-  pub sound : p .refusal ≡ 0 → Sound (p .plan)
-
 -- the count of ticks, or a refusal
 unfoldable pub ticksAnswer : Axis → Hint → ℕ → Listed
-ticksAnswer a h k = asked (tickQuestions a h) Refused (listedOf (planFor a h) k)
+ticksAnswer a h k = asked (tickQuestions a h) Refused (listedOf (keyPointsFor a h) k)
 
 -- all lent numbers after the call
 unfoldable pub ticksWritten : Axis → Hint → List ℤ → List ℤ
-ticksWritten a h d = asked (tickQuestions a h) (λ q. d) (lentAfter (planFor a h) d)
+ticksWritten a h d = asked (tickQuestions a h) (λ q. d) (lentAfter (keyPointsFor a h) d)
 
 -- the part that is handed back
 unfoldable pub ticksHanded : Axis → Hint → ℕ → List ℤ
-ticksHanded a h k = asked (tickQuestions a h) (λ q. []) (front (planFor a h) k)
+ticksHanded a h k = asked (tickQuestions a h) (λ q. []) (front (keyPointsFor a h) k)
 
 -- ---- the period of kinds 4 and 7
 abbrev pub periodQuestions : Axis → BoldPoints → List Question
 periodQuestions a h = axisQuestions (hasPeriod a) a ++ (ask 6 (hintOn a (Bold h)) ∷ [])
 
 -- none where days are listed
-abbrev pub aPeriod : ℕ → PeriodAnswer
-aPeriod k = cond (ltb 0 k) (period.Is k) period.None
+abbrev pub aPeriod : Option ℕ → PeriodAnswer
+aPeriod none = period.None
+aPeriod (some k) = period.Is k
 
--- `compute_period_per_point` of an axis
+-- `compute_period_per_point` of an axis: only below a day on kind 4
 unfoldable pub periodAnswer : Axis → BoldPoints → PeriodAnswer
-periodAnswer a h = asked (periodQuestions a h) period.Refused (aPeriod (periodIn a (posPart (h .n))))
+periodAnswer a h =
+    let n = posPart (h .n) in
+    asked (periodQuestions a h) period.Refused (aPeriod (periodOn (turnsFor n) a n (not (isDuration (a .kind)))))

@@ -1,3 +1,3 @@
 -- What the crate's contracts cite.
-pub mod Hints
 pub mod Answers
+pub mod Plans

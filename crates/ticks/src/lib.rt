@@ -12,10 +12,11 @@ ghost use lib.ListN.{length};
 ghost use denote.Ref.{ptr};
 ghost use Rattle.laws.specs.Asking.{firstNo, unless};
 ghost use Rattle.axis.specs.Questions.{ends};
+ghost use Rattle.steps.specs.Progression.{ticks};
 ghost use Rattle.steps.specs.Listing.{listedOf, lentAfter};
-ghost use Rattle.ticks.specs.Hints.{refined, axisFor, planFor};
-ghost use Rattle.ticks.specs.Answers.{tickQuestions, PlannedFor, Listable, ticksAnswer, ticksWritten, ticksHanded};
+ghost use Rattle.ticks.specs.Answers.{tickQuestions, ticksAnswer, ticksWritten, ticksHanded};
 ghost use Rattle.ticks.specs.Answers.{periodQuestions, periodAnswer};
+ghost use Rattle.ticks.specs.Plans.{refined, axisFor, planFor, PlannedFor, Listable};
 
 // What was asked of an axis and a hint, and the plan of their list; no number of it is used where the refusal is not 0.
 pub struct Planned {
@@ -129,9 +130,9 @@ pub fn count(a: Axis, h: Hint, lent_len: u64) -> Listed
 // The list of a plan at the front of the lent numbers.
 pub fn list_plan(p: Planned, lent: &mut [i64]) -> Listed
     requires { ⌜ Listable p ⌝ }
-    ensures { λ r. ⌜ r ≡ unless (p .refusal) Listed.Refused (listedOf (p .plan) (length (now (lent .entry)))) ⌝ }
+    ensures { λ r. ⌜ r ≡ unless (p .refusal) Listed.Refused (listedOf (ticks (p .plan)) (length (now (lent .entry)))) ⌝ }
     ensures { λ r. ⌜ now (lent .exit) ≡ unless (p .refusal) (λ q. now (lent .entry))
-        (lentAfter (p .plan) (now (lent .entry))) ⌝ }
+        (lentAfter (ticks (p .plan)) (now (lent .entry))) ⌝ }
 {
     if p.refusal != 0 {
         return Listed::Refused(p.refusal);

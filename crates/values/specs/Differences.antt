@@ -5,7 +5,7 @@ use Prim.Native.Nat.{ℕ}
 use lib.IntN.{ℤ, pos, _+ℤ_, _-ℤ_, _*ℤ_}
 use lib.Signed.{quotZ}
 use Rattle.laws.specs.Numbers.{minus, within}
-use Rattle.laws.specs.Units.{perSecond, perDay}
+use Rattle.laws.specs.Units.{perSecond, perDay, secondsPerDay}
 use Rattle.values.specs.declared.Value.{Value}
 use Rattle.values.specs.declared.Nanoseconds.{Nanoseconds}
 use Rattle.values.specs.Values.{isDuration}
@@ -34,3 +34,12 @@ nanosecondsOf d = record { fits = fitsI64 d; value = cond (fitsI64 d) d (pos 0) 
 -- cut toward zero
 abbrev pub wholeDays : ℤ → ℤ
 wholeDays d = quotZ d (pos perDay)
+
+-- ---- durations
+-- num_days(): the whole days of one, cut toward zero
+unfoldable pub daysIn : Value → ℤ
+daysIn v = wholeDays (nanoseconds (pos 7) v)
+
+-- Duration::days(d)
+abbrev pub ofDays : ℤ → Value
+ofDays d = record { head = d *ℤ pos secondsPerDay; tail = pos 0 }

@@ -1,13 +1,14 @@
 -- `counting::size_of` meets its contract. Assumes nothing.
 use borrow.Author.Needs.{needs}
-use mathlib.Core.Path.{_≡_, _∙_, ap}
+use mathlib.Core.Path.{_≡_, sym, _∙_, ap}
 use native.Mathlib.Omega.{arith}
 use Prim.Native.Nat.{_+_, _-_}
 use Rattle.values.specs.declared.Value.{Value}
 use Rattle.axis.specs.Axes.{end}
 use Rattle.counting.specs.declared.Position.{Position}
-use Rattle.counting.specs.Counting.{origin, position, sizeOf}
+use Rattle.counting.specs.Counting.{origin, position}
 use Rattle.counting.proofs.Counting.{end-on, position-most}
+use Rattle.counting.proofs.Sizes.{size-is}
 use Rattle.counting.proofs.size_of.Statement.{statement}
 use Rattle.counting.proofs.size_of.Tie as tie
 
@@ -30,8 +31,9 @@ add-less c =
     omega (arith, e, position-most (s .args .a) (s .pre) (end (s .args .a)) (end-on (s .args .a) (s .pre)))
 
 returns : tie.Need-returns
-unfolding sizeOf
-returns c = c .less .ensures ∙ ap (λ (x : Position). x .at + 1 - x .from) (placed (c .before .before))
+returns c =
+    let p = c .before .before in
+    c .less .ensures ∙ ap (λ (x : Position). x .at + 1 - x .from) (placed p) ∙ sym (size-is (p .before .before .args .a))
 
 pub size-of-spec : {M : Type 1} → statement M
 size-of-spec =

@@ -10,7 +10,8 @@ use Rattle.laws.specs.Numbers.{posPart}
 use Rattle.axis.specs.Axes.{start, end}
 use Rattle.counting.proofs.Counting.{no-less}
 use Rattle.period.proofs.Fits.{fit-above, fit-most}
-use Rattle.plans.specs.Times.{daysIn, firstSecond, spanDaysPlan}
+use Rattle.plans.specs.Times.{firstSecond, spanDaysPlan}
+use Rattle.values.specs.Differences.{daysIn}
 use Rattle.plans.proofs.Spans.{start-seven, end-seven, total-dn, total-range}
 use Rattle.plans.proofs.span_days_plan.Statement.{statement}
 use Rattle.plans.proofs.span_days_plan.Tie as tie

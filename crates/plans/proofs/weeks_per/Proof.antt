@@ -2,14 +2,14 @@
 use borrow.Author.Needs.{needs}
 use mathlib.Core.Path.{_≡_, _∙_}
 use native.Mathlib.Omega.{arith}
-use Rattle.plans.specs.Days.{weeksPer}
+use Rattle.floats.specs.Rounding.{ceilOf}
 use Rattle.plans.proofs.Days.{weeks-none, weeks-some}
 use Rattle.plans.proofs.weeks_per.Statement.{statement}
 use Rattle.plans.proofs.weeks_per.Tie as tie
 
-divided : (c : tie.After-ceil-quotient) → c .ceil-quotient .result ≡ weeksPer (c .before .before .args .w)
+divided : (c : tie.After-ceil-quotient) → c .ceil-quotient .result ≡ ceilOf (c .before .before .args .w)
     (c .before .before .args .n)
-unfolding weeksPer
+unfolding ceilOf
 divided c = c .ceil-quotient .ensures
 
 returns : tie.Need-returns

@@ -5,6 +5,7 @@ use native.Mathlib.Decide.{decLe}
 use native.Mathlib.Omega.{arith}
 use lib.Dec.{leb}
 use borrow.Author.Tests.{le-leb, lt-leb}
+use Rattle.steps.proofs.Pairs.{count-is}
 use Rattle.steps.proofs.has_room.Statement.{statement}
 use Rattle.steps.proofs.has_room.Tie as tie
 
@@ -16,8 +17,8 @@ same-test a b c d yes-too no-too =
     ]
 
 returns : tie.Need-returns
-returns c = let x = c .before .args in same-test (x .s .count) (x .k / 2) (2 * x .s .count) (x .k) (λ h. omega arith)
-    (λ h. omega arith)
+returns c = let x = c .before .args in
+    rw (count-is (x .s)) (same-test (x .s .count) (x .k / 2) (2 * x .s .count) (x .k) (λ h. omega arith) (λ h. omega arith))
 
 pub has-room-spec : {M : Type 1} → statement M
 has-room-spec = tie.close (tie.spec returns)

@@ -8,7 +8,7 @@ use Rattle.laws.specs.Asking.{firstNo}
 use Rattle.laws.specs.Numbers.{posPart}
 use Rattle.axis.specs.declared.Hint.the-variants.{Light}
 use Rattle.counting.proofs.Counting.{no-less}
-use Rattle.ticks.specs.Hints.{refined, axisFor}
+use Rattle.ticks.specs.Plans.{refined, axisFor}
 use Rattle.ticks.specs.Answers.{tickQuestions}
 use Rattle.ticks.proofs.Hints.{accepted, light-counts, refined-accepted}
 use Rattle.ticks.proofs.axis_for.Statement.{statement}

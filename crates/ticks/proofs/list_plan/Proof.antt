@@ -6,6 +6,7 @@ use lib.ListN.{length}
 use Rattle.laws.specs.Asking.{unless}
 use Rattle.laws.proofs.Asked.{refuses}
 use Rattle.steps.specs.declared.Listed.the-variants.{Refused}
+use Rattle.steps.specs.Progression.{ticks}
 use Rattle.steps.specs.Listing.{listedOf, lentAfter}
 use Rattle.ticks.proofs.list_plan.Statement.{statement}
 use Rattle.ticks.proofs.list_plan.Tie as tie
@@ -15,8 +16,8 @@ returns c =
     let x = c .before .before .args in
     let p = x .p in
     let d = x .lent .now in (
-      sym (refuses Refused (listedOf (p .plan) (length d)) (p .refusal) (c .if1 .taken)),
-      sym (refuses (λ (q : ℕ). d) (lentAfter (p .plan) d) (p .refusal) (c .if1 .taken)),
+      sym (refuses Refused (listedOf (ticks (p .plan)) (length d)) (p .refusal) (c .if1 .taken)),
+      sym (refuses (λ (q : ℕ). d) (lentAfter (ticks (p .plan)) d) (p .refusal) (c .if1 .taken)),
     )
 
 list-requires : tie.Need-list-requires
@@ -29,8 +30,8 @@ returns-2 c =
     let x = e .before .before .args in
     let p = x .p in
     let d = x .lent .now in (
-      l .list .ensures .0 ∙ sym (ap (λ (q : ℕ). unless q Refused (listedOf (p .plan) (length d))) (e .if1 .left)),
-      l .list .ensures .1 ∙ sym (ap (λ (q : ℕ). unless q (λ n. d) (lentAfter (p .plan) d)) (e .if1 .left)),
+      l .list .ensures .0 ∙ sym (ap (λ (q : ℕ). unless q Refused (listedOf (ticks (p .plan)) (length d))) (e .if1 .left)),
+      l .list .ensures .1 ∙ sym (ap (λ (q : ℕ). unless q (λ n. d) (lentAfter (ticks (p .plan)) d)) (e .if1 .left)),
     )
 
 pub list-plan-spec : {M : Type 1} → statement M

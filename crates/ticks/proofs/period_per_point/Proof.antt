@@ -1,6 +1,5 @@
 -- `ticks::period_per_point` meets its contract. Assumes nothing.
 use borrow.Author.Needs.{needs}
-use borrow.Author.Tests.{lt-ltb, le-ltb}
 use mathlib.Core.Path.{_≡_, sym, _∙_, ap}
 use native.Mathlib.Omega.{arith}
 use mir.Syntax.{w64}
@@ -8,12 +7,13 @@ use mir.Val.{SFits}
 use mir.Facts.{toZ-ofZ}
 use Rattle.laws.specs.Asking.{firstNo}
 use Rattle.laws.specs.Numbers.{posPart}
-use Rattle.laws.proofs.Asked.{refused-by, passed-by}
+use Rattle.laws.proofs.Asked.{refused-by}
 use Rattle.counting.proofs.Counting.{no-less}
 use Rattle.plans.specs.Times.{periodIn}
-use Rattle.ticks.specs.declared.PeriodAnswer.the-variants.{Refused}
+use Rattle.ticks.specs.declared.PeriodAnswer.the-variants.{Refused, Is}
 use Rattle.ticks.specs.Answers.{periodQuestions, periodAnswer}
 use Rattle.ticks.proofs.Hints.{period-accepted}
+use Rattle.ticks.proofs.KeyPoints.{period-some, period-none}
 use Rattle.ticks.proofs.period_per_point.Statement.{statement}
 use Rattle.ticks.proofs.period_per_point.Tie as tie
 
@@ -47,22 +47,18 @@ period-in-requires c κs =
     rw (counted c) (q, k)
 
 returns-2 : tie.Need-returns-2
-unfolding periodAnswer
 returns-2 c =
     let p = c .before in
     let e = p .before .before .before in
     let x = e .before .before .args in
-    let k = periodIn (x .a) (posPart (x .h .n)) in
-    rw (period p, ← passed-by Refused _ (periodQuestions (x .a) (x .h)) (none e), lt-ltb 0 k (rw (period p) at (c .if2 .taken)))
+    ap Is (period p) ∙ sym (period-some (x .a) (x .h) (none e) (rw (period p) at (c .if2 .taken)))
 
 returns-3 : tie.Need-returns-3
-unfolding periodAnswer
 returns-3 c =
     let p = c .before in
     let e = p .before .before .before in
     let x = e .before .before .args in
-    let k = periodIn (x .a) (posPart (x .h .n)) in
-    rw (← passed-by Refused _ (periodQuestions (x .a) (x .h)) (none e), le-ltb 0 k (omega (arith, period p)))
+    sym (period-none (x .a) (x .h) (none e) (omega (arith, period p)))
 
 pub period-per-point-spec : {M : Type 1} → statement M
 period-per-point-spec =

@@ -8,7 +8,7 @@ use Rattle.laws.specs.Asking.{firstNo}
 use Rattle.laws.specs.Numbers.{posPart}
 use Rattle.axis.specs.declared.Hint.the-variants.{Bold, Light}
 use Rattle.counting.proofs.Counting.{no-less}
-use Rattle.ticks.specs.Hints.{axisFor, planFor}
+use Rattle.ticks.specs.Plans.{axisFor, planFor}
 use Rattle.ticks.specs.Answers.{tickQuestions}
 use Rattle.ticks.proofs.Hints.{bold-count, light-counts, listing-accepted}
 use Rattle.ticks.proofs.plan_for.Statement.{statement}

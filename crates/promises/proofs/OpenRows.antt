@@ -1,0 +1,166 @@
+-- The open rows of the settled examples, for all of what they leave open. Assumes nothing.
+use mathlib.Core.Path.{_≡_, refl, sym, _∙_}
+use mathlib.Core.Bool.{true}
+use mathlib.Core.List.{List, [], _∷_, _++_}
+use mathlib.Core.Option.{some}
+use Prim.Native.Nat.{ℕ, _+_, _*_, _/_, _^_, _≤_}
+use native.Mathlib.Omega.{arith}
+use lib.Dec.{leb}
+use lib.IntN.{ℤ, pos, _-ℤ_}
+use lib.ListN.{length, drop}
+use lib.Ieee as ieee
+use borrow.Author.Tests.{le-leb, le-ltb}
+use Rattle.laws.specs.Asking.{firstNo}
+use Rattle.laws.specs.Units.{perHour}
+use Rattle.laws.proofs.Signed.{same, sub}
+use Rattle.laws.proofs.Tests.{and-false}
+use Rattle.floats.specs.Rounding.{ceilF, ceilOf}
+use Rattle.values.specs.declared.Value.{Value}
+use Rattle.values.specs.Values.{isValue, earlier, midnight}
+use Rattle.values.specs.Differences.{fitsI64}
+use Rattle.axis.specs.declared.Axis.{Axis}
+use Rattle.axis.specs.declared.Hint.{Hint}
+use Rattle.axis.specs.Questions.{known, hasIndex, hasPeriod, ends, inOrder, nearOrLong, hintOn, boldHint, valueOn}
+use Rattle.axis.proofs.Questions.{other-kind}
+use Rattle.counting.specs.Counting.{fromDay, toDay, monthly, yearly, firstDate, dateOn, origin, position, sizeOf}
+use Rattle.steps.specs.Months.{monthOf, wholeMonth}
+use Rattle.steps.specs.Listing.{numbers}
+use Rattle.plans.specs.Months.{fromMonth, toMonth, monthPlan}
+use Rattle.plans.specs.Plans.{planOf}
+use Rattle.keypoints.specs.Dates.{datesFrom, dateKeyPoints}
+use Rattle.keypoints.specs.Periods.{exponentFrom, determineActual, periodFrom, computePeriodPerPoint}
+use Rattle.keypoints.specs.Times.{periodOn}
+use Rattle.keypoints.specs.KeyPoints.{keyPoints}
+use Rattle.keypoints.specs.Hints.{keyPointsFor}
+use Rattle.ticks.specs.Answers.{tickQuestions, ticksAnswer, ticksWritten, periodQuestions, periodAnswer}
+use Rattle.ticks.proofs.KeyPoints.{plan-same}
+use Rattle.discrete.specs.declared.NumberAnswer.the-variants as number
+use Rattle.discrete.specs.Indices.{isIndexed, indexOf}
+use Rattle.discrete.specs.Answers.{indexIn, indexAnswer, sizeAnswer}
+use Rattle.promises.specs.Examples.{boldOf, listedInto, new-year}
+use Rattle.promises.specs.OpenRows as rows
+use Rattle.promises.specs.OpenRows.{SixDays, TwoWeeks, PeriodOf, BelowThePower, AtThePower, EarlierYear, NoWholeMonth}
+use Rattle.promises.proofs.DayNumbers.{december-2019, january-2020, december-2021, january-2022}
+
+-- ---- a list that the questions accept and the lent numbers have room for
+listed : (a : Axis) (h : Hint) (l : List Value) (d : List ℤ) → firstNo (tickQuestions a h) ≡ 0 → keyPointsFor a h ≡ l →
+    2 * length l ≤ length d → listedInto a h d ≡ pos 0 ∷ (pos (length l) ∷ (numbers l ++ drop (2 * length l) d))
+unfolding ticksAnswer ticksWritten
+listed a h l d z e r = rw (z, e, le-leb (2 * length l) (length d) r)
+
+-- ---- dates
+module _ (day k n : ℕ) (first : 1 ≤ day) (last : day + k ≤ 3652059) (few : n ≤ 4096) where
+  abbrev a : Axis
+  a = rows.datesFrom day k
+
+  real : ends a ≡ true
+  unfolding ends isValue
+  real = rw (le-leb 1 day first, le-leb day 3652059 (omega arith), le-leb 1 (day + k) (omega arith), le-leb (day + k) 3652059 last)
+
+  order : inOrder a ≡ true
+  unfolding inOrder earlier
+  order = rw (le-ltb (day + k) day (omega arith), and-false (leb (day + k) day))
+
+  hint : hintOn a (boldOf n) ≡ true
+  unfolding boldHint
+  hint = rw (le-leb 0 n (omega arith), le-leb n 4096 few)
+
+  accepted : firstNo (tickQuestions a (boldOf n)) ≡ 0
+  unfolding known nearOrLong
+  accepted = rw (real, order, hint)
+
+  days : keyPointsFor a (boldOf n) ≡ datesFrom day (pos k) (pos (k / 7)) n
+  unfolding keyPointsFor keyPoints dateKeyPoints fromDay toDay
+  days =
+      let e : pos (day + k) -ℤ pos (day + 0) ≡ pos k = same (pos (day + k) -ℤ pos (day + 0)) (pos k)
+      (omega (arith, sub (pos (day + k)) (pos (day + 0)))) in
+      let f : day + 0 ≡ day = omega arith in
+      rw (e, f)
+
+pub six-days : SixDays
+unfolding datesFrom
+six-days day d first last room =
+    let few : 0 ≤ 4096 = omega arith in
+    listed (rows.datesFrom day 6) (boldOf 0) (midnight (pos day) ∷ []) d (accepted day 6 0 first last few)
+    (days day 6 0 first last few) room
+
+-- two weeks to a tick
+two-per-tick : ceilOf 2 1 ≡ 2
+unfolding ceilOf ceilF ieee.span ieee.climb ieee.size ieee.odd ieee.units ieee.round ieee.div ieee.ofInt ieee.toUnsigned
+two-per-tick = refl
+
+both-ends : (day : ℕ) → datesFrom day (pos 14) (pos 2) 1 ≡ midnight (pos day) ∷ (midnight (pos (day + 14)) ∷ [])
+unfolding datesFrom
+both-ends day = let f : day + 0 ≡ day = omega arith in rw (two-per-tick, f)
+
+pub two-weeks : TwoWeeks
+two-weeks day d first last room =
+    let few : 1 ≤ 4096 = omega arith in
+    listed (rows.datesFrom day 14) (boldOf 1) (midnight (pos day) ∷ (midnight (pos (day + 14)) ∷ [])) d
+    (accepted day 14 1 first last few) (days day 14 1 first last few ∙ both-ends day) room
+
+-- ---- the periods
+has-period : (a : Axis) → a .kind ≡ pos 4 → ends a ≡ true → inOrder a ≡ true →
+    firstNo (periodQuestions a (record { n = pos 100 })) ≡ 0
+unfolding known hasPeriod boldHint
+has-period a kind real order =
+    let near : nearOrLong a ≡ true = sym (other-kind a (rw kind)) in
+    rw (real, order, near, kind)
+
+-- where the span has a period, the axis has
+spanned : (span k : ℕ) → fitsI64 (pos span) ≡ true → computePeriodPerPoint 130 span 100 true ≡ some k → PeriodOf span k
+unfolding periodAnswer periodOn
+spanned span k f e a kind real order s = rw (has-period a kind real order, s, f, kind, e)
+
+pub below-the-power : BelowThePower
+unfolding exponentFrom determineActual periodFrom computePeriodPerPoint
+below-the-power = spanned 999999999999999 (5 * perHour) refl refl
+
+pub at-the-power : AtThePower
+unfolding exponentFrom determineActual periodFrom computePeriodPerPoint
+at-the-power = spanned (10 ^ 15) (4 * perHour) refl refl
+
+-- ---- an index
+pub earlier-year : EarlierYear
+unfolding indexAnswer indexIn isIndexed indexOf known hasIndex ends isValue inOrder earlier valueOn monthly yearly fromDay
+    firstDate dateOn origin position
+earlier-year last least most =
+    rw (
+      le-leb 1 last (omega arith),
+      le-leb last 3652059 most,
+      le-ltb last 737425 least,
+      and-false (leb last 737425),
+      december-2019,
+      january-2020,
+    )
+
+-- ---- no month
+first-month : fromMonth new-year ≡ 24252
+unfolding fromDay fromMonth wholeMonth monthOf
+first-month = rw january-2022
+
+last-month : toMonth new-year ≡ 24251
+unfolding toDay toMonth monthOf
+last-month = rw december-2021
+
+module _ (n : ℕ) (least : 1 ≤ n) (few : n ≤ 4096) where
+  any-hint : hintOn new-year (boldOf n) ≡ true
+  unfolding boldHint
+  any-hint = rw (le-leb 0 n (omega arith), le-leb 1 n least, le-leb n 4096 few)
+
+  year-accepted : firstNo (tickQuestions new-year (boldOf n)) ≡ 0
+  unfolding known nearOrLong ends isValue inOrder earlier
+  year-accepted = rw any-hint
+
+  no-ticks : keyPointsFor new-year (boldOf n) ≡ []
+  unfolding planOf monthly monthPlan
+  no-ticks = plan-same new-year (boldOf n) year-accepted ∙ (rw (first-month, last-month))
+
+pub no-whole-month : NoWholeMonth
+no-whole-month n d least few =
+    listed new-year (boldOf n) [] d (year-accepted n least few) (no-ticks n least few) (omega arith)
+
+-- its size is 12
+pub twelve : sizeAnswer new-year ≡ number.Is 12
+unfolding sizeAnswer sizeOf known hasIndex ends isValue inOrder earlier monthly firstDate dateOn fromDay
+twelve = rw (december-2021, january-2022)
