@@ -1,13 +1,12 @@
 -- The pixel of day o of D days over w pixels, D < w: the float quotient, cut, is F with F * D ≤ w * o ≤ (F + 1) * D.
--- It is the exact quotient cut, or one less where that is whole; so it grows with each day. Assumes nothing.
+-- So F is the exact quotient cut, or one less where that is whole, and it grows with each day. Assumes nothing.
 use mathlib.Core.Path.{_≡_, sym, ap, _∙_, subst, subst₂}
-use mathlib.Core.Logic.{_⊎_, inl, inr}
+use mathlib.Core.Logic.{inl, inr}
 use mathlib.Core.Bool.{Bool, true, false}
 use Prim.Native.Nat.{ℕ, zero, suc, _+_, _-_, _*_, _/_, _^_, _≤_, _<_}
 use native.Mathlib.Nat.{le-trans, le-of-eq, lt-of-lt-of-le, lt-of-le-of-lt, le-of-suc-le-suc, mul-comm, mul-assoc}
 use native.Mathlib.Nat.{mul-left-comm, mul-le-mul-right, mul-le-mul-left, mul-le-mul, mul-pos, mul-one, one-mul}
-use native.Mathlib.Nat.{mul-zero, eq-or-lt-of-le, le-antisymm, eq-zero-or-pos, not-suc-le-zero}
-use native.Mathlib.Nat.{le-of-mul-le-mul-right, lt-of-mul-lt-mul-right, le-div-iff-mul-le, div-lt-iff-lt-mul}
+use native.Mathlib.Nat.{mul-zero, eq-zero-or-pos, not-suc-le-zero, le-of-mul-le-mul-right, lt-of-mul-lt-mul-right}
 use native.Mathlib.Nat.{div-mul-le-self, div-add-mod', mod-lt}
 use native.Mathlib.Decide.{decLe}
 use native.Mathlib.Omega.{arith}
@@ -225,23 +224,15 @@ module _ (s : Bool) (w o D : ℕ) (Dp : 0 < D) (O : o ≤ D) (Dw : D < w) (W : w
       (lt-of-le-of-lt W (lit< tt)))
 
 -- ---- the pixel, and that it grows with each day
-pixel-is : (s : Bool) (w o D : ℕ) → 0 < D → o ≤ D → D < w → w ≤ 65534 → cutQuotient (withSign s w) (pos (o * day))
+pub pixel-is : (s : Bool) (w o D : ℕ) → 0 < D → o ≤ D → D < w → w ≤ 65534 → cutQuotient (withSign s w) (pos (o * day))
     (pos (D * day)) ≡ withSign s (cutOf w o D)
 unfolding quotientOf ofInt
 pixel-is false w o D Dp O Dw W = F-is false w o D Dp O Dw W
 pixel-is true zero o D Dp O Dw W = absurd (not-suc-le-zero Dw)
 pixel-is true (suc w) o D Dp O Dw W = F-is true (suc w) o D Dp O Dw W
 
-cut-between : (w o D : ℕ) → 0 < D → o ≤ D → D < w → w ≤ 65534 → (cutOf w o D * D ≤ w * o) × (w * o ≤ suc (cutOf w o D) * D)
+pub cut-between : (w o D : ℕ) → 0 < D → o ≤ D → D < w → w ≤ 65534 → (cutOf w o D * D ≤ w * o) × (w * o ≤ suc (cutOf w o D) * D)
 cut-between w o D Dp O Dw W = (F-le false w o D Dp O Dw W, F-ge false w o D Dp O Dw W)
-
--- the two cases of that
-pub exact-or-one-less : (w o D F : ℕ) → 0 < D → F * D ≤ w * o → w * o ≤ suc F * D → (F ≡ w * o / D) ⊎ (suc F * D ≡ w * o)
-exact-or-one-less w o D F Dp a b =
-    elim (eq-or-lt-of-le b) [
-      | inl e ↦ inr (sym e)
-      | inr l ↦ inl (le-antisymm (le-div-iff-mul-le Dp .1 a) (le-of-suc-le-suc (div-lt-iff-lt-mul Dp .1 l)))
-    ]
 
 between-grows : (w o o' D F F' : ℕ) → D < w → o < o' → F * D ≤ w * o → w * o' ≤ suc F' * D → F < F'
 between-grows w o o' D F F' Dw l a b =

@@ -19,7 +19,7 @@ use Rattle.period.proofs.Climbing.{Climbed, climb-start, in-list, climb-step, c
 use Rattle.period.proofs.Ladders.{is-decimal, is-seconds, is-hours, is-days, is-longest, chosen-ends}
 use Rattle.period.proofs.Periods.{below-day, any-step, days-listed, answers, answers-none}
 use Rattle.plans.proofs.Cases.{choose}
-use Rattle.keypoints.specs.Periods.{exponentFrom, determineActual, daysFrom, periodFrom, computePeriodPerPoint}
+use Rattle.keypoints.specs.Periods.{exponentFrom, determineActualNsPerPoint, daysFrom, periodFrom, computePeriodPerPoint}
 
 -- ---- the exponent
 -- document 01: 'the largest k with 10^k × N ≤ span, or 0'
@@ -84,8 +84,8 @@ both-ways P false f g = g refl
 
 module _ {span n : ℕ} {l : Ladder} (c : Climbable span n l) where
   found : (turns unit whole idx i : ℕ) → 16 < turns + i → Climbed span n l unit whole idx i →
-      determineActual turns span unit (l .counts) (l .base) n idx ≡ firstWide span n l
-  unfolding determineActual
+      determineActualNsPerPoint turns span unit (l .counts) (l .base) n idx ≡ firstWide span n l
+  unfolding determineActualNsPerPoint
   found zero unit whole idx i t w = absurd (let z : ⊥ = omega (arith, w .come .within) in z)
   found (suc turns) unit whole idx i t w =
       let limit = n * getD (l .counts) idx 0 in
@@ -93,7 +93,8 @@ module _ {span n : ℕ} {l : Ladder} (c : Climbable span n l) where
       choose (λ (x : ℕ). x ≡ firstWide span n l) (ltb limit (span / unit))
       (λ e. let h : limit < whole = rw (w .parts) (ltb-true limit (span / unit) e) in
       both-ways
-      (λ (d : Bool). determineActual turns span (cond d (unit * l .base) unit) (l .counts) (l .base) n (cond d 0 (idx + 1))
+      (λ (d : Bool).
+      determineActualNsPerPoint turns span (cond d (unit * l .base) unit) (l .counts) (l .base) n (cond d 0 (idx + 1))
       ≡ firstWide span n l)
       (eqb (idx + 1) size)
       (λ d. found turns (unit * l .base) (span / (unit * l .base)) 0 (suc i) (omega arith)
@@ -104,7 +105,7 @@ module _ {span n : ℕ} {l : Ladder} (c : Climbable span n l) where
       (λ e. climb-step c w (rw (w .parts) (ltb-false limit (span / unit) e)))
 
   determine-is : (turns : ℕ) → 16 < turns →
-      determineActual turns span (l .unit) (l .counts) (l .base) n 0 ≡ firstWide span n l
+      determineActualNsPerPoint turns span (l .unit) (l .counts) (l .base) n 0 ≡ firstWide span n l
   determine-is turns t = found turns (l .unit) (span / l .unit) 0 0 (omega arith) (climb-start c)
 
 -- ---- the choice
@@ -120,7 +121,7 @@ some-is (suc x) h = refl
 module _ (turns span n : ℕ) (s : Bool) (small : span < 2 ^ 63) (N : 1 ≤ n) (most : n ≤ 4096) (t : 19 ≤ turns) where
   module _ (p : ℕ) (is : p ≡ powerOf span n) where
     by : (l : Ladder) → ladderOf p ≡ l → noPeriod p s ≡ false →
-        some (determineActual turns span (l .unit) (l .counts) (l .base) n 0) ≡ optional (periodOf span n s)
+        some (determineActualNsPerPoint turns span (l .unit) (l .counts) (l .base) n 0) ≡ optional (periodOf span n s)
     by l e f =
         let c : Climbable span n l = rw e at (chosen-ends span n most p is N small) in
         rw (determine-is c turns (omega arith), ← answers span n s p is f l e .0) (some-is (firstWide span n l) (c .above))

@@ -15,27 +15,27 @@ exponentFrom (suc turns) span n k = cond (leb (10 ^ suc k * n) span) (exponentFr
 
 -- while total_ns / actual > max_points as u64 * units[idx] { idx += 1; if idx == units.len() { idx = 0; actual *= base; } }
 -- units[idx] * actual
-unfoldable pub determineActual : ℕ → ℕ → ℕ → List ℕ → ℕ → ℕ → ℕ → ℕ
-determineActual zero totalNs actual units base maxPoints idx = getD units idx 0 * actual
-determineActual (suc turns) totalNs actual units base maxPoints idx =
+unfoldable pub determineActualNsPerPoint : ℕ → ℕ → ℕ → List ℕ → ℕ → ℕ → ℕ → ℕ
+determineActualNsPerPoint zero totalNs actual units base maxPoints idx = getD units idx 0 * actual
+determineActualNsPerPoint (suc turns) totalNs actual units base maxPoints idx =
     let around = eqb (idx + 1) (length units) in
     cond (ltb (maxPoints * getD units idx 0) (totalNs / actual))
-    (determineActual turns totalNs (cond around (actual * base) actual) units base maxPoints (cond around 0 (idx + 1)))
+    (determineActualNsPerPoint turns totalNs (cond around (actual * base) actual) units base maxPoints (cond around 0 (idx + 1)))
     (getD units idx 0 * actual)
 
 -- from a day on: if actual_ns_per_point < 3600_000_000_000 * 24 * 10 { .. } else { .. }
 unfoldable pub daysFrom : ℕ → ℕ → ℕ → ℕ → ℕ
 daysFrom turns actual totalNs maxPoints =
-    cond (ltb actual (perDay * 10)) (determineActual turns totalNs perDay (1 ∷ 2 ∷ 5 ∷ 7 ∷ []) 10 maxPoints 0)
-    (determineActual turns totalNs (perDay * 10) (1 ∷ 2 ∷ 5 ∷ []) 10 maxPoints 0)
+    cond (ltb actual (perDay * 10)) (determineActualNsPerPoint turns totalNs perDay (1 ∷ 2 ∷ 5 ∷ 7 ∷ []) 10 maxPoints 0)
+    (determineActualNsPerPoint turns totalNs (perDay * 10) (1 ∷ 2 ∷ 5 ∷ []) 10 maxPoints 0)
 
 -- the units by the power of ten, actual_ns_per_point
 unfoldable pub periodFrom : ℕ → ℕ → ℕ → ℕ → Bool → Option ℕ
 periodFrom turns actual totalNs maxPoints subDaily =
-    cond (ltb actual perSecond) (some (determineActual turns totalNs actual (1 ∷ 2 ∷ 5 ∷ []) 10 maxPoints 0))
+    cond (ltb actual perSecond) (some (determineActualNsPerPoint turns totalNs actual (1 ∷ 2 ∷ 5 ∷ []) 10 maxPoints 0))
     (cond (ltb actual perHour)
-    (some (determineActual turns totalNs perSecond (1 ∷ 2 ∷ 5 ∷ 10 ∷ 15 ∷ 20 ∷ 30 ∷ []) 60 maxPoints 0))
-    (cond (ltb actual perDay) (some (determineActual turns totalNs perHour (1 ∷ 2 ∷ 4 ∷ 8 ∷ 12 ∷ []) 24 maxPoints 0))
+    (some (determineActualNsPerPoint turns totalNs perSecond (1 ∷ 2 ∷ 5 ∷ 10 ∷ 15 ∷ 20 ∷ 30 ∷ []) 60 maxPoints 0))
+    (cond (ltb actual perDay) (some (determineActualNsPerPoint turns totalNs perHour (1 ∷ 2 ∷ 4 ∷ 8 ∷ 12 ∷ []) 24 maxPoints 0))
     (cond (not subDaily) (some (daysFrom turns actual totalNs maxPoints))
     none)))
 

@@ -9,14 +9,13 @@ use lib.Dec.{ltb, leb, eqb}
 use lib.Ieee.{binary64}
 use borrow.Author.Tests.{ltb-false, leb-true, leb-false, eqb-true, eqb-false, lt-ltb, le-leb, lt-leb, eq-eqb, ne-eqb}
 use Rattle.laws.proofs.Tests.{both-true, and-true}
-use Rattle.floats.specs.Rounding.{upward}
+use Rattle.floats.specs.Rounding.{upward, ceilOf}
 use Rattle.floats.proofs.Quotients.{ratio-ceil, ceil-by-zero}
 use Rattle.values.proofs.Numbers.{not-both}
 use Rattle.steps.specs.Progression.{fitting}
 use Rattle.steps.proofs.Fitting.{few-steps}
 use Rattle.steps.proofs.Demand.{Kept}
 use Rattle.plans.specs.Days.{dateStep}
-use Rattle.floats.specs.Rounding.{ceilOf}
 use Rattle.plans.proofs.Cases.{choose}
 
 -- ---- the weeks of a step

@@ -11,12 +11,12 @@ use lib.IntN.{ℤ, pos, negsuc, _+ℤ_, _-ℤ_, _*ℤ_, +ℤ-idr}
 use lib.Signed.{mag, ltZ, leZ}
 use borrow.Author.Tests.{ltb-true, ltb-false, not-true}
 use Rattle.laws.specs.Numbers.{posPart, negPart}
-use Rattle.laws.specs.Units.{perSecond, perDay}
+use Rattle.laws.specs.Units.{perSecond, perDay, secondsPerDay}
 use Rattle.laws.proofs.Signed.{add, sub, same, lt-false, le-true}
 use Rattle.laws.proofs.Tests.{either-false}
 use Rattle.values.specs.declared.Value.{Value}
 use Rattle.values.specs.Values.{isDuration, earlier, midnight}
-use Rattle.values.specs.Differences.{unit, fitsI64}
+use Rattle.values.specs.Differences.{unit, fitsI64, daysIn}
 use Rattle.values.proofs.Numbers.{not-below, bounded, is-le}
 use Rattle.values.proofs.Values.{date-value}
 use Rattle.values.proofs.Joining.{joint}
@@ -44,8 +44,6 @@ use Rattle.steps.proofs.Demand.{Kept, steps-fine, kept-sound}
 use Rattle.plans.specs.Days.{evenly, dateStep, daysBy, dayPlan}
 use Rattle.plans.specs.Months.{fromMonth, toMonth, yearStep, monthStep, monthsBy, monthPlan, yearPlan}
 use Rattle.plans.specs.Times.{periodIn, shift, timePlan, Timed, firstSecond, secondsLeft}
-use Rattle.laws.specs.Units.{secondsPerDay}
-use Rattle.values.specs.Differences.{daysIn}
 use Rattle.plans.specs.Times.{spanDaysPlan, Long}
 use Rattle.plans.specs.Plans.{Accepted, periodPlan, planOf}
 use Rattle.plans.proofs.Cases.{choose, by-test}

@@ -14,7 +14,7 @@ use Rattle.laws.specs.Units.{perSecond, perDay}
 use Rattle.laws.proofs.Signed.{add, sub, mul-up, mul-dn, quot-up, quot-dn, fits, is-ge}
 use Rattle.values.specs.declared.Value.{Value}
 use Rattle.values.specs.Values.{isDuration, isValue}
-use Rattle.values.specs.Differences.{nanoseconds, fitsI64}
+use Rattle.values.specs.Differences.{nanoseconds, fitsI64, ofDays, daysIn}
 use Rattle.values.proofs.Values.{DurationValue, day-value, duration-value}
 use Rattle.values.proofs.Numbers.{bounded, not-below}
 use Rattle.values.proofs.Fits.{fits-yes, fits-range}
@@ -29,8 +29,6 @@ use Rattle.laws.proofs.Tests.{bit}
 use Rattle.period.specs.Periods.{periodOf, powerOf}
 use Rattle.period.proofs.Periods.{any-step, period-above, period-fits}
 use Rattle.plans.specs.Times.{shift, periodIn, Timed, firstSecond, secondsLeft, Long}
-use Rattle.values.specs.Differences.{ofDays}
-use Rattle.values.specs.Differences.{daysIn}
 use Rattle.plans.specs.Plans.{Accepted}
 use Rattle.plans.proofs.Cases.{choose, by-test}
 use Rattle.plans.proofs.Times.{up-most, shift-most}

@@ -9,7 +9,7 @@ ghost use mathlib.Core.Bool.{true};
 ghost use Prim.Native.Nat.{_+_, _≤_, _<_, _^_, min};
 ghost use lib.IntN.{pos};
 ghost use Rattle.values.specs.Values.{isValue};
-ghost use Rattle.values.specs.Differences.{unit};
+ghost use Rattle.values.specs.Differences.{unit, daysIn};
 ghost use Rattle.axis.specs.Axes.{start};
 ghost use Rattle.counting.specs.Counting.{Dated};
 ghost use Rattle.plans.specs.Days.{evenly, dateStep, dayPlan};
@@ -18,7 +18,6 @@ ghost use Rattle.plans.specs.Months.{fromMonth, toMonth, yearStep, month
 ghost use Rattle.plans.specs.Times.{periodIn, shiftUp, shiftOf, shift, timePlan, Timed};
 ghost use Rattle.laws.specs.Numbers.{asU64};
 ghost use Rattle.plans.specs.Times.{firstSecond, secondsLeft, spanDaysPlan, Long};
-ghost use Rattle.values.specs.Differences.{daysIn};
 ghost use Rattle.plans.specs.Plans.{Accepted, periodPlan, planOf};
 
 // Ticks step apart from the number first to the number end, which is left out. A head has per numbers, and base is the

@@ -24,7 +24,8 @@ use Rattle.segmented.specs.Segments as segments
 use Rattle.segmented.specs.Answers.{segmentMapAnswer}
 use Rattle.ordered.specs.Replies.{numberReply, periodReply}
 use Rattle.promises.specs.Examples as rows
-use Rattle.promises.specs.Examples.{Holds, spanFrom, countNumbers, periodNumbers, sevens, settledTable, publishedDays, AllHold}
+use Rattle.promises.specs.Examples.{Holds, spanFrom, countNumbers, periodNumbers, sevens}
+use Rattle.promises.specs.Examples.{settledTable, publishedDays, AllHold}
 use Rattle.promises.proofs.OpenRows as laws
 
 -- ---- rows that leave something open
@@ -46,7 +47,7 @@ no-whole-month = λ i.
 -- ---- the others
 negative-start : Holds rows.negative-start
 unfolding isValue earlier spanOf difference nanoseconds nanosecondsOf asks.known asks.ends asks.inOrder asks.nearZero
-    asks.nearOrLong asks.boldHint count.monthly count.yearly while periods.exponentFrom periods.determineActual
+    asks.nearOrLong asks.boldHint count.monthly count.yearly while periods.exponentFrom periods.determineActualNsPerPoint
     periods.periodFrom periods.computePeriodPerPoint times.plus times.periodOn times.aligned times.durationOf
     times.durationsBy times.durationKeyPoints keyPoints keyPointsFor ticks.ticksAnswer ticks.ticksWritten
 negative-start = refl

@@ -1,16 +1,14 @@
 -- Document 01's misreadings are false, each by one input. Assumes nothing.
 use mathlib.Core.Path.{_≡_, refl, ap}
-use mathlib.Core.List.{List, [], _∷_}
-use Prim.Native.Nat.{ℕ}
+use mathlib.Core.List.{[], _∷_}
 use native.Mathlib.Omega.{arith}
 use lib.Ieee as ieee
-use lib.IntN.{ℤ, pos}
+use lib.IntN.{pos}
 use Rattle.laws.specs.Numbers.{posPart}
 use Rattle.values.specs.declared.Value.{Value}
 use Rattle.values.specs.Differences.{nanoseconds, difference, nanosecondsOf}
 use Rattle.values.specs.Values.{isValue, earlier, midnight}
 use Rattle.axis.specs.declared.Axis.{Axis}
-use Rattle.axis.specs.declared.Limits.{Limits}
 use Rattle.axis.specs.Axes.{spanOf, offsetOf}
 use Rattle.axis.specs.Questions as asks
 use Rattle.floats.specs.Rounding as rounding
@@ -57,7 +55,8 @@ unfolding calendar.leap calendar.leapDay calendar.monthLength calendar.months ca
     months.generateKeyPoints months.totalMonth months.monthsFrom months.monthKeyPoints keyPoints keyPointsFor
     ticks.ticksAnswer ticks.ticksWritten first-nanosecond
 some-before f =
-    f first-nanosecond (boldOf 1) (pos 7 ∷ (pos 7 ∷ [])) 1 0 refl (omega arith) (by-tail refl (smaller (pos 0) (pos 1) (omega arith)))
+    let later = by-tail refl (smaller (pos 0) (pos 1) (omega arith)) in
+    f first-nanosecond (boldOf 1) (pos 7 ∷ (pos 7 ∷ [])) 1 0 refl (omega arith) later
 
 -- date-times from the first nanosecond of day 1 to midnight of day 8, between 0 and 15: the end is at 14
 week-less-one : Axis

@@ -28,7 +28,7 @@ use Rattle.steps.specs.Listing.{numbers}
 use Rattle.plans.specs.Months.{fromMonth, toMonth, monthPlan}
 use Rattle.plans.specs.Plans.{planOf}
 use Rattle.keypoints.specs.Dates.{datesFrom, dateKeyPoints}
-use Rattle.keypoints.specs.Periods.{exponentFrom, determineActual, periodFrom, computePeriodPerPoint}
+use Rattle.keypoints.specs.Periods.{exponentFrom, determineActualNsPerPoint, periodFrom, computePeriodPerPoint}
 use Rattle.keypoints.specs.Times.{periodOn}
 use Rattle.keypoints.specs.KeyPoints.{keyPoints}
 use Rattle.keypoints.specs.Hints.{keyPointsFor}
@@ -55,7 +55,10 @@ module _ (day k n : ℕ) (first : 1 ≤ day) (last : day + k ≤ 3652059) (few :
 
   real : ends a ≡ true
   unfolding ends isValue
-  real = rw (le-leb 1 day first, le-leb day 3652059 (omega arith), le-leb 1 (day + k) (omega arith), le-leb (day + k) 3652059 last)
+  real =
+      let x = le-leb day 3652059 (omega arith) in
+      let y = le-leb 1 (day + k) (omega arith) in
+      rw (le-leb 1 day first, x, y, le-leb (day + k) 3652059 last)
 
   order : inOrder a ≡ true
   unfolding inOrder earlier
@@ -113,11 +116,11 @@ unfolding periodAnswer periodOn
 spanned span k f e a kind real order s = rw (has-period a kind real order, s, f, kind, e)
 
 pub below-the-power : BelowThePower
-unfolding exponentFrom determineActual periodFrom computePeriodPerPoint
+unfolding exponentFrom determineActualNsPerPoint periodFrom computePeriodPerPoint
 below-the-power = spanned 999999999999999 (5 * perHour) refl refl
 
 pub at-the-power : AtThePower
-unfolding exponentFrom determineActual periodFrom computePeriodPerPoint
+unfolding exponentFrom determineActualNsPerPoint periodFrom computePeriodPerPoint
 at-the-power = spanned (10 ^ 15) (4 * perHour) refl refl
 
 -- ---- an index

@@ -89,7 +89,7 @@ unfolding calendar.leap calendar.leapDay calendar.monthLength calendar.months ca
     count.yearly count.fromDay count.toDay count.firstDate count.dateOn count.origin count.position count.sizeOf while
     dates.datesFrom dates.dateKeyPoints months.startOf months.carried months.generateKeyPoints months.lastYear
     months.exp10From months.tryFreq months.freqOf months.generateYearlyKeypoints months.totalMonth months.monthsFrom
-    months.monthKeyPoints periods.exponentFrom periods.determineActual periods.daysFrom periods.periodFrom
+    months.monthKeyPoints periods.exponentFrom periods.determineActualNsPerPoint periods.daysFrom periods.periodFrom
     periods.computePeriodPerPoint times.plus times.periodOn times.alignedUp times.dateTimesBy times.dateTimeKeyPoints
     times.aligned times.durationOf times.durationsBy times.durationKeyPoints keyPoints monthlyLight lightKeyPoints
     keyPointsFor ticks.ticksAnswer ticks.ticksWritten ticks.periodAnswer index.isIndexed index.indexOf index.monthAt

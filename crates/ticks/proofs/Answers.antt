@@ -16,7 +16,7 @@ use Rattle.steps.proofs.Fronts.{within-lent, front-is, length-after}
 use Rattle.ticks.specs.declared.Planned.{Planned}
 use Rattle.keypoints.specs.Hints.{keyPointsFor}
 use Rattle.ticks.specs.Answers.{tickQuestions, ticksAnswer, ticksWritten, ticksHanded}
-use Rattle.ticks.specs.Plans.{planFor, PlannedFor, Listable}
+use Rattle.ticks.specs.Plans.{PlannedFor, Listable}
 use Rattle.ticks.proofs.KeyPoints.{plan-same}
 use Rattle.ticks.proofs.Promise.{plan-sound}
 

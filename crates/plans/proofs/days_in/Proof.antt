@@ -3,8 +3,7 @@ use borrow.Author.Needs.{needs}
 use mathlib.Core.Path.{_∙_, ap}
 use mir.Syntax.{w64}
 use mir.Facts.{toZ-ofZ}
-use Rattle.values.specs.Differences.{wholeDays}
-use Rattle.values.specs.Differences.{daysIn}
+use Rattle.values.specs.Differences.{wholeDays, daysIn}
 use Rattle.plans.proofs.Times.{zero-value, from-zero}
 use Rattle.plans.proofs.days_in.Statement.{statement}
 use Rattle.plans.proofs.days_in.Tie as tie

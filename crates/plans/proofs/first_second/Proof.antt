@@ -10,8 +10,7 @@ use mir.Facts.{toZ-ofZ}
 use Rattle.values.proofs.Values.{DurationValue, duration-value}
 use Rattle.axis.specs.Questions.{equals}
 use Rattle.plans.specs.Times.{firstSecond}
-use Rattle.values.specs.Differences.{ofDays}
-use Rattle.values.specs.Differences.{daysIn}
+use Rattle.values.specs.Differences.{ofDays, daysIn}
 use Rattle.plans.proofs.Spans.{second-fits, later-fits}
 use Rattle.plans.proofs.first_second.Statement.{statement}
 use Rattle.plans.proofs.first_second.Tie as tie

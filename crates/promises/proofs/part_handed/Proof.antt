@@ -1,8 +1,6 @@
 -- `promises::part_handed` meets its contract: the theorem, of the part that is handed back. Assumes nothing.
 use borrow.Author.Needs.{needs}
 use mathlib.Core.Path.{sym, subst}
-use mathlib.Core.List.{List}
-use lib.IntN.{ℤ}
 use lib.ListN.{length}
 use Rattle.ticks.proofs.Promise.{handed-fine}
 use Rattle.promises.specs.Demand.{FinePart}
