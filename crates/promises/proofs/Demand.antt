@@ -96,9 +96,9 @@ demand-3 a h d l i j = record {
 }
 
 -- ---- of what a call handed back, which is as defined
-pub list-as : (a : Axis) {h k : Hint} {r s : OrderedNumber} {l m : List ℤ} → h ≡ k → r ≡ s → l ≡ m → FineList a k s m →
+pub list-as : (a : Axis) (h : Hint) {r s : OrderedNumber} {l m : List ℤ} → (r ≡ s) × (l ≡ m) → FineList a h s m →
     FineList a h r l
-list-as a p q w f = rw (p, q, w) f
+list-as a h (q, w) f = rw (q, w) f
 
 pub pixels-as : (a : Axis) (l : Limits) (i j : ℤ) {x y u v : OrderedPixel} → x ≡ u → y ≡ v → DaysApart a l i j u v →
     DaysApart a l i j x y

@@ -2,20 +2,10 @@
 // specs/Demand.antt has the claim, proofs/Demand.antt its theorem.
 use axis::Axis;
 use axis::Hint;
-use axis::Limits;
 use ordered::OrderedNumber;
 use ordered::OrderedPixel;
-ghost use mathlib.Core.Path.{_≡_};
-ghost use Rattle.mapping.specs.Mapping.{mapped};
-ghost use Rattle.values.specs.Values.{midnight};
-ghost use Rattle.ordered.specs.Replies.{pixelReply};
+ghost use Rattle.axis.specs.Axes.{axisOf};
 ghost use Rattle.promises.specs.Demand.{FineList, FinePart, DaysApart};
-
-// Two day numbers.
-pub struct TwoDays {
-    pub first: i64,
-    pub second: i64,
-}
 
 // What the mappings of two days answered.
 pub struct TwoPixels {
@@ -23,90 +13,130 @@ pub struct TwoPixels {
     pub second: OrderedPixel,
 }
 
-// The ticks of an axis, by the export of the hint.
-pub fn ticks_listed(a: Axis, h: Hint, lent: &mut [i64]) -> OrderedNumber
-    ensures { λ r. ⌜ FineList a h r (now (lent .exit)) ⌝ }
+pub fn ticks_bold(
+    kind: i64,
+    start_head: i64,
+    start_tail: i64,
+    end_head: i64,
+    end_tail: i64,
+    n: i64,
+    lent: &mut [i64],
+) -> OrderedNumber
+    ensures { λ r. ⌜ FineList (axisOf kind «start_head» «start_tail» «end_head» «end_tail»)
+        (Hint.Bold (record { n = n })) r (now (lent .exit)) ⌝ }
 {
-    match h {
-        Hint::Bold(b) => ordered::ordered_ticks_bold(
-            a.kind,
-            a.start_head,
-            a.start_tail,
-            a.end_head,
-            a.end_tail,
-            b.n,
-            lent,
-        ),
-        Hint::Light(l) => ordered::ordered_ticks_light(
-            a.kind,
-            a.start_head,
-            a.start_tail,
-            a.end_head,
-            a.end_tail,
-            l.bold,
-            l.n,
-            lent,
-        ),
-    }
+    ordered::ordered_ticks_bold(kind, start_head, start_tail, end_head, end_tail, n, lent)
 }
 
-// The ticks of an axis' segments, by the export of the hint.
-pub fn segment_ticks_listed(a: Axis, h: Hint, lent: &mut [i64]) -> OrderedNumber
-    ensures { λ r. ⌜ FineList a h r (now (lent .exit)) ⌝ }
+pub fn ticks_light(
+    kind: i64,
+    start_head: i64,
+    start_tail: i64,
+    end_head: i64,
+    end_tail: i64,
+    bold: i64,
+    n: i64,
+    lent: &mut [i64],
+) -> OrderedNumber
+    ensures { λ r. ⌜ FineList (axisOf kind «start_head» «start_tail» «end_head» «end_tail»)
+        (Hint.Light (record { bold = bold; n = n })) r (now (lent .exit)) ⌝ }
 {
-    match h {
-        Hint::Bold(b) => ordered::ordered_segment_ticks_bold(
-            a.kind,
-            a.start_head,
-            a.start_tail,
-            a.end_head,
-            a.end_tail,
-            b.n,
-            lent,
-        ),
-        Hint::Light(l) => ordered::ordered_segment_ticks_light(
-            a.kind,
-            a.start_head,
-            a.start_tail,
-            a.end_head,
-            a.end_tail,
-            l.bold,
-            l.n,
-            lent,
-        ),
-    }
+    ordered::ordered_ticks_light(
+        kind,
+        start_head,
+        start_tail,
+        end_head,
+        end_tail,
+        bold,
+        n,
+        lent,
+    )
+}
+
+pub fn segment_ticks_bold(
+    kind: i64,
+    start_head: i64,
+    start_tail: i64,
+    end_head: i64,
+    end_tail: i64,
+    n: i64,
+    lent: &mut [i64],
+) -> OrderedNumber
+    ensures { λ r. ⌜ FineList (axisOf kind «start_head» «start_tail» «end_head» «end_tail»)
+        (Hint.Bold (record { n = n })) r (now (lent .exit)) ⌝ }
+{
+    ordered::ordered_segment_ticks_bold(kind, start_head, start_tail, end_head, end_tail, n, lent)
+}
+
+pub fn segment_ticks_light(
+    kind: i64,
+    start_head: i64,
+    start_tail: i64,
+    end_head: i64,
+    end_tail: i64,
+    bold: i64,
+    n: i64,
+    lent: &mut [i64],
+) -> OrderedNumber
+    ensures { λ r. ⌜ FineList (axisOf kind «start_head» «start_tail» «end_head» «end_tail»)
+        (Hint.Light (record { bold = bold; n = n })) r (now (lent .exit)) ⌝ }
+{
+    ordered::ordered_segment_ticks_light(
+        kind,
+        start_head,
+        start_tail,
+        end_head,
+        end_tail,
+        bold,
+        n,
+        lent,
+    )
 }
 
 // The part of the lent numbers that is handed back, with a bold or a light hint.
-pub fn part_handed(a: Axis, h: Hint, lent: &mut [i64]) -> &mut [i64]
+pub fn key_points(a: Axis, h: Hint, lent: &mut [i64]) -> &mut [i64]
     ensures { λ r. ⌜ FinePart a h (now r) ⌝ }
 {
     ticks::key_points(a, h, lent)
 }
 
-// The pixel of a day.
-fn day_mapped(a: Axis, l: Limits, day: i64) -> OrderedPixel
-    ensures { λ r. ⌜ r ≡ pixelReply (mapped a l (midnight day)) ⌝ }
-{
-    ordered::ordered_map(
-        a.kind,
-        a.start_head,
-        a.start_tail,
-        a.end_head,
-        a.end_tail,
-        l.low,
-        l.high,
-        day,
-        0,
-    )
-}
-
 // The pixels of two days.
-pub fn days_mapped(a: Axis, l: Limits, d: TwoDays) -> TwoPixels
-    ensures { λ r. ⌜ DaysApart a l (d .first) (d .second) (r .first) (r .second) ⌝ }
+pub fn map_days(
+    kind: i64,
+    start_head: i64,
+    start_tail: i64,
+    end_head: i64,
+    end_tail: i64,
+    low: i64,
+    high: i64,
+    first: i64,
+    second: i64,
+) -> TwoPixels
+    ensures { λ r. ⌜ DaysApart (axisOf kind «start_head» «start_tail» «end_head» «end_tail»)
+        (record { low = low; high = high }) first second (r .first) (r .second) ⌝ }
 {
     TwoPixels {
-        first: day_mapped(a, l, d.first),
-        second: day_mapped(a, l, d.second),
+        first: ordered::ordered_map(
+            kind,
+            start_head,
+            start_tail,
+            end_head,
+            end_tail,
+            low,
+            high,
+            first,
+            0,
+        ),
+        second: ordered::ordered_map(
+            kind,
+            start_head,
+            start_tail,
+            end_head,
+            end_tail,
+            low,
+            high,
+            second,
+            0,
+        ),
     }
 }
