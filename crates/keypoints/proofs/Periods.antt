@@ -1,6 +1,6 @@
 -- The loop's exponent is document 01's, and the loop over units finds the period. Assumes nothing.
 use mathlib.Core.Path.{_≡_, refl}
-use mathlib.Core.Bool.{Bool, true, false, cond, not}
+use mathlib.Core.Bool.{Bool, false, cond, not}
 use mathlib.Core.Logic.{_⊎_, inl, inr}
 use mathlib.Core.Option.{Option, none, some}
 use Prim.Native.Nat.{ℕ, zero, suc, _+_, _*_, _/_, _^_, _≤_, _<_}
@@ -18,7 +18,7 @@ use Rattle.period.proofs.Exponents.{from-top, largest, power-in}
 use Rattle.period.proofs.Climbing.{Climbed, climb-start, in-list, climb-step, climb-same, climb-next}
 use Rattle.period.proofs.Ladders.{is-decimal, is-seconds, is-hours, is-days, is-longest, chosen-ends}
 use Rattle.period.proofs.Periods.{below-day, any-step, days-listed, answers, answers-none}
-use Rattle.plans.proofs.Cases.{choose}
+use Rattle.plans.proofs.Cases.{both-ways, choose}
 use Rattle.keypoints.specs.Periods.{exponentFrom, determineActualNsPerPoint, daysFrom, periodFrom, computePeriodPerPoint}
 
 -- ---- the exponent
@@ -77,11 +77,6 @@ module _ (span n : ℕ) where
         le-antisymm (not-above x y (exponent-is turns t) exponent-of) (not-above y x exponent-of (exponent-is turns t))
 
 -- ---- the units
--- a case for each answer of a test that is asked more than once
-pub both-ways : (P : Bool → Type 0) (b : Bool) → (b ≡ true → P true) → (b ≡ false → P false) → P b
-both-ways P true f g = f refl
-both-ways P false f g = g refl
-
 module _ {span n : ℕ} {l : Ladder} (c : Climbable span n l) where
   found : (turns unit whole idx i : ℕ) → 16 < turns + i → Climbed span n l unit whole idx i →
       determineActualNsPerPoint turns span unit (l .counts) (l .base) n idx ≡ firstWide span n l

@@ -26,12 +26,11 @@ use Rattle.steps.specs.Progression.{ticks}
 use Rattle.steps.proofs.Fitting.{few-steps}
 use Rattle.plans.specs.Days.{evenly}
 use Rattle.plans.specs.Times.{firstSecond, secondsLeft, spanDaysPlan, Long}
-use Rattle.plans.proofs.Cases.{choose}
+use Rattle.plans.proofs.Cases.{both-ways, choose}
 use Rattle.plans.proofs.Spans.{left-dn, left-most, total-dn, total-range}
 use Rattle.plans.proofs.Promise.{pos-up}
 use Rattle.keypoints.specs.Times.{multiplier, daysPerTick, firstWhole, wholeDaysBy}
 use Rattle.keypoints.proofs.Years.{step-is}
-use Rattle.keypoints.proofs.Periods.{both-ways}
 use Rattle.keypoints.proofs.Times.{earlier-yes, earlier-no, walk-is}
 
 -- ---- the step

@@ -1,6 +1,6 @@
 -- The lists of date-times and durations a period apart are the plan's. Assumes nothing.
 use mathlib.Core.Path.{_≡_, refl, sym, ap, _∙_}
-use mathlib.Core.Bool.{Bool, true, false, cond, not}
+use mathlib.Core.Bool.{Bool, true, false, cond}
 use mathlib.Core.Logic.{inl, inr}
 use Prim.Native.Nat.{ℕ, suc, _+_, _-_, _*_, _/_, _%_, _≤_, _<_}
 use native.Mathlib.Nat.{eq-or-lt-of-le, mod-lt, mod-le, div-add-mod', mul-add-div-right, mul-add-mod-self-right}
@@ -16,10 +16,8 @@ use Rattle.values.specs.declared.Value.{Value}
 use Rattle.values.specs.Values.{isDuration, earlier, midnight}
 use Rattle.values.specs.Differences.{unit, nanoseconds}
 use Rattle.values.proofs.Joining.{Before, is-earlier, not-earlier, joint}
-use Rattle.values.proofs.Fits.{fits-range}
 use Rattle.axis.specs.declared.Axis.{Axis}
 use Rattle.axis.specs.Axes.{start, end, spanOf}
-use Rattle.period.proofs.Periods.{period-room}
 use Rattle.steps.specs.declared.Steps.{Steps}
 use Rattle.steps.specs.Progression.{fitting, tickOfNumber, tickOf, ticks}
 use Rattle.steps.specs.Promise.{Later, by-head, by-tail}
@@ -29,8 +27,8 @@ use Rattle.plans.specs.Times.{shiftUp, shiftOf, shift, timePlan, Timed, periodI
 use Rattle.plans.specs.Plans.{Accepted}
 use Rattle.plans.proofs.Cases.{by-test}
 use Rattle.plans.proofs.Times.{turned-size, up-most, shift-most}
-use Rattle.plans.proofs.Spans.{some-period, timed}
-use Rattle.plans.proofs.Promise.{Counts, counts, even, at-end-tick}
+use Rattle.plans.proofs.Spans.{timed}
+use Rattle.plans.proofs.Promise.{Counts, counts, even, at-end-tick, few-periods}
 use Rattle.keypoints.specs.Loops.{while}
 use Rattle.keypoints.specs.Times.{plus, listFrom, alignedUp, dateTimesBy, aligned, durationOf, durationsBy}
 use Rattle.keypoints.proofs.Loops.{while-is}
@@ -174,11 +172,8 @@ module _ (a : Axis) (n turns : ℕ) (q : Accepted a n) (some : 1 ≤ n) (h : 0 <
   abbrev axis : Timed a (periodIn a n)
   axis = timed a n q some h
 
-  few : posPart (spanOf a) < (n + 1) * periodIn a n
-  few =
-      let e = some-period a n (axis .fits) in
-      let s = fits-range (spanOf a) (axis .fits) in
-      rw e at (period-room (posPart (spanOf a)) n (not (isDuration (a .kind))) (omega arith) some (q .most) (rw (← e) at h))
+  abbrev few : posPart (spanOf a) < (n + 1) * periodIn a n
+  few = few-periods a n q some h
 
   by-period : (per x : ℕ) (first : Value) (c : Counts a per) (near : x ≤ periodIn a n) →
       first ≡ counted (a .«start_head») per (posPart (a .«start_tail») + x) →

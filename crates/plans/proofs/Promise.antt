@@ -283,16 +283,20 @@ module _ (a : Axis) (n k per x : ℕ) (t : Timed a k) (c : Counts a per) (few : 
             (not-earlier even (e - 1) e above (omega arith)));
       }
 
-time-good : (a : Axis) (n : ℕ) → Accepted a n → 1 ≤ n → 0 < periodIn a n → Good a n (timePlan a (periodIn a n))
-unfolding timePlan
-time-good a n q some h =
-    let t = timed a n q some h in
-    let k = periodIn a n in
-    let e = some-period a n (t .fits) in
-    let s = fits-range (spanOf a) (t .fits) in
-    let few : posPart (spanOf a) < (n + 1) * k =
-    rw e at (period-room (posPart (spanOf a)) n (not (isDuration (a .kind))) (omega arith) some (q .most) (rw (← e) at h)) in
-    even-good a n k (unit (a .kind)) (shift a k) t (counts a (q .real)) few (shift-small a k h)
+module _ (a : Axis) (n : ℕ) (q : Accepted a n) (some : 1 ≤ n) (h : 0 < periodIn a n) where
+  -- less than n + 1 periods
+  pub few-periods : posPart (spanOf a) < (n + 1) * periodIn a n
+  few-periods =
+      let t = timed a n q some h in
+      let e = some-period a n (t .fits) in
+      let s = fits-range (spanOf a) (t .fits) in
+      rw e at (period-room (posPart (spanOf a)) n (not (isDuration (a .kind))) (omega arith) some (q .most) (rw (← e) at h))
+
+  time-good : Good a n (timePlan a (periodIn a n))
+  unfolding timePlan
+  time-good =
+      let k = periodIn a n in
+      even-good a n k (unit (a .kind)) (shift a k) (timed a n q some h) (counts a (q .real)) few-periods (shift-small a k h)
 
 -- ---- whole days of a long duration
 module _ (a : Axis) (n : ℕ) (l : Long a) where
