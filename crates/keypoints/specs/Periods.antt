@@ -35,7 +35,8 @@ periodFrom turns actual totalNs maxPoints subDaily =
     cond (ltb actual perSecond) (some (determineActualNsPerPoint turns totalNs actual (1 ∷ 2 ∷ 5 ∷ []) 10 maxPoints 0))
     (cond (ltb actual perHour)
     (some (determineActualNsPerPoint turns totalNs perSecond (1 ∷ 2 ∷ 5 ∷ 10 ∷ 15 ∷ 20 ∷ 30 ∷ []) 60 maxPoints 0))
-    (cond (ltb actual perDay) (some (determineActualNsPerPoint turns totalNs perHour (1 ∷ 2 ∷ 4 ∷ 8 ∷ 12 ∷ []) 24 maxPoints 0))
+    (cond (ltb actual perDay)
+    (some (determineActualNsPerPoint turns totalNs perHour (1 ∷ 2 ∷ 4 ∷ 8 ∷ 12 ∷ []) 24 maxPoints 0))
     (cond (not subDaily) (some (daysFrom turns actual totalNs maxPoints))
     none)))
 

@@ -42,7 +42,8 @@ FinePart a h part = Fine (limit h) (start a) (end a) part
 -- axis, and there are more pixels than days, the pixels differ
 abbrev pub DaysApart : Axis → Limits → ℤ → ℤ → OrderedPixel → OrderedPixel → Type 0
 DaysApart a l i j x y =
-    MorePixels a l → DayOf a i → DayOf a j → (i ≡ j → ⊥) → x .status ≡ pos 0 → y .status ≡ pos 0 → x .pixel ≡ y .pixel → ⊥
+    MorePixels a l → DayOf a i → DayOf a j → (i ≡ j → ⊥)
+    → x .status ≡ pos 0 → y .status ≡ pos 0 → x .pixel ≡ y .pixel → ⊥
 
 -- the demand, of an axis, a hint, lent numbers, limits and two days: `ordered_ticks_bold` and `_light`, the same of segments,
 -- `key_points`, and `ordered_map`; only pixels of segment values are apart

@@ -24,7 +24,8 @@ use mathlib.Core.Bool.{false}
 -- 'Unmapping inverts mapping': where both answer, the value under a value's pixel is that value
 abbrev pub UnmapInverts : Type 0
 UnmapInverts =
-    (a : Axis) (l : Limits) (v w : Value) (p : ℤ) → mapped a l v ≡ pixel.At p → unmapAnswer a l p ≡ value.At w → w ≡ v
+    (a : Axis) (l : Limits) (v w : Value) (p : ℤ)
+    → mapped a l v ≡ pixel.At p → unmapAnswer a l p ≡ value.At w → w ≡ v
 
 -- 'Ticks never precede start'
 abbrev pub NeverBefore : Type 0
