@@ -38,8 +38,8 @@ use Rattle.discrete.specs.declared.NumberAnswer.the-variants as number
 use Rattle.discrete.specs.Indices.{isIndexed, indexOf}
 use Rattle.discrete.specs.Answers.{indexIn, indexAnswer, sizeAnswer}
 use Rattle.promises.specs.Examples.{boldOf, listedInto, new-year}
-use Rattle.promises.specs.OpenRows as rows
-use Rattle.promises.specs.OpenRows.{SixDays, TwoWeeks, PeriodOf, BelowThePower, AtThePower, EarlierYear, NoWholeMonth}
+use Rattle.promises.specs.OpenRows.{datesApart, SixDays, TwoWeeks, PeriodOf, BelowThePower, AtThePower, EarlierYear}
+use Rattle.promises.specs.OpenRows.{NoWholeMonth}
 use Rattle.promises.proofs.DayNumbers.{december-2019, january-2020, december-2021, january-2022}
 
 -- ---- a list that the questions accept and the lent numbers have room for
@@ -51,7 +51,7 @@ listed a h l d z e r = rw (z, e, le-leb (2 * length l) (length d) r)
 -- ---- dates
 module _ (day k n : ℕ) (first : 1 ≤ day) (last : day + k ≤ 3652059) (few : n ≤ 4096) where
   abbrev a : Axis
-  a = rows.datesFrom day k
+  a = datesApart day k
 
   real : ends a ≡ true
   unfolding ends isValue
@@ -84,7 +84,7 @@ pub six-days : SixDays
 unfolding datesFrom
 six-days day d first last room =
     let few : 0 ≤ 4096 = omega arith in
-    listed (rows.datesFrom day 6) (boldOf 0) (midnight (pos day) ∷ []) d (accepted day 6 0 first last few)
+    listed (datesApart day 6) (boldOf 0) (midnight (pos day) ∷ []) d (accepted day 6 0 first last few)
     (days day 6 0 first last few) room
 
 -- two weeks to a tick
@@ -99,7 +99,7 @@ both-ends day = let f : day + 0 ≡ day = omega arith in rw (two-per-tick, f)
 pub two-weeks : TwoWeeks
 two-weeks day d first last room =
     let few : 1 ≤ 4096 = omega arith in
-    listed (rows.datesFrom day 14) (boldOf 1) (midnight (pos day) ∷ (midnight (pos (day + 14)) ∷ [])) d
+    listed (datesApart day 14) (boldOf 1) (midnight (pos day) ∷ (midnight (pos (day + 14)) ∷ [])) d
     (accepted day 14 1 first last few) (days day 14 1 first last few ∙ both-ends day) room
 
 -- ---- the periods

@@ -1,10 +1,11 @@
 -- Document 01's three misreadings of the Rust, as one would claim them. Each is false: proofs/Misreadings.antt has, for each,
 -- the smallest input that shows it, by the sum of its numbers. Definitions only.
 use mathlib.Core.Path.{_≡_}
+use mathlib.Core.Bool.{false}
+use mathlib.Core.List.{List}
 use Prim.Native.Nat.{ℕ, _<_}
 use lib.IntN.{ℤ, pos, _+ℤ_, _-ℤ_, _*ℤ_}
 use lib.Signed.{_<ℤ_, quotZ}
-use mathlib.Core.List.{List}
 use lib.ListN.{length}
 use Rattle.values.specs.declared.Value.{Value}
 use Rattle.values.specs.Values.{isDuration}
@@ -19,7 +20,6 @@ use Rattle.steps.specs.declared.Listed.the-variants.{Ticks}
 use Rattle.steps.specs.Promise.{Later, nth}
 use Rattle.ticks.specs.Answers.{ticksAnswer, ticksWritten}
 use Rattle.discrete.specs.Answers.{unmapAnswer}
-use mathlib.Core.Bool.{false}
 
 -- 'Unmapping inverts mapping': where both answer, the value under a value's pixel is that value
 abbrev pub UnmapInverts : Type 0
@@ -34,11 +34,11 @@ NeverBefore =
     → Later (nth (ticksWritten a h d) i) (start a) → ⊥
 
 -- the low limit, and W × offset ÷ span, cut toward zero
-abbrev pub exactly : Axis → Limits → Value → ℤ
-exactly a l v = l .low +ℤ quotZ ((l .high -ℤ l .low) *ℤ offsetOf a v) (spanOf a)
+abbrev pub exactPixel : Axis → Limits → Value → ℤ
+exactPixel a l v = l .low +ℤ quotZ ((l .high -ℤ l .low) *ℤ offsetOf a v) (spanOf a)
 
 -- 'Float pixels equal the exact quotient cut', over dates and date-times that have a span
 abbrev pub AlwaysExact : Type 0
 AlwaysExact =
     (a : Axis) (l : Limits) (v : Value) (p : ℤ) → isDuration (a .kind) ≡ false → pos 0 <ℤ spanOf a
-    → mapped a l v ≡ pixel.At p → p ≡ exactly a l v
+    → mapped a l v ≡ pixel.At p → p ≡ exactPixel a l v

@@ -18,20 +18,20 @@ use Rattle.discrete.specs.Answers.{indexAnswer}
 use Rattle.promises.specs.Examples.{axisFrom, boldOf, listedInto, new-year}
 
 -- dates k days apart
-abbrev pub datesFrom : ℕ → ℕ → Axis
-datesFrom day k = axisFrom (pos 1) (midnight (pos day)) (midnight (pos (day + k)))
+abbrev pub datesApart : ℕ → ℕ → Axis
+datesApart day k = axisFrom (pos 1) (midnight (pos day)) (midnight (pos (day + k)))
 
 -- 'dates 6 days apart, N 0': start, from every day, and the lent numbers behind it as they were
 abbrev pub SixDays : Type 0
 SixDays =
     (day : ℕ) (d : List ℤ) → 1 ≤ day → day + 6 ≤ 3652059 → 2 ≤ length d
-    → listedInto (datesFrom day 6) (boldOf 0) d ≡ pos 0 ∷ (pos 1 ∷ (pos day ∷ (pos 0 ∷ drop 2 d)))
+    → listedInto (datesApart day 6) (boldOf 0) d ≡ pos 0 ∷ (pos 1 ∷ (pos day ∷ (pos 0 ∷ drop 2 d)))
 
 -- 'dates 14 days apart, N 1': start, end
 abbrev pub TwoWeeks : Type 0
 TwoWeeks =
     (day : ℕ) (d : List ℤ) → 1 ≤ day → day + 14 ≤ 3652059 → 4 ≤ length d
-    → listedInto (datesFrom day 14) (boldOf 1) d
+    → listedInto (datesApart day 14) (boldOf 1) d
     ≡ pos 0 ∷ (pos 2 ∷ (pos day ∷ (pos 0 ∷ (pos (day + 14) ∷ (pos 0 ∷ drop 4 d)))))
 
 -- a span of kind 4 with N 100 has the period k, between any two date-times in order that are so far apart

@@ -1,6 +1,5 @@
--- How the code finds a list: the axis that lists with a hint, its progression, and the plan that is made once for a list's
--- count and its listing. No answer is defined by these; proofs/KeyPoints.antt says that they give the answers' lists.
--- Definitions only.
+-- How the code finds a list: the axis that lists, its progression, and the plan, made once for count and listing. No answer
+-- is defined by these; proofs/KeyPoints.antt says that they give the answers' lists. Definitions only.
 use mathlib.Core.Path.{_≡_}
 use mathlib.Core.Bool.{cond, _&&_, _||_}
 use Prim.Native.Nat.{ℕ, _*_}
