@@ -5,12 +5,16 @@ TOOLS is the folder with the compiled answers and peak. One line for each group;
 import fcntl
 import itertools
 import os
+import pty
 import random
+import signal
+import socket
 import subprocess
 import sys
 import tempfile
 import termios
 import time
+import tty
 
 from reading import HEADING, NAMES, Reading
 
@@ -292,6 +296,149 @@ def random_bytes(plate, reading):
     group.done()
 
 
+def full_buffer(plate, reading):
+    """Lists of thousands among short lines: their rows go beyond the buffer at many places."""
+    group, draw = Group("more rows than the buffer holds"), random.Random(20261116)
+    longs = [b"stamp 2021-03-01T00:00:00 2021-03-01T01:08:16 4096 0 8192", b"date 2001-01-01 2012-03-20 4096 -32767 32767"]
+    for _ in range(4):
+        lines = [draw.choice(longs) if draw.random() < 0.5 else draw.choice(GOOD) for _ in range(40)]
+        data = START + b"\n".join(lines) + b"\n"
+        group.same("40 lines", reading.expected(data), plate.output(data))
+    group.done()
+
+
+class Said(bytes):
+    """Both outputs of a run that may fail, as one text to compare."""
+
+    def __new__(cls, out, error, status=0):
+        return super().__new__(cls, b"exit status %d\non standard error: %s\non standard output:\n%s" % (status, error, out))
+
+
+def closing(descriptor):
+    """What a child does first, so that it starts with this one closed."""
+    return lambda: os.close(descriptor)
+
+
+def said_by(plate, *words, stdin=subprocess.DEVNULL, stdout=subprocess.PIPE, **more):
+    more.update(stdin=stdin, stdout=stdout, stderr=subprocess.PIPE, timeout=PATIENCE)
+    try:
+        done = subprocess.run([plate.program, *words], **more)
+    except subprocess.TimeoutExpired:
+        return Said(b"", b"no end after %d seconds" % PATIENCE)
+    return Said(done.stdout or b"", done.stderr, done.returncode)
+
+
+def failing_reads(plate, reading):
+    """The reason on standard error, the rows of the lines before it, and not the rows of an end."""
+    group = Group("reads that fail")
+    folder = os.open("/", os.O_RDONLY)
+    group.same("a directory", Said(b"", b"plate: read: Is a directory\n"), said_by(plate, stdin=folder))
+    os.close(folder)
+    closed = said_by(plate, preexec_fn=closing(0))
+    group.same("a closed descriptor", Said(b"", b"plate: read: Bad file descriptor\n"), closed)
+    for begun in (b"", b"date 2021-03"):
+        data = START + GOOD[0] + b"\n"
+        rows = reading.expected(data)
+        # The other end of a terminal hangs up once what it said is read.
+        near, far = pty.openpty()
+        tty.setraw(far)
+        os.write(far, data + begun)
+        os.close(far)
+        group.same("a terminal that hangs up", Said(rows, b"plate: read: Input/output error\n"), said_by(plate, stdin=near))
+        os.close(near)
+        near, far = os.pipe()
+        os.set_blocking(near, False)
+        os.write(far, data + begun)
+        not_yet = Said(rows, b"plate: read: Resource temporarily unavailable\n")
+        group.same("a pipe that does not wait", not_yet, said_by(plate, stdin=near))
+        os.close(near), os.close(far)
+    group.done()
+
+
+def failing_writes(plate, reading):
+    """The reason on standard error, and nothing more, at a line and at the end of the input."""
+    group, names = Group("writes that fail"), tempfile.TemporaryFile()
+    names.write(START)
+    for what, given in (("at a line", names), ("at the end", subprocess.DEVNULL)):
+        with open("/dev/full", "wb") as full:
+            names.seek(0)
+            said = said_by(plate, stdin=given, stdout=full)
+        group.same("a full disk, " + what, Said(b"", b"plate: write: No space left on device\n"), said)
+        names.seek(0)
+        said = said_by(plate, stdin=given, preexec_fn=closing(1))
+        group.same("a closed output, " + what, Said(b"", b"plate: write: Bad file descriptor\n"), said)
+    for signals, expected in ((False, Said(b"", b"plate: write: Broken pipe\n")), (True, Said(b"", b"", -signal.SIGPIPE))):
+        near, far = os.pipe()
+        os.close(near)
+        names.seek(0)
+        group.same("nobody reads", expected, said_by(plate, stdin=names, stdout=far, restore_signals=signals))
+        os.close(far)
+    group.same("a pipe that does not wait", b"a part of the rows, and why", full_pipe(plate, reading))
+    group.done()
+
+
+def full_pipe(plate, reading):
+    """Nobody takes from the pipe, and it does not let plate wait."""
+    with tempfile.TemporaryFile() as given:
+        data = START + b"date 2001-01-01 2012-03-20 4096 0 8192\n" * 9
+        given.write(data)
+        given.seek(0)
+        near, far = os.pipe()
+        os.set_blocking(far, False)
+        said = said_by(plate, stdin=given, stdout=far)
+        os.close(far)
+        with open(near, "rb") as end:
+            out = end.read()
+    whole = reading.expected(data)
+    if said != Said(b"", b"plate: write: Resource temporarily unavailable\n"):
+        return said
+    return b"a part of the rows, and why" if out and out != whole and whole.startswith(out) else b"other rows"
+
+
+def arguments(plate, _):
+    """--help alone prints the forms; all else is an error, and neither reads nor prints."""
+    group = Group("arguments")
+    error = b"plate: the only argument is --help; axes are read from standard input\n"
+    with tempfile.TemporaryFile() as given:
+        given.write(EXAMPLE)
+
+        def said(*words, **more):
+            given.seek(0)
+            got = said_by(plate, *words, stdin=given, **more)
+            if os.lseek(given.fileno(), 0, os.SEEK_CUR):
+                group.difference(words, "the input was read")
+            return got
+
+        text = said("--help")
+        for word in (b"exit status 0\non standard error: \n", b"kind start end hint low high", b"YYYY-MM-DDThh:mm:ss", b"span"):
+            if word not in text:
+                group.difference("--help", "has no %r" % word)
+        if text.count(b"\n") != 3 + 10:
+            group.difference("--help", "%d lines" % (text.count(b"\n") - 3))
+        for words in (["-h"], ["x"], [""], ["--hel"], ["--helps"], ["-" * 5000], ["--help", "--help"], ["x", "--help"]):
+            group.same(words, Said(b"", error), said(*words))
+        with open("/dev/full", "wb") as full:
+            group.same("--help", Said(b"", b"plate: write: No space left on device\n"), said("--help", stdout=full))
+    group.done()
+
+
+def single_writes(plate, reading):
+    """A chunk's rows come in one write: each is a message of its own here."""
+    group = Group("one write for a chunk")
+    for count in (1, 100, 1000):
+        near, far = socket.socketpair(socket.AF_UNIX, socket.SOCK_SEQPACKET)
+        data = START + b"".join(line + b"\n" for line in itertools.islice(itertools.cycle([GOOD[0], GOOD[2], GOOD[4]]), count))
+        with tempfile.TemporaryFile() as given, near, far:
+            given.write(data)
+            given.seek(0)
+            said = said_by(plate, stdin=given, stdout=far)
+            far.close()
+            group.same("standard error", Said(b"", b""), said)
+            group.same("%d lines" % count, reading.expected(data), near.recv(2**20))
+            group.same("after them", b"", near.recv(2**20))
+    group.done()
+
+
 def output_and_peak(plate, peak, data, folder):
     """From file to file, so that no other process slows plate down; the output, the largest memory in KiB, and the seconds."""
     put, got, report = (os.path.join(folder, name) for name in ("in", "out", "peak"))
@@ -327,7 +474,8 @@ def many_lines(plate, reading, tools):
 
 def main(program, tools):
     plate, reading = Plate(program), Reading(os.path.join(tools, "answers"))
-    for check in (example, names, broken_off, pieces, damaged, line_ends, lengths, long_lines, random_lines, random_bytes):
+    for check in (example, names, broken_off, pieces, damaged, line_ends, lengths, long_lines, random_lines, random_bytes,
+                  full_buffer, failing_reads, failing_writes, arguments, single_writes):
         check(plate, reading)
     many_lines(plate, reading, tools)
     return Group.failed

@@ -38,7 +38,7 @@ enum ValueField {
 }
 
 // Are the two the same bytes?
-fn same(a: &[u8], b: &[u8]) -> bool
+pub fn same(a: &[u8], b: &[u8]) -> bool
     ensures { λ r. ⌜ r ≡ sameAs (now (a .entry)) (now (b .entry)) ⌝ }
 {
     if a.len() != b.len() {

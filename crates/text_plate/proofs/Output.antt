@@ -3,12 +3,12 @@
 use mathlib.Core.Path.{_≡_, refl, sym, ap, _∙_}
 use mathlib.Core.Bool.{Bool, true, false, cond}
 use mathlib.Core.List.{List, [], _∷_, _++_, append-assoc, append-nil}
-use Prim.Native.Nat.{ℕ, zero, suc, _+_, _≤_, _<_}
+use Prim.Native.Nat.{ℕ, zero, suc, _+_, _-_, _≤_, _<_}
 use native.Mathlib.Numerals.{add-one}
 use native.Mathlib.Omega.{arith}
 use lib.Dec.{eqb}
-use lib.ListN.{length, take, drop, drop-of-length-le}
-use lib.Seq.{take-all}
+use lib.ListN.{length, take, drop, drop-of-length-le, length-append, length-drop}
+use lib.Seq.{take-all, length-take-le, take-append-add, drop-drop}
 use borrow.Author.Tests.{ltb-true, ltb-false}
 use Rattle.text_read.specs.Bytes.{lineFeed}
 use Rattle.text_read.specs.Fields.{untilOf}
@@ -21,6 +21,7 @@ use Rattle.feed.proofs.Keeping.{take-front, used-some}
 use Rattle.text_rows.specs.Answers.{rowsOf}
 use Rattle.text_plate.specs.Plate.{outputNames, noNames, Lines, byteBefore, linesOf, linesText, plateText, plateOf}
 use Rattle.text_plate.specs.declared.State.{State}
+use Rattle.text_plate.specs.declared.Taken.{Taken}
 use Rattle.text_plate.specs.Turns.{finishedText, goesOn, endedText, toCome, Turned}
 use Rattle.text_plate.proofs.Lines.{finished-same, goes-same, ended-same}
 
@@ -127,12 +128,21 @@ module _ (s : State) (kept chunk : List ℕ) (f : Fed) (after : List ℕ) (h : A
         keeps = record { most = h .most; same-size = h .same-size };
         some = u .0;
         no-more = u .1;
+        counted = omega arith;
         room = omega arith;
         output = λ l more. turn-on (take (s .len) kept) chunk f after h (s .number) more e;
       }
 
-  pub turned-end : {before out : List ℕ} {n k : ℕ} {g : Bool} → f .ended ≡ true → (s .number < most → n ≡ s .number + 1)
-      → g ≡ goesOn (s .number) (take (f .len) after)
+  -- some of the chunk is there, and is used
+  line-used : f .ended ≡ true → (1 ≤ length chunk) × (1 ≤ f .used)
+  line-used e =
+      let t = sym (h .ended) ∙ e in
+      let l : untilOf lineFeed chunk < length chunk = ltb-true (untilOf lineFeed chunk) (length chunk) t in
+      let m : 1 ≤ length chunk = omega arith in
+      (m, used-some (take (s .len) kept) chunk f after h .0 m)
+
+  pub turned-end : {before out : List ℕ} {n k : ℕ} {g : Bool} → f .ended ≡ true
+      → (s .number < most → n ≡ s .number + 1) × (n ≤ s .number + 1) → g ≡ goesOn (s .number) (take (f .len) after)
       → Wrote (finishedText (s .number) (take (f .len) after)) 0 before k out → k ≤ length out
       → Turned s kept chunk (record { state = record { number = n; len = 0 }; goes = g; used = f .used; written = k }) after out
   turned-end {before} {out} {n} {k} {g} e next goes w r =
@@ -141,10 +151,41 @@ module _ (s : State) (kept chunk : List ℕ) (f : Fed) (after : List ℕ) (h : A
         keeps = record { most = omega arith; same-size = h .same-size };
         some = u .0;
         no-more = u .1;
+        counted = omega (arith, next .1, line-used e .1);
         room = r;
         output = λ l more.
-            let m : n ≡ suc (s .number) = next l ∙ add-one (s .number) in
+            let b : s .number < most = omega (arith, line-used e .0) in
+            let m : n ≡ suc (s .number) = next .0 b ∙ add-one (s .number) in
             rw (in-front w r, goes, m) (turn-end (take (s .len) kept) chunk f after h (s .number) more e);
+      }
+
+-- ---- turns
+module _ {s : State} {kept chunk after out : List ℕ} {t : Taken} (a : Turned s kept chunk t after out) (e : t .goes ≡ true) where
+  -- a turn over what is left of the chunk, into what is left of the buffer
+  pub turned-both : {later part : List ℕ} {n : Taken} → Turned (t .state) after (drop (t .used) chunk) n later part
+      → Turned s kept chunk (record {
+        state = n .state;
+        goes = n .goes;
+        used = t .used + n .used;
+        written = t .written + n .written;
+      }) later (take (t .written) out ++ part)
+  turned-both {later} {part} {n} b =
+      let front : length (take (t .written) out) ≡ t .written = length-take-le (t .written) out (a .room) in
+      let left : length (drop (t .used) chunk) ≡ length chunk - t .used = length-drop (t .used) chunk in
+      record {
+        keeps = b .keeps;
+        some = λ l. omega (arith, a .some l);
+        no-more = omega (arith, a .no-more, b .no-more, left);
+        counted = omega (arith, a .counted, b .counted);
+        room = simp length-append (omega (arith, front, b .room));
+        output = λ l more.
+            let m : t .state .number + length (drop (t .used) chunk) ≤ most = omega (arith, l, left, a .counted, a .no-more) in
+            let w : take (t .written + n .written) (take (t .written) out ++ part) ≡ take (t .written) out ++ take (n .written) part =
+            ap (λ (k : ℕ). take (k + n .written) (take (t .written) out ++ part)) (sym front)
+            ∙ take-append-add (take (t .written) out) part (n .written) in
+            rw (w, ← drop-drop (n .used) (t .used) chunk)
+            (a .output l more ∙ rw (e, b .output m more)
+            (sym (append-assoc (take (t .written) out) (take (n .written) part) _)));
       }
 
 -- ---- the whole output

@@ -2,7 +2,7 @@
 use mathlib.Core.Path.{_≡_}
 use mathlib.Core.Bool.{true, false}
 use mathlib.Core.List.{List, [], _++_}
-use Prim.Native.Nat.{ℕ, _<_, _≤_}
+use Prim.Native.Nat.{ℕ, _+_, _≤_}
 use lib.ListN.{length, take, drop}
 use Rattle.text_write.specs.Texts.{Wrote}
 use Rattle.text_plate.specs.declared.State.{State}
@@ -11,11 +11,13 @@ use Rattle.text_plate.specs.Turns.{endedText, Turned}
 
 -- from a state and what is kept of a line, over an input: what is printed. A chunk is any front of what is left
 pub data Prints : State → List ℕ → List ℕ → List ℕ → Type 0 where
-  more : {s : State} {kept chunk printed after out : List ℕ} {r : Taken} (rest : List ℕ) → s .number < 18446744073709551615
+  more : {s : State} {kept chunk printed after out : List ℕ} {r : Taken} (rest : List ℕ)
+      → s .number + length chunk ≤ 18446744073709551615
       → Turned s kept chunk r after out → r .goes ≡ true
       → Prints (r .state) after (drop (r .used) chunk ++ rest) printed
       → Prints s kept (chunk ++ rest) (take (r .written) out ++ printed)
-  last : {s : State} {kept chunk after out : List ℕ} {r : Taken} (rest : List ℕ) → s .number < 18446744073709551615
+  last : {s : State} {kept chunk after out : List ℕ} {r : Taken} (rest : List ℕ)
+      → s .number + length chunk ≤ 18446744073709551615
       → Turned s kept chunk r after out → r .goes ≡ false
       → Prints s kept (chunk ++ rest) (take (r .written) out)
   over : {s : State} {kept before out : List ℕ} {r : ℕ}

@@ -3,7 +3,7 @@
 use mathlib.Core.Path.{_≡_}
 use mathlib.Core.Bool.{Bool, true, cond}
 use mathlib.Core.List.{List, [], _∷_, _++_}
-use Prim.Native.Nat.{ℕ, zero, suc, _≤_, _<_}
+use Prim.Native.Nat.{ℕ, zero, suc, _+_, _≤_, _<_}
 use lib.Dec.{eqb}
 use lib.ListN.{length, take, drop}
 use Rattle.text_read.specs.Bytes.{lineFeed}
@@ -43,14 +43,16 @@ pub record Keeps (s : State) (kept : List ℕ) : Type 0 where
   pub most : s .len ≤ 121
   pub same-size : length kept ≡ 121
 
--- After a turn over a chunk: some of it is used, and whatever input comes after the chunk, what was still to be printed is
--- what the turn wrote and what is to come after it
+-- After a turn over a chunk, or several: some of it is used, no more lines are counted than bytes, and whatever input comes
+-- after the chunk, what was still to be printed is what was written and what is to come after it. No input has so many lines
+-- that the last number is reached
 pub record Turned (s : State) (kept chunk : List ℕ) (r : Taken) (after out : List ℕ) : Type 0 where
   pub keeps : Keeps (r .state) after
   pub some : 0 < length chunk → 1 ≤ r .used
   pub no-more : r .used ≤ length chunk
+  pub counted : r .state .number ≤ s .number + r .used
   pub room : r .written ≤ length out
-  pub output : s .number < 18446744073709551615 → (more : List ℕ)
+  pub output : s .number + length chunk ≤ 18446744073709551615 → (more : List ℕ)
       → toCome (s .number) (take (s .len) kept) (chunk ++ more)
       ≡ take (r .written) out ++ cond (r .goes) (toCome (r .state .number) (take (r .state .len) after)
       (drop (r .used) chunk ++ more)) []

@@ -1,5 +1,5 @@
 // plate's output for its input, by turns: a turn takes a chunk of the input up to the end of a line, and writes what that
-// line prints into a lent buffer. Where the chunks end does not matter.
+// line prints into a lent buffer; turns go on over the chunk. Where the chunks end does not matter.
 ghost use mathlib.Core.Path.{_≡_};
 ghost use Prim.Native.Nat.{_+_, _≤_, _<_};
 ghost use lib.ListN.{length, take};
@@ -84,6 +84,7 @@ pub fn ended(number: u64, text: &[u8], out: &mut [u8]) -> usize
 // No input has so many lines that the last number is reached.
 fn next_number(number: u64) -> u64
     ensures { λ r. ⌜ (number < 18446744073709551615 → r ≡ number + 1) ⌝ }
+    ensures { λ r. ⌜ r ≤ number + 1 ⌝ }
 {
     if number < 18446744073709551615 {
         return number + 1;
@@ -92,7 +93,7 @@ fn next_number(number: u64) -> u64
 }
 
 // A turn over a chunk.
-pub fn turn(s: State, kept: &mut [u8], chunk: &[u8], lent: &mut [i64], out: &mut [u8]) -> Taken
+fn turn(s: State, kept: &mut [u8], chunk: &[u8], lent: &mut [i64], out: &mut [u8]) -> Taken
     requires { ⌜ Keeps s (now kept) × ((length (now lent) ≡ 8194) × (266305 ≤ length (now out))) ⌝ }
     ensures { λ r. ⌜ Turned s (now (kept .entry)) (now (chunk .entry)) r (now (kept .exit)) (now (out .exit)) ⌝ }
 {
@@ -119,5 +120,30 @@ pub fn turn(s: State, kept: &mut [u8], chunk: &[u8], lent: &mut [i64], out: &mut
         goes: goes,
         used: f.used,
         written: k,
+    }
+}
+
+// Turns over a chunk, while some of it is left, there is more to print, and there is room for what a line prints.
+pub fn turns(s: State, kept: &mut [u8], chunk: &[u8], lent: &mut [i64], out: &mut [u8]) -> Taken
+    requires { ⌜ Keeps s (now kept) × ((length (now lent) ≡ 8194) × (266305 ≤ length (now out))) ⌝ }
+    ensures { λ r. ⌜ Turned s (now (kept .entry)) (now (chunk .entry)) r (now (kept .exit)) (now (out .exit)) ⌝ }
+{
+    let first = turn(s, kept, chunk, lent, out);
+    let mut state = first.state;
+    let mut more = first.goes;
+    let mut used = first.used;
+    let mut written = first.written;
+    while more & (used < chunk.len()) & (written <= out.len() - 266305) {
+        let t = turn(state, kept, &chunk[used..], lent, &mut out[written..]);
+        state = t.state;
+        more = t.goes;
+        used += t.used;
+        written += t.written;
+    }
+    Taken {
+        state: state,
+        goes: more,
+        used: used,
+        written: written,
     }
 }

@@ -1,4 +1,4 @@
--- `plate::eat` meets its contract: a turn uses some of the chunk. Assumes nothing.
+-- `plate::eat` meets its contract: turns use some of the chunk. Assumes nothing.
 use borrow.Author.Needs.{needs}
 use mathlib.Core.Path.{_≡_, sym}
 use Prim.Native.Nat.{_+_, _-_, _≤_}
@@ -17,8 +17,8 @@ abbrev μ-loop : tie.MeasureT-loop
 μ-loop kept₀ chunk lent₀ out₀ state₀ at₀ kept lent out state at = length chunk - at
 
 -- some of the chunk was read, and no more than there is
-some : (c : tie.After-turn Inv-loop μ-loop) → (1 ≤ c .turn .result .used)
-    × (c .before .before .before .before .before .before .loop .at + c .turn .result .used ≤ length
+some : (c : tie.After-turns Inv-loop μ-loop) → (1 ≤ c .turns .result .used)
+    × (c .before .before .before .before .before .before .loop .at + c .turns .result .used ≤ length
     (c .before .before .before .before .before .before .before .before .before .before .args .chunk .now))
 some c =
     let p = c .before .before .before .before .before .before in
@@ -26,12 +26,12 @@ some c =
     let l = p .before .before .before .before .args .chunk .now in
     let size : length (take (length l - at) (drop at l)) ≡ length l - at =
     length-take-le (length l - at) (drop at l) (simp length-drop (omega arith)) in
-    let t = c .turn .ensures in
+    let t = c .turns .ensures in
     (t .some (omega arith), omega (arith, t .no-more))
 
-slice-aggregate-write-all : tie.Need-slice-aggregate-write-all Inv-loop μ-loop
-slice-aggregate-write-all c =
-    let t = c .before .before .before .before .before .before .before .turn in
+slice-aggregate-print : tie.Need-slice-aggregate-print Inv-loop μ-loop
+slice-aggregate-print c =
+    let t = c .before .before .before .before .before .before .before .turns in
     sym (length-take-le (t .result .written) (t .last .1 .1 .1 .1 .0) (t .ensures .room))
 
 add-at : tie.Need-add-at Inv-loop μ-loop
@@ -53,6 +53,6 @@ pub eat-spec : {M : Type 1} → statement M
 eat-spec =
     tie.close
     (tie.spec Inv-loop μ-loop (λ c. search needs) (λ c. search needs) (λ c. search needs) (λ c. search needs)
-    (λ c κs. search needs) (λ c. search needs) slice-aggregate-write-all (λ c κs. search needs)
+    (λ c κs. search needs) (λ c. search needs) slice-aggregate-print (λ c κs. search needs)
     (λ c. search needs) (λ c. search needs) (λ c. search needs) (λ c. search needs) add-at loop-less
     loop-again (λ c. search needs) (λ c. search needs) (λ c. search needs) (λ c. search needs))
