@@ -4,7 +4,9 @@
    status: 0 answered, -1 none (no refusal), else the number of the question that refused the call. All other fields are 0
    unless answered, but for a cursor's next at none; a refused call writes nothing.
    Any numbers may be handed in: no call traps, wraps or runs without end. A lent slice is lent_len numbers that the caller may
-   write; NULL may be lent with length 0. 8194 numbers have room for every list.
+   write; NULL may be lent with length 0. ORDERED_LENT_MOST numbers have room for every list.
+   Nothing is allocated and no state is kept: calls may be made on several threads at once, each with a lent slice of its own. A
+   call takes less than 1 KiB of stack.
 
    A kind is 1 date, 2 monthly and 3 yearly over dates, 4 date-time, 5 monthly and 6 yearly over date-times, 7 duration. A
    value is head and tail: a date is its day number (0001-01-01 is 1) and 0; a date-time its day number and the nanosecond of
@@ -24,7 +26,8 @@
        asked only that
    10  the answer and each sum on the way fit 32 bits, a date answered or mapped is one of the days of 3, an unmapped index
        one of 8
-   11  the lent slice has two numbers for each tick */
+   11  the lent slice has two numbers for each tick
+   Beside each declaration stand the questions that can refuse it. docs/C.md has an example of each call. */
 #ifndef ORDERED_H
 #define ORDERED_H
 
@@ -35,6 +38,39 @@
 extern "C" {
 #endif
 
+enum ordered_kinds {
+    ORDERED_KIND_DATE = 1,
+    ORDERED_KIND_MONTH,
+    ORDERED_KIND_YEAR,
+    ORDERED_KIND_STAMP,
+    ORDERED_KIND_STAMP_MONTH,
+    ORDERED_KIND_STAMP_YEAR,
+    ORDERED_KIND_SPAN
+};
+
+enum ordered_segments { ORDERED_SEGMENT_EXACT = 1, ORDERED_SEGMENT_CENTRE, ORDERED_SEGMENT_LAST };
+
+/* A status is one of these two, or a question. */
+enum ordered_statuses { ORDERED_NONE = -1, ORDERED_ANSWERED = 0 };
+
+enum ordered_questions {
+    ORDERED_QUESTION_KIND = 1,
+    ORDERED_QUESTION_OPERATION,
+    ORDERED_QUESTION_ENDS,
+    ORDERED_QUESTION_ORDER,
+    ORDERED_QUESTION_DURATION,
+    ORDERED_QUESTION_HINT,
+    ORDERED_QUESTION_LIMITS,
+    ORDERED_QUESTION_VALUE,
+    ORDERED_QUESTION_LENGTH,
+    ORDERED_QUESTION_RANGE,
+    ORDERED_QUESTION_ROOM
+};
+
+/* Numbers that have room for every list: no hint lists more than 4097 ticks. */
+#define ORDERED_LENT_MOST 8194
+
+/* The five numbers of an axis, as parameters. */
 #define ORDERED_AXIS int64_t kind, int64_t start_head, int64_t start_tail, int64_t end_head, int64_t end_tail
 
 typedef struct { int64_t status, value; } ordered_number; /* a day number, a count of ticks, a size, an index */
@@ -45,70 +81,99 @@ typedef struct { int64_t status, year, month, day; } ordered_date;
 typedef struct { int64_t status, head, tail, next; } ordered_step; /* next: the next place of the cursor */
 typedef struct { int64_t status, segment, head, tail; } ordered_segment; /* segment: 1 exact, 2 centre, 3 last */
 
-/* The day number of a date of ISO 8601's calendar; 0001-01-01 is 1, 9999-12-31 is 3652059. */
+/* The day number of a date of ISO 8601's calendar; 0001-01-01 is 1, 9999-12-31 is 3652059. Refused by 8. */
 ordered_number ordered_day_number(int64_t year, int64_t month, int64_t day);
 
-/* The date of a day number. */
+/* The date of a day number. Refused by 8. */
 ordered_date ordered_date_of(int64_t day_number);
 
-/* The pixel of a value on an axis. */
+/* The pixel of a value on an axis. Refused by 1, 3, 4, 5, 7, 8, 9, 10. */
 ordered_pixel ordered_map(ORDERED_AXIS, int64_t low, int64_t high, int64_t head, int64_t tail);
 
 /* The value at a pixel, all kinds but 7. It does not undo ordered_map: on the kinds with indices the limits part the size, and
-   the high limit is one past the last. */
+   the high limit is one past the last. For the day, month or year under a pointer let the pixel be at least low and below high
+   (at most low and above high, where the limits are swapped): then, where the size is at least 1, no value is past the last, and
+   10 refuses only on kind 5 with a start of 9999-12-31 00:00:01 or later. Refused by 1, 2, 3, 4, 7, 10. */
 ordered_value ordered_unmap(ORDERED_AXIS, int64_t low, int64_t high, int64_t pixel);
 
 /* The step between ticks of the kinds 4 and 7, for at most n + 1 of them. None where whole days are listed: on kind 4 from
-   10^14 ns for each of the n on, on both kinds where the span is above 2^63 - 1 ns. */
+   10^14 ns for each of the n on, on both kinds where the span is above 2^63 - 1 ns. Refused by 1, 2, 3, 4, 5, 6. */
 ordered_period ordered_period_per_point(ORDERED_AXIS, int64_t n);
 
 /* The ticks of an axis for a bold hint of n, at most n + 1: their count. Head and tail of each stand at the front of the lent
-   numbers, in order; the numbers behind them are unchanged. */
+   numbers, in order; the numbers behind them are unchanged. Refused by 1, 3, 4, 5, 6, 11. */
 ordered_number ordered_ticks_bold(ORDERED_AXIS, int64_t n, int64_t *lent, size_t lent_len);
 
 /* The same for a light hint, a bold count and a limit n: the ticks of the finer axis where the size is at most twice the
-   bold count, from years to months, from months to days or times. */
+   bold count, from years to months, from months to days or times. Refused by 1, 3, 4, 5, 6, 11. */
 ordered_number ordered_ticks_light(ORDERED_AXIS, int64_t bold, int64_t n, int64_t *lent, size_t lent_len);
 
-/* The answers of the two above for a lent slice of that length, with nothing lent. */
+/* The answers of the two above for a lent slice of that length, with nothing lent; on kinds 1, 2, 3, 5 and 6 also those of the
+   lists of segments, which kinds 4 and 7 lack. Refused by 1, 3, 4, 5, 6, 11. */
 ordered_number ordered_count_bold(ORDERED_AXIS, int64_t n, size_t lent_len);
 ordered_number ordered_count_light(ORDERED_AXIS, int64_t bold, int64_t n, size_t lent_len);
 
-/* The days, months or years of an axis; kinds 1, 2, 3, 5 and 6, as all below. */
+/* The days, months or years of an axis; kinds 1, 2, 3, 5 and 6, as all below. Refused by 1, 2, 3, 4. */
 ordered_number ordered_size(ORDERED_AXIS);
 
 /* The index of the day, month or year of a value, 0 at the start; past the end too. None before the start, but a month of an
-   earlier year counts as that month of the start's. */
+   earlier year counts as that month of the start's. Refused by 1, 2, 3, 4, 8. */
 ordered_number ordered_index_of(ORDERED_AXIS, int64_t head, int64_t tail);
 
-/* The first value of the day, month or year with that index, past the end too; of 0 the start or its ceiling. */
+/* The first value of the day, month or year with that index, past the end too; of 0 the start or its ceiling.
+   Refused by 1, 2, 3, 4, 8, 10. */
 ordered_value ordered_from_index(ORDERED_AXIS, int64_t index);
 
-/* The value of the index after a value's, or before it. None past the size, or below 0. */
+/* The value of the index after a value's, or before it. None past the size, or below 0. Refused by 1, 2, 3, 4, 8, 10. */
 ordered_value ordered_next(ORDERED_AXIS, int64_t head, int64_t tail);
 ordered_value ordered_previous(ORDERED_AXIS, int64_t head, int64_t tail);
 
-/* The values one by one: begin at place 0 and go on with next. None from the size on; next is then the place itself. */
+/* The values one by one: begin at place 0 and go on with next. None from the size on; next is then the place itself.
+   Refused by 1, 2, 3, 4, 8, 10. */
 ordered_step ordered_values(ORDERED_AXIS, int64_t place);
 
 /* Segments: each day, month or year of an axis reaches to its follower, and one more stands after them, the last. A segment is
-   1 exact, the left end of a value's, 2 the centre of a value's, or 3 the last; the head and tail beside 3 are not read. */
+   1 exact, the left end of a value's, 2 the centre of a value's, or 3 the last; the head and tail beside 3 are not read. On
+   months and years let the end be the first day of the last one: its segment is then as wide as an even part of the limits, to
+   1.5 pixels. A later end makes it wider. */
 
-/* The pixel of a segment. The limits part the size: the last is at the high limit, the end of the axis a part below it. */
+/* The pixel of a segment. The limits part the size: the last is at the high limit, the end of the axis a part below it.
+   Refused by 1, 2, 3, 4, 7, 8, 9, 10. */
 ordered_pixel ordered_segment_map(ORDERED_AXIS, int64_t low, int64_t high, int64_t segment, int64_t head, int64_t tail);
 
-/* The lists of ordered_ticks_bold and ordered_ticks_light; each value stands for its centre. */
+/* The lists of ordered_ticks_bold and ordered_ticks_light; each value stands for its centre. Refused by 1, 2, 3, 4, 6, 11. */
 ordered_number ordered_segment_ticks_bold(ORDERED_AXIS, int64_t n, int64_t *lent, size_t lent_len);
 ordered_number ordered_segment_ticks_light(ORDERED_AXIS, int64_t bold, int64_t n, int64_t *lent, size_t lent_len);
 
-/* The size of the axis and one more, for the last. */
+/* The size of the axis and one more, for the last. Refused by 1, 2, 3, 4. */
 ordered_number ordered_segment_size(ORDERED_AXIS);
 
-/* The index of a segment's value, as ordered_index_of has it; of the last one the size of the axis. */
+/* The index of a segment's value, as ordered_index_of has it; of the last one the size of the axis. Refused by 1, 2, 3, 4, 8. */
 ordered_number ordered_segment_index_of(ORDERED_AXIS, int64_t segment, int64_t head, int64_t tail);
 
-/* The segment with that index: exact with its value, at the size of the axis the last with head and tail 0. None beyond it. */
+/* The segment with that index: exact with its value, at the size of the axis the last with head and tail 0. None beyond it.
+   Refused by 1, 2, 3, 4, 8, 10. */
 ordered_segment ordered_segment_from_index(ORDERED_AXIS, int64_t index);
+
+/* What a status says, for a message: of a question, what was wrong. */
+static inline const char *ordered_status_text(int64_t status) {
+    switch (status) {
+    case ORDERED_NONE: return "there is none";
+    case ORDERED_ANSWERED: return "answered";
+    case ORDERED_QUESTION_KIND: return "there is no such kind";
+    case ORDERED_QUESTION_OPERATION: return "the kind does not have this operation";
+    case ORDERED_QUESTION_ENDS: return "start or end is no value of the kind";
+    case ORDERED_QUESTION_ORDER: return "the start is later than the end";
+    case ORDERED_QUESTION_DURATION: return "the ends of the span are too far from zero";
+    case ORDERED_QUESTION_HINT: return "the hint is out of range";
+    case ORDERED_QUESTION_LIMITS: return "a limit or pixel is out of range, or the limits to unmap are equal";
+    case ORDERED_QUESTION_VALUE: return "there is no such date, value, segment or index";
+    case ORDERED_QUESTION_LENGTH: return "the axis has no length";
+    case ORDERED_QUESTION_RANGE: return "the answer is out of range";
+    case ORDERED_QUESTION_ROOM: return "too few numbers were lent";
+    default: return "the status is not known";
+    }
+}
 
 #ifdef __cplusplus
 }

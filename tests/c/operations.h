@@ -79,7 +79,7 @@ enum { ROWS = sizeof rows / sizeof rows[0] };
 
 /* Reads whole numbers parted by one space, up to the end of the text; gives how many, or -1. One that does not fit
    becomes the nearest that does: the oracle has such periods, of reversed spans. */
-static int read_numbers(const char *text, int64_t *to, int most) {
+static inline int read_numbers(const char *text, int64_t *to, int most) {
     for (int count = 0; count < most; text++) {
         if (text[*text == '-'] < '0' || text[*text == '-'] > '9')
             return -1;
@@ -93,7 +93,7 @@ static int read_numbers(const char *text, int64_t *to, int most) {
 }
 
 /* The operation of a request line, its numbers filled in; NULL: the line does not read. */
-static const struct row *read_request(const char *request, int64_t *in) {
+static inline const struct row *read_request(const char *request, int64_t *in) {
     size_t name = strcspn(request, " ");
     const struct row *row = rows;
     while (row < rows + ROWS && (strlen(row->name) != name || memcmp(row->name, request, name)))

@@ -36,6 +36,15 @@ static bool fine_value(const int64_t *in, const int64_t *out) {
     return value_of_kind(in[0], out[1], out[2]);
 }
 
+/* With indices, from the low limit on and before the high one: the value of an index below the size. */
+static bool fine_unmapped(const int64_t *in, const int64_t *out) {
+    int64_t size = in[0] == 4 ? 0 : size_of(in[0], in), width = in[6] - in[5], offset = in[7] - in[5];
+    if (size < 1 || !(width > 0 ? in_range(0, offset, width - 1) : in_range(width + 1, offset, 0)))
+        return fine_value(in, out);
+    ordered_value v = ordered_from_index(in[0], in[1], in[2], in[3], in[4], offset * size / width);
+    return v.status == 0 && v.head == out[1] && v.tail == out[2];
+}
+
 static bool fine_step(const int64_t *in, const int64_t *out) {
     return fine_value(in, out) && out[3] == in[5] + 1;
 }
@@ -80,7 +89,7 @@ static const struct operation {
     {"day_number", "ymd", refuse_no_date, Q(8), fine_day_number, .call = call_day_number},
     {"date_of", "n", refuse_date_of, Q(8), fine_date, .call = call_date_of},
     {"map", "allv", refuse_map, ALL | Q(5) | Q(7) | Q(8) | Q(9) | Q(10), fine_pixel, .call = call_map},
-    {"unmap", "alll", refuse_unmap, SOME | Q(7) | Q(10), fine_value, .call = call_unmap},
+    {"unmap", "alll", refuse_unmap, SOME | Q(7) | Q(10), fine_unmapped, .call = call_unmap},
     {"period", "ah", refuse_period, SOME | Q(5) | Q(6), fine_period, .call = call_period, .none = true},
     {"ticks_bold", "ah", refuse_ticks_bold, ALL | Q(5) | Q(6) | Q(11), NULL, .list = list_bold},
     {"ticks_light", "ahh", refuse_ticks_light, ALL | Q(5) | Q(6) | Q(11), NULL, .list = list_light},
