@@ -1,7 +1,9 @@
-/* Draws a date axis as an SVG picture on standard output: page KIND START END HINT [WIDTH] [--segments]
+/* Draws a date axis as an SVG picture on standard output: page KIND START END HINT [WIDTH] [--light N] [--segments]
    The kind is date, month, year, stamp, stampmonth, stampyear or span. Start and end are YYYY-MM-DD for the first three,
    YYYY-MM-DDThh:mm:ss for the stamps, whole seconds for a span. The hint is how many ticks are wished for, the width in
-   pixels. With --segments each day, month or year is a segment of the line, and the labels stand at the centres.
+   pixels. With --light up to N + 1 light ticks stand between the bold ones, grey and without a label. With --segments each
+   day, month or year is a segment of the line, and the labels stand at the centres. As page --sheet it draws one sheet with an
+   axis of each kind.
    Where the library refuses a call, its question is named on standard error and the exit status is 1. */
 #include <ctype.h>
 #include <errno.h>
@@ -13,11 +15,11 @@
 
 #include "ordered.h"
 
-enum { DATE = 1, MONTH, YEAR, STAMP, STAMP_MONTH, STAMP_YEAR, SPAN };
-enum { EXACT = 1, CENTRE, LAST };
-enum { MARGIN = 60, LEAST_WIDTH = 200, LINE_Y = 16, HEIGHT = 52 };  /* pixels */
-enum { GLYPH = 6, GAP = 8, ROW = 12, LEAST_SEGMENT = 4 };           /* a letter, and the least distances, in pixels */
-enum { TICKS = 4097 };                                              /* no hint lists more: at most 4096, and one */
+enum { MARGIN = 60, LEAST_WIDTH = 200, LINE_Y = 16, HEIGHT = 52 };     /* pixels */
+enum { BOLD_MARK = 6, LIGHT_MARK = 3 };                                /* the lengths of the marks */
+enum { GLYPH = 6, GAP = 8, ROW = 12, LEAST_SEGMENT = 4 };              /* a letter, and the least distances, in pixels */
+enum { SHEET_HEAD = 44, SHEET_LEFT = 150, SHEET_ROW = 64, EDGE = 20 }; /* the sheet: above all axes, left of them, each */
+enum { TICKS = ORDERED_LENT_MOST / 2 };
 static const int64_t SECOND = 1000000000;
 
 /* Head and tail, as the library has them. */
@@ -26,10 +28,11 @@ typedef struct {
 } value;
 
 typedef struct {
+    const char *name, *from, *to; /* kind, start and end, as they were given */
     int64_t kind;
     value start, end;
-    int64_t hint, width;
-    bool segments;
+    int64_t hint, light, width;
+    bool with_light, segments;
 } picture;
 
 /* The five numbers of ORDERED_AXIS, and the pixels of its ends. */
@@ -42,8 +45,15 @@ typedef struct {
     char upper[40], lower[40];
 } label;
 
+/* All that stands on a line: ticks or centres with their labels, the pixels of light ticks, and of the ends of segments. */
+typedef struct {
+    label bold[TICKS];
+    int64_t light[TICKS], edges[TICKS];
+    int64_t bold_count, light_count, edge_count;
+} marks;
+
 static void usage(const char *what) {
-    fprintf(stderr, "page: %s\nusage: page KIND START END HINT [WIDTH] [--segments]\n"
+    fprintf(stderr, "page: %s\nusage: page KIND START END HINT [WIDTH] [--light N] [--segments], or page --sheet\n"
                     "kinds: date, month, year (YYYY-MM-DD); stamp, stampmonth, stampyear (YYYY-MM-DDThh:mm:ss); "
                     "span (seconds)\n", what);
     exit(2);
@@ -51,28 +61,12 @@ static void usage(const char *what) {
 
 /* Goes on only where a call was answered. */
 static void expect_answer(const char *call, int64_t status) {
-    static const char *const questions[] = {
-        [1] = "there is no such kind",
-        [2] = "the kind does not have this operation",
-        [3] = "start or end is no value of the kind",
-        [4] = "the start is later than the end",
-        [5] = "the ends of the span are too far from zero",
-        [6] = "the hint is out of range",
-        [7] = "a limit is out of range",
-        [8] = "there is no such date, value or index",
-        [9] = "the axis has no length",
-        [10] = "the answer is out of range",
-        [11] = "too few numbers were lent",
-    };
-    const int64_t count = sizeof questions / sizeof questions[0];
-    if (status == 0)
+    if (status == ORDERED_ANSWERED)
         return;
-    if (status == -1)
-        fprintf(stderr, "page: %s: there is none\n", call);
-    else if (status > 0 && status < count)
-        fprintf(stderr, "page: %s: refused by question %" PRId64 ": %s\n", call, status, questions[status]);
-    else
-        fprintf(stderr, "page: %s: the status %" PRId64 " is not known\n", call, status);
+    fprintf(stderr, "page: %s: ", call);
+    if (status != ORDERED_NONE)
+        fprintf(stderr, "refused by question %" PRId64 ": ", status);
+    fprintf(stderr, "%s\n", ordered_status_text(status));
     exit(1);
 }
 
@@ -95,7 +89,7 @@ static int64_t read_number(const char *text) {
 
 static int64_t read_kind(const char *name) {
     static const char *const names[] = {"date", "month", "year", "stamp", "stampmonth", "stampyear", "span"};
-    for (int i = 0; i < SPAN; i++)
+    for (int i = 0; i < ORDERED_KIND_SPAN; i++)
         if (!strcmp(name, names[i]))
             return i + 1;
     usage("the kind is not known");
@@ -105,29 +99,40 @@ static int64_t read_kind(const char *name) {
 /* Only the form is read here; whether the date is a real one is asked of the library. */
 static value read_value(int64_t kind, const char *text) {
     int year, month, day, hour = 0, minute = 0, second = 0;
-    if (kind == SPAN)
+    if (kind == ORDERED_KIND_SPAN)
         return (value){read_number(text), 0};
-    if (!has_form(text, kind < STAMP ? "0000-00-00" : "0000-00-00T00:00:00"))
+    if (!has_form(text, kind < ORDERED_KIND_STAMP ? "0000-00-00" : "0000-00-00T00:00:00"))
         usage("start or end does not read");
     sscanf(text, "%4d-%2d-%2dT%2d:%2d:%2d", &year, &month, &day, &hour, &minute, &second);
     ordered_number number = ordered_day_number(year, month, day);
     expect_answer(text, number.status);
     if (hour > 23 || minute > 59 || second > 59)
-        expect_answer(text, 3);
+        expect_answer(text, ORDERED_QUESTION_ENDS);
     return (value){number.value, ((hour * 60 + minute) * 60 + second) * SECOND};
 }
 
+static picture read_axis(const char *name, const char *from, const char *to) {
+    picture p = {.name = name, .from = from, .to = to, .width = 800};
+    p.kind = read_kind(name);
+    p.start = read_value(p.kind, from), p.end = read_value(p.kind, to);
+    return p;
+}
+
 static picture read_arguments(int argc, char **argv) {
-    picture p = {.width = 800};
-    if (argc > 1 && !strcmp(argv[argc - 1], "--segments"))
-        p.segments = true, argc--;
-    if (argc < 5 || argc > 6)
-        usage("four to six arguments are needed");
-    p.kind = read_kind(argv[1]);
-    p.start = read_value(p.kind, argv[2]), p.end = read_value(p.kind, argv[3]);
+    if (argc < 5)
+        usage("at least four arguments are needed");
+    picture p = read_axis(argv[1], argv[2], argv[3]);
     p.hint = read_number(argv[4]);
-    if (argc == 6)
-        p.width = read_number(argv[5]);
+    int i = 5;
+    if (i < argc && argv[i][0] != '-')
+        p.width = read_number(argv[i++]);
+    for (; i < argc; i++)
+        if (!strcmp(argv[i], "--segments"))
+            p.segments = true;
+        else if (!strcmp(argv[i], "--light") && i + 1 < argc)
+            p.with_light = true, p.light = read_number(argv[++i]);
+        else
+            usage("an option does not read");
     if (p.width < LEAST_WIDTH)
         usage("the width is at least 200");
     return p;
@@ -147,7 +152,7 @@ static void write_fraction(char *to, size_t room, int64_t fraction) {
    library rounds down. */
 static label label_at(const picture *p, value v, int64_t pixel) {
     label l = {pixel, "", ""};
-    if (p->kind == SPAN) {
+    if (p->kind == ORDERED_KIND_SPAN) {
         bool below = v.head < 0 && v.tail > 0;
         int64_t seconds = below ? v.head + 1 : v.head;
         int end = snprintf(l.upper, sizeof l.upper, "%s%" PRId64, below && !seconds ? "-" : "", seconds);
@@ -157,9 +162,9 @@ static label label_at(const picture *p, value v, int64_t pixel) {
     ordered_date d = ordered_date_of(v.head);
     expect_answer("ordered_date_of", d.status);
     int end = snprintf(l.upper, sizeof l.upper, "%04" PRId64 "-%02" PRId64, d.year, d.month);
-    if (p->kind == DATE || p->kind == STAMP)
+    if (p->kind == ORDERED_KIND_DATE || p->kind == ORDERED_KIND_STAMP)
         snprintf(l.upper + end, sizeof l.upper - (size_t)end, "-%02" PRId64, d.day);
-    if (p->kind == STAMP) {
+    if (p->kind == ORDERED_KIND_STAMP) {
         int64_t s = v.tail / SECOND;
         end = snprintf(l.lower, sizeof l.lower, "%02" PRId64 ":%02" PRId64 ":%02" PRId64, s / 3600, s / 60 % 60, s % 60);
         write_fraction(l.lower + end, sizeof l.lower - (size_t)end, v.tail % SECOND);
@@ -173,58 +178,88 @@ static int64_t segment_pixel(const picture *p, int64_t segment, value v) {
     return answer.pixel;
 }
 
-static int64_t value_pixel(const picture *p, value v) {
+/* Of a tick, or of the centre of its segment. */
+static int64_t tick_pixel(const picture *p, value v) {
+    if (p->segments)
+        return segment_pixel(p, ORDERED_SEGMENT_CENTRE, v);
     ordered_pixel answer = ordered_map(AXIS(p), LIMITS(p), v.head, v.tail);
     expect_answer("ordered_map", answer.status);
     return answer.pixel;
 }
 
-/* The ticks of the axis, or the centres of its segments, with their labels; gives their count. */
-static int64_t list_labels(const picture *p, label *to) {
-    static int64_t lent[2 * TICKS];
-    ordered_number count = p->segments ? ordered_segment_ticks_bold(AXIS(p), p->hint, lent, 2 * TICKS)
-                                       : ordered_ticks_bold(AXIS(p), p->hint, lent, 2 * TICKS);
+/* The ticks of the axis, or the centres of its segments, with their labels. */
+static void list_bold(const picture *p, marks *to) {
+    static int64_t lent[ORDERED_LENT_MOST];
+    ordered_number count = p->segments ? ordered_segment_ticks_bold(AXIS(p), p->hint, lent, ORDERED_LENT_MOST)
+                                       : ordered_ticks_bold(AXIS(p), p->hint, lent, ORDERED_LENT_MOST);
     expect_answer(p->segments ? "ordered_segment_ticks_bold" : "ordered_ticks_bold", count.status);
-    for (int64_t i = 0; i < count.value; i++) {
-        value v = {lent[2 * i], lent[2 * i + 1]};
-        to[i] = label_at(p, v, p->segments ? segment_pixel(p, CENTRE, v) : value_pixel(p, v));
+    for (to->bold_count = 0; to->bold_count < count.value; to->bold_count++) {
+        value v = {lent[2 * to->bold_count], lent[2 * to->bold_count + 1]};
+        to->bold[to->bold_count] = label_at(p, v, tick_pixel(p, v));
     }
-    return count.value;
+}
+
+static bool is_bold(const marks *m, int64_t pixel) {
+    for (int64_t i = 0; i < m->bold_count; i++)
+        if (m->bold[i].pixel == pixel)
+            return true;
+    return false;
+}
+
+/* The light ticks that do not stand on the pixel of a bold one; those are listed before. */
+static void list_light(const picture *p, marks *to) {
+    static int64_t lent[ORDERED_LENT_MOST];
+    ordered_number count = p->segments
+        ? ordered_segment_ticks_light(AXIS(p), to->bold_count, p->light, lent, ORDERED_LENT_MOST)
+        : ordered_ticks_light(AXIS(p), to->bold_count, p->light, lent, ORDERED_LENT_MOST);
+    expect_answer(p->segments ? "ordered_segment_ticks_light" : "ordered_ticks_light", count.status);
+    for (int64_t i = 0; i < count.value; i++) {
+        int64_t pixel = tick_pixel(p, (value){lent[2 * i], lent[2 * i + 1]});
+        if (!is_bold(to, pixel))
+            to->light[to->light_count++] = pixel;
+    }
 }
 
 /* The left ends of all segments, and the end of the last; none where they would stand too close. */
-static int64_t list_edges(const picture *p, int64_t *to, int64_t most) {
+static void list_edges(const picture *p, marks *to) {
     ordered_number size = ordered_size(AXIS(p));
     expect_answer("ordered_size", size.status);
-    int64_t count = 0;
-    if (size.value >= most || size.value * LEAST_SEGMENT > p->width - 2 * MARGIN)
-        return 0;
+    if (size.value >= TICKS || size.value * LEAST_SEGMENT > p->width - 2 * MARGIN)
+        return;
     ordered_step step = ordered_values(AXIS(p), 0);
-    for (; step.status == 0 && count < size.value; step = ordered_values(AXIS(p), step.next))
-        to[count++] = segment_pixel(p, EXACT, (value){step.head, step.tail});
-    if (step.status != -1) /* the cursor ends in none */
+    for (; step.status == ORDERED_ANSWERED && to->edge_count < size.value; step = ordered_values(AXIS(p), step.next))
+        to->edges[to->edge_count++] = segment_pixel(p, ORDERED_SEGMENT_EXACT, (value){step.head, step.tail});
+    if (step.status != ORDERED_NONE) /* the cursor ends in none */
         expect_answer("ordered_values", step.status);
-    to[count++] = segment_pixel(p, LAST, p->end);
-    return count;
+    to->edges[to->edge_count++] = segment_pixel(p, ORDERED_SEGMENT_LAST, p->end);
 }
 
-static void draw_mark(int64_t pixel) {
-    printf("<path d=\"M%" PRId64 ".5 %dv6\" stroke=\"black\"/>\n", pixel, LINE_Y);
+static void list_marks(const picture *p, marks *to) {
+    list_bold(p, to);
+    if (p->with_light)
+        list_light(p, to);
+    if (p->segments)
+        list_edges(p, to);
+}
+
+/* Below the line, which stays black. */
+static void draw_mark(int64_t pixel, int length, const char *colour) {
+    printf("<path d=\"M%" PRId64 ".5 %dv%d\" stroke=\"%s\"/>\n", pixel, LINE_Y + 1, length, colour);
+}
+
+static void draw_dot(int64_t pixel, const char *radius, const char *colour) {
+    printf("<circle cx=\"%" PRId64 ".5\" cy=\"%d.5\" r=\"%s\" fill=\"%s\"/>\n", pixel, LINE_Y, radius, colour);
 }
 
 static void draw_text(const label *l, int row, const char *text) {
     if (*text)
-        printf("<text x=\"%" PRId64 ".5\" y=\"%d\">%s</text>\n", l->pixel, LINE_Y + 6 + ROW * row, text);
+        printf("<text x=\"%" PRId64 ".5\" y=\"%d\">%s</text>\n", l->pixel, LINE_Y + 1 + BOLD_MARK + ROW * row, text);
 }
 
 /* A label that would touch the one before it is left out; its mark stays. */
-static void draw_labels(const picture *p, const label *labels, int64_t count) {
+static void draw_labels(const marks *m) {
     int64_t free_from = INT64_MIN;
-    for (const label *l = labels; l < labels + count; l++) {
-        if (p->segments)
-            printf("<circle cx=\"%" PRId64 ".5\" cy=\"%d.5\" r=\"2.5\"/>\n", l->pixel, LINE_Y);
-        else
-            draw_mark(l->pixel);
+    for (const label *l = m->bold; l < m->bold + m->bold_count; l++) {
         size_t upper = strlen(l->upper), lower = strlen(l->lower);
         int64_t half = GLYPH * (int64_t)(upper > lower ? upper : lower) / 2;
         if (l->pixel - half < free_from)
@@ -235,21 +270,93 @@ static void draw_labels(const picture *p, const label *labels, int64_t count) {
     }
 }
 
-int main(int argc, char **argv) {
-    static label labels[TICKS];
-    static int64_t edges[TICKS];
-    picture p = read_arguments(argc, argv);
-    /* All calls come first: a refused one leaves no half of a picture. */
-    int64_t count = list_labels(&p, labels), edge_count = p.segments ? list_edges(&p, edges, TICKS) : 0;
+static void draw_axis(const picture *p, const marks *m) {
+    printf("<path d=\"M%d %d.5H%" PRId64 "\" stroke=\"black\"/>\n", MARGIN, LINE_Y, p->width - MARGIN + 1);
+    for (int64_t i = 0; i < m->light_count; i++)
+        if (p->segments)
+            draw_dot(m->light[i], "2", "gray");
+        else
+            draw_mark(m->light[i], LIGHT_MARK, "gray");
+    for (int64_t i = 0; i < m->edge_count; i++)
+        draw_mark(m->edges[i], BOLD_MARK, "black");
+    for (int64_t i = 0; i < m->bold_count; i++)
+        if (p->segments)
+            draw_dot(m->bold[i].pixel, "2.5", "black");
+        else
+            draw_mark(m->bold[i].pixel, BOLD_MARK, "black");
+    draw_labels(m);
+}
 
-    printf("<svg xmlns=\"http://www.w3.org/2000/svg\" width=\"%" PRId64 "\" height=\"%d\" font-family=\"monospace\" "
-           "font-size=\"10\" text-anchor=\"middle\">\n", p.width, HEIGHT);
-    printf("<title>%s %s to %s</title>\n", argv[1], argv[2], argv[3]);
-    printf("<path d=\"M%d %d.5H%" PRId64 "\" stroke=\"black\"/>\n", MARGIN, LINE_Y, p.width - MARGIN + 1);
-    for (int64_t i = 0; i < edge_count; i++)
-        draw_mark(edges[i]);
-    draw_labels(&p, labels, count);
+/* White ground: the picture can be read on a dark page too. */
+static void begin_svg(int64_t width, int64_t height) {
+    printf("<svg xmlns=\"http://www.w3.org/2000/svg\" width=\"%" PRId64 "\" height=\"%" PRId64 "\" font-family=\"monospace\" "
+           "font-size=\"10\" text-anchor=\"middle\">\n"
+           "<rect width=\"%" PRId64 "\" height=\"%" PRId64 "\" fill=\"white\"/>\n", width, height, width, height);
+}
+
+static void draw_picture(const picture *p) {
+    static marks m;
+    list_marks(p, &m); /* all calls come first: a refused one leaves no half of a picture */
+    begin_svg(p->width, HEIGHT);
+    printf("<title>%s %s to %s</title>\n", p->name, p->from, p->to);
+    draw_axis(p, &m);
     printf("</svg>\n");
+}
+
+/* The axes of the sheet: hint and limit of the light hint stand beside start and end. */
+static const struct {
+    const char *name, *from, *to;
+    int64_t hint, light;
+} sheet[] = {
+    {"date", "2021-03-01", "2021-08-31", 6, 30},
+    {"month", "2021-01-01", "2022-12-31", 8, 24},
+    {"year", "1991-01-01", "2021-01-01", 6, 31},
+    {"stamp", "2021-03-01T18:00:00", "2021-03-02T12:00:00", 9, 36},
+    {"stampmonth", "2021-02-15T12:00:00", "2022-02-15T12:00:00", 6, 12},
+    {"stampyear", "2001-01-01T00:00:00", "2021-12-31T23:59:59", 7, 21},
+    {"span", "-3600", "7200", 7, 40},
+};
+enum { AXES = sizeof sheet / sizeof sheet[0] };
+
+/* The kind's name and the span, left of an axis. */
+static void draw_name(const picture *p) {
+    printf("<g text-anchor=\"start\">\n<text x=\"%d\" y=\"%d\" font-size=\"12\" font-weight=\"bold\">%s</text>\n", EDGE,
+           LINE_Y + 2, p->name);
+    printf("<text x=\"%d\" y=\"%d\">%s</text>\n", EDGE, LINE_Y + 2 + ROW + 2, p->from);
+    printf("<text x=\"%d\" y=\"%d\">to %s%s</text>\n</g>\n", EDGE, LINE_Y + 2 + 2 * ROW + 2, p->to,
+           p->kind == ORDERED_KIND_SPAN ? " seconds" : "");
+}
+
+static void draw_sheet(void) {
+    static picture pictures[AXES];
+    static marks m[AXES];
+    for (int i = 0; i < AXES; i++) { /* all calls come first here too */
+        picture *p = &pictures[i];
+        *p = read_axis(sheet[i].name, sheet[i].from, sheet[i].to);
+        p->hint = sheet[i].hint, p->light = sheet[i].light, p->with_light = true;
+        list_marks(p, &m[i]);
+    }
+    begin_svg(SHEET_LEFT + pictures[0].width, SHEET_HEAD + AXES * SHEET_ROW);
+    printf("<title>an axis of each kind</title>\n");
+    printf("<text x=\"%d\" y=\"26\" font-size=\"13\" text-anchor=\"start\">An axis of each kind, with bold and light "
+           "ticks</text>\n", EDGE);
+    for (int i = 0; i < AXES; i++) {
+        printf("<g transform=\"translate(0 %d)\">\n", SHEET_HEAD + i * SHEET_ROW);
+        draw_name(&pictures[i]);
+        printf("<g transform=\"translate(%d 0)\">\n", SHEET_LEFT);
+        draw_axis(&pictures[i], &m[i]);
+        printf("</g>\n</g>\n");
+    }
+    printf("</svg>\n");
+}
+
+int main(int argc, char **argv) {
+    if (argc == 2 && !strcmp(argv[1], "--sheet")) {
+        draw_sheet();
+    } else {
+        picture p = read_arguments(argc, argv);
+        draw_picture(&p);
+    }
     if (fflush(stdout) || ferror(stdout)) {
         perror("page");
         return 1;
