@@ -18,8 +18,11 @@ find_rust() {
     if [ -z "$chrono" ] || [ -z "$integer" ] || [ -z "$traits" ]; then
         stop "chrono's source is missing: apt-get install librust-chrono-dev"
     fi
-    seed=${ORDERED_SEED:-../shared/docs/src}/src/coord/ranged1d
+    plotters=${ORDERED_SEED:-../shared/docs/src}
+    seed=$plotters/src/coord/ranged1d
     [ -f "$seed/mod.rs" ] || stop "no seed in $seed: name its folder in ORDERED_SEED"
+    # Another version of plotters may answer otherwise; sha256sum names the files.
+    (cd "$plotters" && sha256sum -c --quiet) <oracle/seed.sha256 >&2 || stop "the seed in $plotters is not plotters 0.3.7's"
 }
 
 # lay_out FOLDER: makes FOLDER/tree and FOLDER/chrono.
