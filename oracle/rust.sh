@@ -18,7 +18,7 @@ find_rust() {
     if [ -z "$chrono" ] || [ -z "$integer" ] || [ -z "$traits" ]; then
         stop "chrono's source is missing: apt-get install librust-chrono-dev"
     fi
-    plotters=${ORDERED_SEED:-../shared/docs/src}
+    plotters=${ORDERED_SEED:-../plotters-0.3.7}
     seed=$plotters/src/coord/ranged1d
     [ -f "$seed/mod.rs" ] || stop "no seed in $seed: name its folder in ORDERED_SEED"
     # Another version of plotters may answer otherwise; sha256sum names the files.

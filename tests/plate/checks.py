@@ -117,8 +117,21 @@ def first_difference(expected, got):
     return "none"
 
 
+def shown_on(page):
+    """The example as a page has it, the input on the left of a block and the output on its right."""
+    with open(page, "rb") as file:
+        block = [row[4:] for row in file if row.startswith(b"    ")]
+    first = next(i for i, row in enumerate(block) if row.startswith(NAMES + b" "))
+    rows = block[first : first + EXAMPLE_OUTPUT.count(b"\n")]
+    at = rows[0].index(HEADING)
+    left = [row[:at].rstrip(b" =>") + b"\n" for row in rows]
+    return b"".join(row for row in left if row.strip()) + b"".join(row[at:] for row in rows)
+
+
 def example(plate, reading):
     group = Group("example")
+    for page in ("README.md", "docs/PLATE.md"):
+        group.same(page, EXAMPLE + EXAMPLE_OUTPUT, shown_on(page))
     group.same("the reading", EXAMPLE_OUTPUT, reading.expected(EXAMPLE))
     group.same("plate", EXAMPLE_OUTPUT, plate.output(EXAMPLE))
     group.same("names alone", HEADING, plate.output(START))
