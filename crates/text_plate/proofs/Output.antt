@@ -180,12 +180,11 @@ module _ {s : State} {kept chunk after out : List ℕ} {t : Taken} (a : Turned s
         room = simp length-append (omega (arith, front, b .room));
         output = λ l more.
             let m : t .state .number + length (drop (t .used) chunk) ≤ most = omega (arith, l, left, a .counted, a .no-more) in
-            let w : take (t .written + n .written) (take (t .written) out ++ part) ≡ take (t .written) out ++ take (n .written) part =
-            ap (λ (k : ℕ). take (k + n .written) (take (t .written) out ++ part)) (sym front)
-            ∙ take-append-add (take (t .written) out) part (n .written) in
+            let f = take (t .written) out in
+            let w : take (t .written + n .written) (f ++ part) ≡ f ++ take (n .written) part =
+            ap (λ (k : ℕ). take (k + n .written) (f ++ part)) (sym front) ∙ take-append-add f part (n .written) in
             rw (w, ← drop-drop (n .used) (t .used) chunk)
-            (a .output l more ∙ rw (e, b .output m more)
-            (sym (append-assoc (take (t .written) out) (take (n .written) part) _)));
+            (a .output l more ∙ rw (e, b .output m more) (sym (append-assoc f (take (n .written) part) _)));
       }
 
 -- ---- the whole output

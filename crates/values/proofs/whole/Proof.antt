@@ -13,8 +13,10 @@ head-fits : (c : tie.After-toward-zero) → SFits w64 (c .toward-zero .result .h
 head-fits c = search needs
 
 returns : tie.Need-returns
-returns c = let p = c .before .before .args .p in
-    rw (toZ-ofZ (head-fits (c .before))) (sym (whole-of (p .unit) (sum p) (c .before .toward-zero .result) (c .before .toward-zero .ensures)))
+returns c =
+    let p = c .before .before .args .p in
+    let z = c .before .toward-zero in
+    rw (toZ-ofZ (head-fits (c .before))) (sym (whole-of (p .unit) (sum p) (z .result) (z .ensures)))
 
 pub whole-spec : {M : Type 1} → statement M
 whole-spec = tie.close (tie.spec (λ c κs. search needs) returns)
