@@ -1,6 +1,7 @@
 -- The lemmas that all proofs share.
 pub mod Signed
 pub mod Lent
+pub mod Parts
 pub mod Tables
 pub mod Tests
 pub mod Quotients

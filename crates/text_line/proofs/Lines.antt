@@ -7,9 +7,10 @@ use Prim.Native.Nat.{ℕ, suc, _+_, _-_, _<_, _≤_}
 use native.Mathlib.Numerals.{add-one}
 use native.Mathlib.Omega.{arith}
 use lib.Dec.{eqb, lit≤}
-use lib.ListN.{length, take, drop, getD, drop-of-length-le, length-drop}
-use lib.Seq.{drop-cons, take-all}
+use lib.ListN.{length, take, drop, getD, drop-of-length-le}
+use lib.Seq.{drop-cons}
 use borrow.Author.Tests.{eq-eqb, ne-eqb}
+use Rattle.laws.proofs.Parts.{to-end}
 use Rattle.text_read.specs.Bytes.{spaceByte}
 use Rattle.text_read.specs.Fields.{untilOf}
 use Rattle.text_read.proofs.Fields.{same-both}
@@ -63,10 +64,6 @@ unfolding kindOf
 kind-most w = omega (arith, place-most 1 kinds w (lit≤ tt))
 
 -- ---- fields
--- `&s[k..]`
-to-end : (s : List ℕ) (k : ℕ) → take (length s - k) (drop k s) ≡ drop k s
-to-end s k = take-all (length s - k) (drop k s) (rw (length-drop k s) (omega arith))
-
 module _ (s : List ℕ) (k : ℕ) (e : k ≡ untilOf spaceByte s) where
   pub rest-none : k ≡ length s → take (length s - k) (drop k s) ≡ restOf s
   rest-none h =

@@ -3,8 +3,9 @@ use borrow.Author.Needs.{needs}
 use mathlib.Core.Path.{_≡_, sym}
 use Prim.Native.Nat.{_+_, _-_, _≤_}
 use native.Mathlib.Omega.{arith}
-use lib.ListN.{length, take, drop, length-drop}
+use lib.ListN.{length}
 use lib.Seq.{length-take-le}
+use Rattle.laws.proofs.Parts.{length-to-end}
 use Rattle.plate.proofs.eat.Statement.{statement}
 use Rattle.plate.proofs.eat.Tie as tie
 use Rattle.text_plate.specs.Turns.{Keeps}
@@ -24,8 +25,7 @@ some c =
     let p = c .before .before .before .before .before .before in
     let at = p .loop .at in
     let l = p .before .before .before .before .args .chunk .now in
-    let size : length (take (length l - at) (drop at l)) ≡ length l - at =
-    length-take-le (length l - at) (drop at l) (simp length-drop (omega arith)) in
+    let size = length-to-end l at in
     let t = c .turns .ensures in
     (t .some (omega arith), omega (arith, t .no-more))
 

@@ -2,13 +2,13 @@
 use borrow.Author.Needs.{needs}
 use mathlib.Core.Path.{_≡_, _∙_}
 use mathlib.Core.Bool.{Bool, true, _&&_}
-use mathlib.Core.List.{List, [], _++_, append-nil}
+use mathlib.Core.List.{List, _++_}
 use Prim.Native.Nat.{ℕ, _+_, _-_, _≤_, _<_}
 use native.Mathlib.Omega.{arith}
 use lib.Dec.{ltb, leb}
-use lib.ListN.{length, take, drop, length-append, length-drop, drop-of-length-le}
-use lib.Seq.{take-all, length-take-le}
+use lib.ListN.{length, take, drop}
 use borrow.Author.Tests.{ltb-true, leb-true}
+use Rattle.laws.proofs.Parts.{to-end, length-to-end, given-back, length-given-back}
 use Rattle.laws.proofs.Tests.{both-true}
 use Rattle.text_plate.specs.declared.State.{State}
 use Rattle.text_plate.specs.declared.Taken.{Taken}
@@ -53,11 +53,7 @@ a-turn-more : {s : State} {k chunk kept out later part : List ℕ} {state : Stat
     → Turned s k chunk (taken (n .state) (n .goes) (used + n .used) (written + n .written)) later
     (take written out ++ (part ++ drop (length out - written) (drop written out)))
 a-turn-more {s} {k} {chunk} {kept} {out} {later} {part} {state} {goes} {used} {written} {n} a e b =
-    let all : take (length chunk - used) (drop used chunk) ≡ drop used chunk =
-    take-all (length chunk - used) (drop used chunk) (simp length-drop (omega arith)) in
-    let none : drop (length out - written) (drop written out) ≡ [] =
-    drop-of-length-le (drop written out) {i = length out - written} (simp length-drop (omega arith)) in
-    rw (none, append-nil part) (turned-both a e (rw all at b))
+    rw (given-back out written part) (turned-both a e (rw (to-end chunk used) at b))
 
 -- what is lent keeps its size: room for a line's list and text, and none is too long to count
 sizes : (l : tie.At-loop Inv-loop μ-loop) → (length (l .loop .lent) ≡ 8194) × ((266305 ≤ length (l .loop .out))
@@ -70,16 +66,6 @@ sizes l =
     let n : length (l .loop .lent) ≡ length (s .args .lent .now) = i .0 ∙ k .1 .1 .1 .0 in
     (n ∙ s .pre .1 .0, (omega (arith, m, s .pre), (omega (arith, m, s .good), omega (arith, s .good))))
 
--- a part from some place on
-length-rest : (l : List ℕ) (at : ℕ) → length (take (length l - at) (drop at l)) ≡ length l - at
-length-rest l at = length-take-le (length l - at) (drop at l) (simp length-drop (omega arith))
-
--- the whole again, once its part from some place on is given back
-length-back : (l part : List ℕ) (at : ℕ) → at ≤ length l → length part ≡ length (take (length l - at) (drop at l))
-    → length (take at l ++ (part ++ drop (length l - at) (drop at l))) ≡ length l
-length-back l part at h k =
-    simp (length-append, length-drop, length-take-le at l h) (omega (arith, k, length-rest l at))
-
 -- a turn more reads some of what is left of the chunk, and writes within what is left of the buffer
 within : (c : tie.After-turn2 Inv-loop μ-loop) → let l = c .before .before .before .before .before .before in
     (1 ≤ c .turn2 .result .used) × ((l .loop .used + c .turn2 .result .used ≤ length (chunkOf l))
@@ -89,8 +75,8 @@ within c =
     let l = i .before in
     let a = tested i in
     let t = c .turn2 .ensures in
-    let left = length-rest (chunkOf l) (l .loop .used) in
-    let room = length-rest (l .loop .out) (l .loop .written) in
+    let left = length-to-end (chunkOf l) (l .loop .used) in
+    let room = length-to-end (l .loop .out) (l .loop .written) in
     let same = c .turn2 .kept .1 .1 .1 .1 .0 in (
       t .some (omega (arith, left, a .1 .0)),
       (omega (arith, left, t .no-more, a .1 .0), omega (arith, room, t .room, same, a .1 .1)),
@@ -104,7 +90,7 @@ turn-requires-2 c κs =
     let i = c .before .before .before .before in
     let l = i .before .loop in
     let z = sizes (i .before) in
-    (l .inv .1 .0, (z .0, omega (arith, length-rest (l .out) (l .written), tested i, z .1 .0)))
+    (l .inv .1 .0, (z .0, omega (arith, length-to-end (l .out) (l .written), tested i, z .1 .0)))
 
 add-used : tie.Need-add-used Inv-loop μ-loop
 add-used c =
@@ -130,7 +116,7 @@ loop-again c =
           within t .1 .0,
           (
             n .kept .1 .1 .1 .0 ∙ l .inv .1 .1 .1 .0,
-            length-back (l .out) (n .last .1 .1 .1 .1 .0) (l .written) w (n .kept .1 .1 .1 .1 .0) ∙ l .inv .1 .1 .1 .1,
+            length-given-back (l .out) (l .written) (n .last .1 .1 .1 .1 .0) w (n .kept .1 .1 .1 .1 .0) ∙ l .inv .1 .1 .1 .1,
           ),
         ),
       ),
