@@ -1,4 +1,4 @@
--- Laws of the plans: what the code works out, and what demand 3 asks of each.
+-- Laws of the plans: what the code works out, and what demand 3 asks of each; their ticks are values.
 pub mod Cases
 pub mod Days
 pub mod Months
@@ -6,3 +6,4 @@ pub mod Times
 pub mod Spans
 pub mod Plans
 pub mod Promise
+pub mod Values

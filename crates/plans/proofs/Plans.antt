@@ -11,7 +11,7 @@ use Rattle.laws.proofs.Signed.{le-false}
 use Rattle.laws.proofs.Tests.{either-false}
 use Rattle.values.proofs.Numbers.{is-le, within-true, not-both, not-below}
 use Rattle.axis.specs.declared.Axis.{Axis}
-use Rattle.axis.specs.Questions.{isKind, known}
+use Rattle.axis.specs.Questions.{isKind, known, hasPeriod}
 use Rattle.counting.specs.Counting.{monthly, yearly}
 
 -- ---- no kind but 4 and 7 is left
@@ -33,3 +33,15 @@ module _ (a : Axis) where
       let q = other 2 (either-false (isKind 2 a) (isKind 5 a) m .0) (omega arith) z in
       let r = other 3 (either-false (isKind 3 a) (isKind 6 a) y .0) (omega arith) z in
       rw (is-le (pos 4) (a .kind) (omega arith), is-le (a .kind) (pos 7) (omega arith))
+
+  -- and both have a period
+  pub none-left : known a ≡ true → leZ (a .kind) (pos 1) ≡ false → monthly a ≡ false → yearly a ≡ false → hasPeriod a ≡ false → ⊥
+  unfolding known monthly yearly hasPeriod
+  none-left k o m y e =
+      let (l, h) = within-true (pos 4) (a .kind) (pos 7) (four-or-seven k o m y) in
+      let z : negPart (a .kind) ≡ 0 = not-below (a .kind) (omega arith) in
+      let (p, r) = either-false (isKind 4 a) (isKind 7 a) e in
+      let four = other 4 p (omega arith) z in
+      let five = other 5 (either-false (isKind 2 a) (isKind 5 a) m .1) (omega arith) z in
+      let six = other 6 (either-false (isKind 3 a) (isKind 6 a) y .1) (omega arith) z in
+      omega (arith, other 7 r (omega arith) z)

@@ -4,6 +4,7 @@ use mathlib.Core.Bool.{Bool, true, false}
 use mathlib.Core.Logic.{_⊎_, inl, inr}
 use Prim.Native.Nat.{ℕ, _+_, _*_, _/_, _%_, _≤_, _<_}
 use native.Mathlib.Nat.{eq-or-lt-of-le, div-add-mod', div-mul-le-self, le-div-iff-mul-le}
+use native.Mathlib.Decide.{decLe}
 use native.Mathlib.Omega.{arith}
 use lib.IntN.{ℤ, pos, _+ℤ_}
 use lib.Signed.{_<ℤ_, ltZ, ltZ-yes}
@@ -23,6 +24,14 @@ smaller a b h = ltZ-yes (is-true (ltZ a b) (is-lt a b h))
 
 pub is-smaller : {a b : ℤ} → a <ℤ b → posPart a + negPart b < posPart b + negPart a
 is-smaller {a} {b} h = lt-true a b (holds (ltZ a b) (h .lt))
+
+-- what is not smaller is at least as large
+pub at-least : (x y : ℤ) → (x <ℤ y → ⊥) → posPart y + negPart x ≤ posPart x + negPart y
+at-least x y n =
+    elim (decLe (posPart y + negPart x) (posPart x + negPart y)) [
+      | yes l ↦ l
+      | no l ↦ absurd (n (smaller x y (omega arith)))
+    ]
 
 -- ---- the order
 -- of two ticks at most one is the later

@@ -76,6 +76,12 @@ module _ (f : ℕ → Value) where
 pub count-is : (s : Steps) → length (ticks s) ≡ s .count
 count-is s = length-values (tickOf s) (s .count)
 
+-- and they are read where they were listed
+pub nth-ticks : (s : Steps) (i : ℕ) → 2 * i < length (numbers (ticks s)) → nth (numbers (ticks s)) i ≡ tickOf s i
+nth-ticks s i h =
+    let e = pairs-are (tickOf s) (s .count) in
+    rw e (nth-pairs (tickOf s) (s .count) i (omega (arith, ap length e, length-pairs (tickOf s) (s .count))))
+
 -- and two numbers for each tick of a list
 pub length-numbers : (l : List Value) → length (numbers l) ≡ 2 * length l
 length-numbers [] = refl

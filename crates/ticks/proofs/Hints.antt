@@ -39,26 +39,26 @@ use Rattle.ticks.specs.Plans.{refined, axisFor}
 -- ---- the kinds that have a finer one, which is over the same values
 record Coarse (k : ℤ) : Type 0 where
   known : within (pos 1) (k -ℤ pos 1) (pos 7) ≡ true
-  value : (v : Value) → isValue k v ≡ true → isValue (k -ℤ pos 1) v ≡ true
+  value : (v : Value) → isValue (k -ℤ pos 1) v ≡ isValue k v
   days : isDuration (k -ℤ pos 1) ≡ false
   many : within (pos 4) (k -ℤ pos 1) (pos 7) ≡ true → within (pos 4) k (pos 7) ≡ true
   fits : SFits w64 (k -ℤ pos 1)
 
 two : Coarse (pos 2)
 unfolding isValue
-two = record { known = refl; value = λ v e. e; days = refl; many = λ e. e; fits = count-fits 1 (omega arith) }
+two = record { known = refl; value = λ v. refl; days = refl; many = λ e. e; fits = count-fits 1 (omega arith) }
 
 three : Coarse (pos 3)
 unfolding isValue
-three = record { known = refl; value = λ v e. e; days = refl; many = λ e. e; fits = count-fits 2 (omega arith) }
+three = record { known = refl; value = λ v. refl; days = refl; many = λ e. e; fits = count-fits 2 (omega arith) }
 
 five : Coarse (pos 5)
 unfolding isValue
-five = record { known = refl; value = λ v e. e; days = refl; many = λ e. refl; fits = count-fits 4 (omega arith) }
+five = record { known = refl; value = λ v. refl; days = refl; many = λ e. refl; fits = count-fits 4 (omega arith) }
 
 six : Coarse (pos 6)
 unfolding isValue
-six = record { known = refl; value = λ v e. e; days = refl; many = λ e. e; fits = count-fits 5 (omega arith) }
+six = record { known = refl; value = λ v. refl; days = refl; many = λ e. e; fits = count-fits 5 (omega arith) }
 
 module _ (a : Axis) where
   pub kind-is : (m : ℕ) → isKind m a ≡ true → a .kind ≡ pos m
@@ -94,7 +94,7 @@ module _ (a : Axis) where
         let v = both-ends a (q .real) in
         record {
           kind = coarse .known;
-          real = rw (coarse .value (start a) (v .first), coarse .value (end a) (v .second));
+          real = rw (coarse .value (start a) ∙ v .first, coarse .value (end a) ∙ v .second);
           order = q .order;
           near = sym (other-kind (finer a) (coarse .days));
           most = q .most;
@@ -114,6 +114,13 @@ module _ (a : Axis) (b : ℕ) where
   refined-ends =
       choose (λ (x : Axis). (start x ≡ start a) × (end x ≡ end a)) ((monthly a || yearly a) && leb (sizeOf a) (2 * b))
       (λ _. (refl, refl)) (λ _. (refl, refl))
+
+  -- and so do the values of its kind
+  refined-value : (v : Value) → isValue (refined b a .kind) v ≡ isValue (a .kind) v
+  unfolding refined
+  refined-value v =
+      choose (λ (x : Axis). isValue (x .kind) v ≡ isValue (a .kind) v) ((monthly a || yearly a) && leb (sizeOf a) (2 * b))
+      (λ e. coarse a (both-true (monthly a || yearly a) (leb (sizeOf a) (2 * b)) e .0) .value v) (λ _. refl)
 
   -- ---- as the code finds it
   pub stays-fine : monthly a || yearly a ≡ false → a ≡ refined b a
@@ -171,6 +178,12 @@ module _ (a : Axis) where
       let x = refined-ends (refined b a) b in
       let y = refined-ends a b in
       (x .0 ∙ y .0, x .1 ∙ y .1)
+
+  pub listing-value : (h : Hint) (v : Value) → isValue (axisFor a h .kind) v ≡ isValue (a .kind) v
+  listing-value (Bold h) v = refl
+  listing-value (Light h) v =
+      let b = posPart (h .bold) in
+      refined-value (refined b a) b v ∙ refined-value a b v
 
   -- ---- the period: kinds 4 and 7 have a hint of 1 at least
   many : hasPeriod a ≡ true → within (pos 4) (a .kind) (pos 7) ≡ true
