@@ -2,6 +2,7 @@
 TOOLS is the folder with the compiled answers and peak. One line for each group; exits 1 on any difference.
 """
 
+import datetime
 import fcntl
 import itertools
 import os
@@ -16,10 +17,11 @@ import termios
 import time
 import tty
 
-from reading import HEADING, NAMES, Reading
+from reading import HEADING, KINDS, NAMES, SECOND, Reading, request_of, shown, value_of
 
 SHOWN = 3  # differences that a group shows
 PATIENCE = 60  # seconds for one run
+LAST_DAY = datetime.date.max.toordinal()
 WRONG_NAMES = b"line tick pixel\n0 - !12\n"
 START = NAMES + b"\n"
 
@@ -37,7 +39,8 @@ EXAMPLE_OUTPUT = b"""line tick pixel
 3 - !4
 """
 
-# One and more for each kind; ticks at the second, a list without ticks, signs, leading zeros, both ends of the hint.
+# One and more for each kind; ticks closer than a second, typed fractions, a list without ticks, signs, leading zeros, both ends
+# of the hint.
 GOOD = [
     b"date 2021-03-01 2021-03-08 3 0 70",
     b"date 2020-02-29 2021-03-01 4096 -100 100",
@@ -49,8 +52,11 @@ GOOD = [
     b"stampyear 2019-12-31T23:59:59 2024-01-01T00:00:00 6 -0 00070",
     b"span -90 3600 7 0 500",
     b"span -315576000000 315576000000 3 -32767 32767",
+    b"stamp 2021-03-01T23:59:59.25 2021-03-02T00:00:01.000000001 7 0 500",
+    b"span -1.5 0.999999999 5 0 70",
 ]
-LONGEST_READ = b"stampmonth 2021-03-01T00:00:00 2021-06-01T00:00:00 -000000000003 -000000000007 -000000000070"
+LONGEST_READ = b"stampmonth 2021-03-01T00:00:00.000000000 2021-06-01T00:00:00.999999999"
+LONGEST_READ += b" -000000000003 -000000000007 -000000000070"
 
 
 class Plate:
@@ -118,22 +124,26 @@ def first_difference(expected, got):
 
 
 def shown_on(page):
-    """The example as a page has it, the input on the left of a block and the output on its right."""
+    """The examples of a page: each a block, with the input on its left and the output on its right."""
     with open(page, "rb") as file:
-        block = [row[4:] for row in file if row.startswith(b"    ")]
-    first = next(i for i, row in enumerate(block) if row.startswith(NAMES + b" "))
-    rows = block[first : first + EXAMPLE_OUTPUT.count(b"\n")]
-    at = rows[0].index(HEADING)
-    left = [row[:at].rstrip(b" =>") + b"\n" for row in rows]
-    return b"".join(row for row in left if row.strip()) + b"".join(row[at:] for row in rows)
+        rows = file.read().split(b"\n")
+    for first, row in enumerate(rows):
+        if row.startswith(b"    " + NAMES + b" "):
+            at = row.index(HEADING[:-1])
+            block = list(itertools.takewhile(lambda row: row.startswith(b"    "), rows[first:]))
+            left = [row[4:at].rstrip(b" =>") + b"\n" for row in block]
+            yield b"".join(row for row in left if row.strip()), b"".join(row[at:] + b"\n" for row in block)
 
 
 def example(plate, reading):
     group = Group("example")
-    for page in ("README.md", "docs/PLATE.md"):
-        group.same(page, EXAMPLE + EXAMPLE_OUTPUT, shown_on(page))
-    group.same("the reading", EXAMPLE_OUTPUT, reading.expected(EXAMPLE))
-    group.same("plate", EXAMPLE_OUTPUT, plate.output(EXAMPLE))
+    for page, count in (("README.md", 1), ("docs/PLATE.md", 2)):
+        shown = list(shown_on(page))
+        if len(shown) != count or shown[0] != (EXAMPLE, EXAMPLE_OUTPUT):
+            group.difference(page, "another example, or not %d of them" % count)
+        for given, output in shown:
+            group.same(page + ", the reading", reading.expected(given), output)
+            group.same(page + ", plate", plate.output(given), output)
     group.same("names alone", HEADING, plate.output(START))
     # The stored sample: reading.py ANSWERS <stdin >stdout makes its output.
     with open("crates/plate/stdin", "rb") as given, open("crates/plate/stdout", "rb") as stored:
@@ -169,7 +179,7 @@ def names(plate, reading):
 def broken_off(plate, reading):
     """Each beginning of an input, so each line without its LF."""
     group = Group("broken off")
-    whole = EXAMPLE + GOOD[4] + b"\n" + GOOD[8] + b"\n"
+    whole = EXAMPLE + b"".join(GOOD[at] + b"\n" for at in (4, 8, 10, 11))
     for end in range(len(whole) + 1):
         group.same("%d bytes" % end, reading.expected(whole[:end]), plate.output(whole[:end]))
     group.done()
@@ -177,7 +187,7 @@ def broken_off(plate, reading):
 
 def pieces(plate, reading):
     group = Group("in pieces")
-    whole = EXAMPLE + b"x" * 300 + b"\n" + GOOD[6] + b"\n" + GOOD[4] + b"\n" + GOOD[8]
+    whole = EXAMPLE + b"x" * 300 + b"\n" + b"\n".join(GOOD[at] for at in (6, 4, 10, 11, 8))
     for size in (1, 2, 3, 7, 34, 120, 121):
         group.same("of %d bytes" % size, reading.expected(whole), plate.output_of_pieces(whole, size))
     group.done()
@@ -290,9 +300,306 @@ def random_lines(plate, reading):
     group.done()
 
 
+# What starts and ends with fractions must print, written out by hand. First what does not read: at most one sign, at least a
+# digit before the point, one to nine behind it, and no more than 12 before it.
+UNREAD = {
+    b"stamp": [b"2021-03-04T05:06.5", b"2021-03-04.5", b"2021-03-04.5T05:06:07", b"2021-03-04T05:06:7.5", b"2021-03-04T05:06:.5",
+               b"2021-03-04T05:06:07,5", b"2021-03-04T05:06:07.5Z", b"2021-03-04T05:06:07..5", b"2021-03-04T05:06:07.-5",
+               b"2021-03-04T05:06:07.5.5", b"2021-02-30T00:00:00.1234567890", b"2021-03-04T24:00:00.", b"2021-03-04T05:06:07. "],
+    b"span": [b".5", b"-.5", b"1.", b"-1.", b".", b"-.", b"1.5.5", b"1..5", b"--0.5", b"-+0.5", b"+0.5", b"0.-5", b"0.+5",
+              b"0.5-", b"0,5", b"0.5e0", b"0.5s", b"0x0.5", b"0. 5", b"1234567890123.5", b"-1234567890123.5", b"0.1234567890",
+              b"1.\xd9\xa3", b"315576000000.5000000000"],
+}
+# In form, and no value: no such day, no such time of the day, beyond the bounds of a span.
+NO_VALUE = {
+    b"stamp": [b"2021-03-04T24:00:00.5", b"2021-03-04T24:00:00.0", b"2021-03-04T23:60:00.5", b"2021-03-04T05:60:00.5",
+               b"2021-03-04T23:59:60.5", b"2021-03-04T05:06:60.5", b"2021-03-04T23:59:60.000000000", b"2021-02-29T00:00:00.5",
+               b"0000-12-31T23:59:59.9", b"2021-02-30T00:00:00.123456789"],
+    b"span": [b"-315576000000.5", b"-315576000000.000000001", b"315576000001.0", b"-315576000001.0", b"999999999999.999999999"],
+}
+BY_HAND = {
+    # A list with a fraction shows nine digits at each tick, one without shows none, whatever was typed.
+    b"stamp 2021-03-01T00:00:00 2021-03-01T00:00:01 2 0 70": [
+        b"2021-03-01T00:00:00.000000000 0", b"2021-03-01T00:00:00.500000000 35"],
+    b"stamp 2021-12-31T23:59:59 2022-01-01T00:00:01 4 0 100": [
+        b"2021-12-31T23:59:59.000000000 0", b"2021-12-31T23:59:59.500000000 25",
+        b"2022-01-01T00:00:00.000000000 50", b"2022-01-01T00:00:00.500000000 75"],
+    b"stamp 2020-02-29T23:59:59.999999999 2020-03-01T00:00:00.000000001 2 0 2": [
+        b"2020-02-29T23:59:59.999999999 0", b"2020-03-01T00:00:00.000000000 1"],
+    b"stamp 2021-03-01T00:00:00.5 2021-03-01T00:00:03.5 3 0 60": [
+        b"2021-03-01T00:00:01 10", b"2021-03-01T00:00:02 30", b"2021-03-01T00:00:03 50"],
+    b"stamp 2021-03-01T00:00:00.000 2021-03-01T00:00:00.2 1 0 60": [b"2021-03-01T00:00:00 0"],
+    b"stamp 9999-12-31T23:59:59.999999998 9999-12-31T23:59:59.999999999 1 0 9": [b"9999-12-31T23:59:59.999999998 0"],
+    b"span -1 1 4 0 100": [b"-1.000000000 0", b"-0.500000000 25", b"0.000000000 50", b"0.500000000 75"],
+    b"span -1.5 1.5 3 0 60": [b"-1 10", b"0 30", b"1 50"],
+    b"span -1.000000001 -0.999999999 2 0 2": [b"-1.000000001 0", b"-1.000000000 1"],
+    b"span 0.999999999 1.000000001 2 0 2": [b"0.999999999 0", b"1.000000000 1"],
+    b"span -000000000000.5 0000.50 2 0 2": [b"-0.500000000 0", b"0.000000000 1"],
+    # Months and years from a half second after midnight: that midnight is a tick, before the start, and needs no digits. So its
+    # pixel can lie far outside the limits, have no number, or no place at all where the end is the start.
+    b"stampmonth 2021-03-01T00:00:00.5 2021-05-01T00:00:00.5 3 0 61": [
+        b"2021-03-01T00:00:00 0", b"2021-04-01T00:00:00 30", b"2021-05-01T00:00:00 60"],
+    b"stampyear 2021-01-01T00:00:00.5 2022-01-01T00:00:00.5 3 0 365": [b"2021-01-01T00:00:00 0", b"2022-01-01T00:00:00 364"],
+    b"stampmonth 2021-03-01T00:00:00.5 2021-03-01T00:00:01 3 0 70": [b"2021-03-01T00:00:00 -70"],
+    b"stampyear 2021-01-01T00:00:00.999999998 2021-01-01T00:00:00.999999999 3 5 32767": [b"2021-01-01T00:00:00 -2147483643"],
+    b"stampmonth 2021-03-01T00:00:00.999999998 2021-03-01T00:00:00.999999999 3 -5 32767": [b"2021-03-01T00:00:00 !10"],
+    b"stampmonth 2021-03-01T00:00:00.5 2021-03-01T00:00:00.500 3 0 70": [b"2021-03-01T00:00:00 !9"],
+    # The other refusals, at the nanosecond where there is one.
+    b"stamp 2021-03-01T00:00:00.000000002 2021-03-01T00:00:00.000000001 3 0 70": [b"- !4"],
+    b"span -0.000000001 -0.000000002 3 0 70": [b"- !4"],
+    b"span 315576000000.999999999 315576000000.999999999 3 0 70": [b"- !5"],
+    b"span -315576000000.0 315576000000.5 3 0 70": [
+        b"-315576000000 0", b"-142776000000 19", b"30024000000 38", b"202824000000 57"],
+    b"span 3999999999.999999999 4000000000 1 0 70": [b"3999999999.999999999 0"],
+    b"span 3999999999 4000000000.000000001 1 0 70": [b"- !5"],
+    b"span -4000000000.0 -3999999999.999999999 1 0 70": [b"-4000000000 0"],
+    b"span -4000000000.000000001 -3999999999 1 0 70": [b"- !5"],
+    b"span -4611686018.427387904 4611686018.427387903 1 0 2": [b"- !5"],
+    b"span -4611686018.427387904 4611686018.427387904 1 0 2": [b"-4611513600 0", b"4028486400 1"],
+    b"span 0.5 1.5 0 0 70": [b"- !6"],
+    b"stamp 2021-03-01T00:00:00.5 2021-03-01T00:00:01.5 4097 0 70": [b"- !6"],
+    b"span 0 1 2 0 32768": [b"0.000000000 !7", b"0.500000000 !7"],
+}
+# A sign or none, no second or one, no fraction, one of zeros or a half: head and tail, and the texts of this value and the one
+# after it in a list that runs by the nanosecond up to the last column.
+SIGNS = [
+    (b"0", 0, 0, b"0.000000000", b"0.000000001", b"0.000000002"),
+    (b"0.0", 0, 0, b"0.000000000", b"0.000000001", b"0.000000002"),
+    (b"0.5", 0, 500000000, b"0.500000000", b"0.500000001", b"0.500000002"),
+    (b"1", 1, 0, b"1.000000000", b"1.000000001", b"1.000000002"),
+    (b"1.000000000", 1, 0, b"1.000000000", b"1.000000001", b"1.000000002"),
+    (b"1.5", 1, 500000000, b"1.500000000", b"1.500000001", b"1.500000002"),
+    (b"-0", 0, 0, b"0.000000000", b"0.000000001", b"0.000000002"),
+    (b"-0.000000000", 0, 0, b"0.000000000", b"0.000000001", b"0.000000002"),
+    (b"-0.5", -1, 500000000, b"-0.500000000", b"-0.499999999", b"-0.499999998"),
+    (b"-1", -1, 0, b"-1.000000000", b"-0.999999999", b"-0.999999998"),
+    (b"-1.0", -1, 0, b"-1.000000000", b"-0.999999999", b"-0.999999998"),
+    (b"-1.500000000", -2, 500000000, b"-1.500000000", b"-1.499999999", b"-1.499999998"),
+]
+# Each fraction of these is damaged.
+BROKEN = [
+    b"stamp 2021-03-01T00:00:00.25 2021-03-01T00:00:02.123456789 3 0 70",
+    b"stamp 2021-03-01T23:59:59.999999999 2021-03-02T00:00:00.5 2 0 70",
+    b"stampmonth 2021-01-15T12:00:00.5 2021-06-30T23:59:59.98765432 6 100 0",
+    b"stampyear 2019-12-31T23:59:59.000000001 2024-01-01T00:00:00.0 6 -50 50",
+    b"span -1.5 1.999999999 3 0 500",
+    b"span -0.000000001 0.12345678 2 0 500",
+    b"span -315576000000.0 315576000000.5 3 -32767 32767",
+]
+
+
+def input_of(lines):
+    return START + b"".join(line + b"\n" for line in lines)
+
+
+def by_hand(group, plate, reading, table):
+    """The rows as the table has them for each line, of the reading and of plate."""
+    rows = [b"%d %s\n" % (number, row) for number, rows in enumerate(table.values(), 1) for row in rows]
+    group.same("the reading", HEADING + b"".join(rows), reading.expected(input_of(table)))
+    group.same("plate", HEADING + b"".join(rows), plate.output(input_of(table)))
+    return list(table)
+
+
+def typed_fractions(plate, reading):
+    """A point and nought to ten digits behind every field of every kind: a date-time or a span takes one to nine, nothing else
+    takes any. What was read shows to the nanosecond, by the refusal of a later start and, where the kind lists it, as a tick."""
+    group, table = Group("typed fractions"), {}
+    ends = [(kind, b"2021-03-04" if KINDS[kind] <= 3 else b"2021-03-04T05:06:07") for kind in KINDS if kind != b"span"]
+    for kind, end in [*ends, (b"span", b"7"), (b"span", b"-7")]:
+        for digits, count in itertools.product((b"1234567890", b"9876543210", b"0000000000"), range(11)):
+            fraction = b"." + digits[:count]
+            read = KINDS[kind] > 3 and 1 <= count <= 9
+            for at in range(3 if read else 1, 6):
+                fields = [kind, end, end, b"3", b"0", b"70"]
+                fields[at] += fraction
+                table[b" ".join(fields)] = [b"- !12"]
+            value = int(digits[:count].ljust(9, b"0"))
+            if not read or not value:
+                continue
+            typed, around = end + fraction, [end + b".%09d" % near for near in (value - 1, value, value + 1)]
+            before, same, after = around[::-1] if end.startswith(b"-") else around
+            listed = kind in (b"stamp", b"span")
+            for start, last, rows in (
+                (typed, same, []), (same, typed, []), (typed, before, [b"- !4"]), (after, typed, [b"- !4"]),
+                (typed, after, [same + b" 0"] * listed), (before, typed, [before + b" 0"] * listed),
+            ):
+                table[b"%s %s %s 3 0 70" % (kind, start, last)] = rows
+    lines = by_hand(group, plate, reading, table)
+    group.done(", %d lines" % len(lines))
+    return lines
+
+
+def fractions_by_hand(plate, reading):
+    group, table = Group("fractions by hand"), dict(BY_HAND)
+    for refusal, texts in ((b"- !12", UNREAD), (b"- !3", NO_VALUE)):
+        for kind in (b"stamp", b"stampmonth", b"stampyear", b"span"):
+            good = b"0.5" if kind == b"span" else b"2021-03-04T05:06:07.5"
+            for text in texts[b"span" if kind == b"span" else b"stamp"]:
+                table[b"%s %s %s 3 0 70" % (kind, text, good)] = table[b"%s %s %s 3 0 70" % (kind, good, text)] = [refusal]
+    lines = by_hand(group, plate, reading, table)
+    group.done(", %d lines" % len(lines))
+    return lines
+
+
+def signs(plate, reading):
+    group, table = Group("sign and fraction"), {}
+    for typed, head, tail, text, more, end in SIGNS:
+        group.same("%r" % typed, b"%d %d\n" % (head, tail), b"%d %d\n" % value_of(7, typed))
+        group.same("%r shown" % typed, text, shown(7, head, tail, True).encode())
+        table[b"span %s %s 2 0 2" % (typed, end)] = [text + b" 0", more + b" 1"]
+    lines = by_hand(group, plate, reading, table)
+    group.done(", %d lines" % len(lines))
+    return lines
+
+
+def compared(group, plate, reading, lines):
+    data = input_of(lines)
+    expected = reading.expected(data)
+    group.same("one input", expected, plate.output(data))
+    return expected
+
+
+def around_zero(plate, reading):
+    """Both orders of all these ends, so half of the lines start later than they end."""
+    group, ends = Group("spans around zero"), [b"-0", b"-0.0", b"0", b"0.000", b"-2.0", b"2.0"]
+    for second, fraction in itertools.product((b"0", b"1"), (b".000000001", b".25", b".5", b".999999999", b"")):
+        ends += [sign + second + fraction for sign in (b"-", b"")]
+    lines = [b"span %s %s %d 0 1000" % (*pair, hint) for pair in itertools.product(ends, repeat=2) for hint in (1, 2, 4, 9, 20)]
+    compared(group, plate, reading, lines)
+    group.done(", %d lines" % len(lines))
+    return lines
+
+
+def need_lists(group, reading, lines):
+    """Lists of whole and broken seconds come, on the two kinds that can have them, and lists of whole seconds alone where a
+    fraction was typed, on each kind that takes one."""
+    mixed, whole = [], []
+    for line in lines:
+        kind, ticks = line.split(b" ")[0], [row.split(b" ")[0] for row in reading.rows[line]]
+        zeros = sum(tick.endswith(b".000000000") for tick in ticks)
+        if 0 < zeros < len(ticks):
+            mixed.append(kind)
+        elif b"." in line and ticks and b"." not in ticks[0] and ticks[0] != b"-":
+            whole.append(kind)
+    if set(mixed) != {b"stamp", b"span"}:
+        group.difference("the lines", "whole and broken seconds in one list: %s" % set(mixed))
+    if set(whole) != {b"stamp", b"stampmonth", b"stampyear", b"span"}:
+        group.difference("the lines", "a typed fraction and whole seconds: %s" % set(whole))
+    return ", %d lines, %d with whole and broken seconds, %d with whole ones after a typed fraction" % (
+        len(lines), len(mixed), len(whole))
+
+
+def mixed_lists(plate, reading):
+    """Around a midnight, a leap day, a year's end and zero, from fractions of a second to years."""
+    group, lines = Group("whole and broken seconds"), []
+    moments = [datetime.datetime.fromisoformat(text) for text in ("2021-03-01", "2020-02-29T23:59:58", "2021-12-31T23:59:59")]
+    fractions = [("", ""), ("", ".5"), (".5", ".5"), (".25", ".75"), (".000000001", ".999999999"), (".9", ".000"), (".0", ".1")]
+    for seconds in (0, 1, 2, 3, 10, 60, 5000, 3 * 86400, 800 * 86400):
+        ends = [("span", "%d" % start, "%d" % (start + seconds)) for start in (0, 1, -1 - seconds // 2)]
+        for moment in moments:
+            later = moment + datetime.timedelta(seconds=seconds)
+            ends += [(kind, moment.isoformat(), later.isoformat()) for kind in ("stamp", "stampmonth", "stampyear")]
+        for (kind, start, end), (first, last), hint in itertools.product(ends, fractions, (1, 3, 6, 15)):
+            lines.append(("%s %s%s %s%s %d 0 1000" % (kind, start, first, end, last, hint)).encode())
+    compared(group, plate, reading, lines)
+    group.done(need_lists(group, reading, lines))
+    return lines
+
+
+def damaged_fractions(plate, reading):
+    """All edits of each fraction, from its point to the space after it, with every byte."""
+    group, lines = Group("damaged fractions"), []
+    for good in BROKEN:
+        fields = good.split(b" ")
+        for at in (1, 2):
+            whole, fraction = fields[at].split(b".")
+            for edit in (b"." + fraction + b" ", *edits(b"." + fraction + b" ", range(256))):
+                lines.append(b" ".join(fields[:at] + [whole + edit + b" ".join(fields[at + 1 :])]))
+    expected = compared(group, plate, reading, lines)
+    for good in BROKEN:
+        if any(b"!" in row for row in reading.rows[good]):
+            group.difference("%r" % good, "is refused undamaged")
+    group.done(", %d lines, %d of them unread" % (len(lines), expected.count(b" !12\n")))
+    return input_of(lines).split(b"\n")[1:-1]  # an edit can break a line in two
+
+
+def random_fraction(draw):
+    digits = draw.choice(["", "", "0", "5", "25", "000", "000000001", "999999999", "%d" % draw.randrange(10**6),
+                          "%09d" % draw.randrange(10**9)])
+    return "." + digits if digits else ""
+
+
+def random_broken_line(draw):
+    """Date-times and spans, mostly of few seconds or nanoseconds, with and without fractions."""
+    kind = draw.choice(["stamp"] * 3 + ["span"] * 3 + ["stampmonth", "stampyear"])
+    apart = draw.choice([0, 0, 0, 0, 1, 1, 1, 2, 3, 10, 59, 3600, 86400, 40 * 86400, 800 * 86400])
+    if kind == "span":
+        edge = draw.choice([0, 0, 1, 60, 86400, 4 * 10**9, 315576 * 10**6])
+        start = draw.choice([-edge, edge, edge - apart, -edge - 1, draw.randint(-9999, 9999)])
+        ends = ["%d" % start, "%d" % (start + apart)]
+        ends = ["-0" if end == "0" and draw.random() < 0.4 else end for end in ends]
+    else:
+        text = draw.choice(["2021-03-01T00:00:00", "2020-01-01T00:00:00", "2020-12-31T23:59:59", "0001-01-01T00:00:00",
+                            "2021-01-01T%02d:00:%02d" % (draw.randint(0, 23), draw.randint(0, 59))])
+        ends = [text, (datetime.datetime.fromisoformat(text) + datetime.timedelta(seconds=apart)).isoformat()]
+    fractions = [random_fraction(draw), random_fraction(draw)]
+    if draw.random() < 0.3:
+        first = draw.choice([0, 10**9 - 5000, draw.randrange(10**9 - 5000)])
+        fractions = [".%09d" % first, ".%09d" % (first + draw.choice([0, 1, 2, 10, 100, 4095, 4097]))]
+    ends = [end + fraction for end, fraction in zip(ends, fractions)]
+    if draw.random() < 0.05:
+        ends.reverse()
+    seldom = str(draw.choice([0, 4097, 1.5, draw.randint(1, 200)]))
+    hint = draw.choice(["1", "2", "3", "4", "5", "7", "10", "20", "50", seldom])
+    limits = [draw.choice(["0", "-0", "70", "500", "-500", "32767", "-32767", str(draw.choice([32768, 0.5]))]) for _ in range(2)]
+    return " ".join([kind, *ends, hint, *limits]).encode()
+
+
+def random_fractions(plate, reading):
+    """Every refusal that a line can get must come."""
+    group, draw = Group("random fractions"), random.Random(20261117)
+    lines = [random_broken_line(draw) for _ in range(3000)]
+    expected = compared(group, plate, reading, lines)
+    for refusal in (3, 4, 5, 6, 7, 9, 10, 12):
+        if b" !%d\n" % refusal not in expected:
+            group.difference("the lines", "none is refused by %d" % refusal)
+    group.done(need_lists(group, reading, lines))
+    return lines
+
+
+def read_back(plate, reading, lines):
+    """Every tick of these lines: its text is read to the tick's own head and tail, and plate reads it so: it is the first tick
+    of a list by the nanosecond that starts with it. No two ticks of a line look alike, and nine digits stand where one needs
+    them."""
+    group, again = Group("ticks read back"), {}
+    lines = [line for line in dict.fromkeys(lines) if reading.rows[line] and not reading.rows[line][0].startswith(b"- ")]
+    requests = [request_of(line) for line in lines]
+    for line, request, answer in zip(lines, requests, reading.told(requests)):
+        kind, values = request[0], list(zip(answer[2::4], answer[3::4]))
+        texts = [row.split(b" ")[0] for row in reading.rows[line]]
+        read = [value_of(kind, text) for text in texts]
+        group.same("%r" % line, *(b"".join(b"%d %d\n" % value for value in pairs) for pairs in (values, read)))
+        if len(set(texts)) < len(texts):
+            group.difference("%r" % line, "two ticks look alike")
+        digits = 9 if any(tail % SECOND for _, tail in values) else 0
+        if any(len(text.partition(b".")[2]) != digits or b"-" in text and not text.strip(b"-.0") for text in texts):
+            group.difference("%r" % line, "the digits of %r" % texts[:SHOWN])
+        name, whole = (b"span", SECOND) if kind == 7 else (b"stamp", 86400 * SECOND)
+        for text, (head, tail) in zip(texts, values):
+            end = divmod(head * whole + tail + 2, whole)
+            if abs(end[0]) < 4 * 10**9 if kind == 7 else end[0] <= LAST_DAY:  # no list by the nanosecond ends beyond
+                asked = b"%s %s %s 2 0 2" % (name, text, shown(kind, *end, True).encode())
+                again[asked] = text if b"." in text else text + b".000000000"
+    compared(group, plate, reading, again)
+    for asked, text in again.items():
+        if reading.rows[asked][0] != text + b" 0":
+            group.difference("%r" % asked, "the first row is %r" % reading.rows[asked][0])
+    group.done(", %d ticks put as starts" % len(again))
+
+
 def random_bytes(plate, reading):
     group, draw = Group("random bytes"), random.Random(20260402)
-    alphabets = [bytes(range(256)), b"0123456789-: T\n", b"datespn 2021-03\n", b" \n", b"\0\r\n \xff"]
+    alphabets = [bytes(range(256)), b"0123456789-:. T\n", b"datespn 2021-03\n", b" \n", b"\0\r\n \xff"]
     for alphabet in alphabets:
         data = bytes(draw.choices(alphabet, k=2**16))
         group.same("all of %.20r" % alphabet, reading.expected(data), plate.output(data))
@@ -312,7 +619,8 @@ def random_bytes(plate, reading):
 def full_buffer(plate, reading):
     """Lists of thousands among short lines: their rows go beyond the buffer at many places."""
     group, draw = Group("more rows than the buffer holds"), random.Random(20261116)
-    longs = [b"stamp 2021-03-01T00:00:00 2021-03-01T01:08:16 4096 0 8192", b"date 2001-01-01 2012-03-20 4096 -32767 32767"]
+    longs = [b"stamp 2021-03-01T00:00:00 2021-03-01T01:08:16 4096 0 8192", b"date 2001-01-01 2012-03-20 4096 -32767 32767",
+             b"stamp 2021-03-01T00:00:00 2021-03-01T00:00:01.02375 4096 -32767 32767", b"span -1.024 1.0235 4096 -32767 32767"]
     for _ in range(4):
         lines = [draw.choice(longs) if draw.random() < 0.5 else draw.choice(GOOD) for _ in range(40)]
         data = START + b"\n".join(lines) + b"\n"
@@ -469,7 +777,7 @@ def many_lines(plate, reading, tools):
     """A thousand lines, a few times, and a million: the same bytes as expected, and no more memory but for the noise of pages
     that the system shares or not; a byte kept for each line is 976 KiB."""
     group, draw = Group("a million lines"), random.Random(20260403)
-    pool = [random_line(draw) for _ in range(3000)]
+    pool = [draw.choice([random_line, random_broken_line])(draw) for _ in range(3000)]
     reading.expected(START + b"\n".join(pool) + b"\n")
     short = [line for line in pool if len(reading.rows[line]) <= 3][:1000]
     peaks = []
@@ -490,6 +798,10 @@ def main(program, tools):
     for check in (example, names, broken_off, pieces, damaged, line_ends, lengths, long_lines, random_lines, random_bytes,
                   full_buffer, failing_reads, failing_writes, arguments, single_writes):
         check(plate, reading)
+    lines = []
+    for check in (typed_fractions, fractions_by_hand, signs, around_zero, mixed_lists, damaged_fractions, random_fractions):
+        lines += check(plate, reading)
+    read_back(plate, reading, lines)
     many_lines(plate, reading, tools)
     return Group.failed
 

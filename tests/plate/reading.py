@@ -1,4 +1,5 @@
-"""What plate must print for an input, read from document 01 (section plate) a second time.
+"""What plate must print for an input, read a second time from document 01 (section plate), and from its change for ticks closer
+than a second.
 
 Lines, fields, forms, real dates, refusals and the shown text are worked out here, the calendar by Python's own datetime.
 Ticks and pixels are the archive's, asked through the program answers.
@@ -16,9 +17,11 @@ KINDS = {b"date": 1, b"month": 2, b"year": 3, b"stamp": 4, b"stampmonth": 5, b"s
 LONGEST = 120  # bytes before the LF
 
 NUMBER = re.compile(rb"-?[0-9]{1,12}")
+FRACTION = rb"(?:\.([0-9]{1,9}))?"
 DATE = re.compile(rb"([0-9]{4})-([0-9]{2})-([0-9]{2})")
-STAMP = re.compile(DATE.pattern + rb"T([0-9]{2}):([0-9]{2}):([0-9]{2})")
-SECOND = 10**9
+STAMP = re.compile(DATE.pattern + rb"T([0-9]{2}):([0-9]{2}):([0-9]{2})" + FRACTION)
+SPAN = re.compile(rb"(-?)([0-9]{1,12})" + FRACTION)
+SECOND = 10**9  # nanoseconds
 
 
 class NotReal(Exception):
@@ -26,21 +29,29 @@ class NotReal(Exception):
 
 
 def form_of(kind):
-    return DATE if kind <= 3 else STAMP if kind <= 6 else NUMBER
+    return DATE if kind <= 3 else STAMP if kind <= 6 else SPAN
+
+
+def nanoseconds(seconds, fraction):
+    """The digits after the point may be fewer than nine, or none."""
+    return seconds * SECOND + int((fraction or b"").ljust(9, b"0"))
 
 
 def value_of(kind, field):
     """Head and tail of a start or end that has its form."""
+    parts = form_of(kind).fullmatch(field).groups()
     if kind == 7:
-        return int(field), 0
-    year, month, day, *clock = map(int, form_of(kind).fullmatch(field).groups())
+        sign, seconds, fraction = parts
+        away = nanoseconds(int(seconds), fraction)  # from zero
+        return divmod(-away if sign else away, SECOND)
+    *numbers, fraction = parts if kind > 3 else (*parts, 0, 0, 0, None)
+    year, month, day, hour, minute, second = map(int, numbers)
     try:
-        hour, minute, second = clock or (0, 0, 0)
         datetime.time(hour, minute, second)
         head = datetime.date(year, month, day).toordinal()
     except ValueError:
         raise NotReal from None
-    return head, (hour * 3600 + minute * 60 + second) * SECOND
+    return head, nanoseconds(hour * 3600 + minute * 60 + second, fraction)
 
 
 def request_of(line):
@@ -56,15 +67,18 @@ def request_of(line):
     return (kind, *value_of(kind, fields[1]), *value_of(kind, fields[2]), hint, low, high)
 
 
-def shown(kind, head, tail):
-    """A tick's text, rounded down to the second."""
+def shown(kind, head, tail, broken):
+    """A tick's text, with nine digits after the seconds where its list has broken ones."""
     if kind == 7:
-        return "%d" % head
-    date = datetime.date.fromordinal(head).isoformat()
-    if kind <= 3:
-        return date
-    seconds = tail // SECOND
-    return "%sT%02d:%02d:%02d" % (date, seconds // 3600, seconds // 60 % 60, seconds % 60)
+        whole = head * SECOND + tail
+        seconds, fraction = divmod(abs(whole), SECOND)
+        text = "%s%d" % ("-" if whole < 0 else "", seconds)
+    else:
+        text = datetime.date.fromordinal(head).isoformat()
+        seconds, fraction = divmod(tail, SECOND)
+        if kind > 3:
+            text += "T%02d:%02d:%02d" % (seconds // 3600, seconds // 60 % 60, seconds % 60)
+    return text + ".%09d" % fraction if broken else text
 
 
 def rows_of(kind, answer):
@@ -72,11 +86,11 @@ def rows_of(kind, answer):
     status, count, *ticks = answer
     if status:
         return [b"- !%d" % status]
-    rows = []
+    rows, broken = [], any(tail % SECOND for tail in ticks[1::4])
     for i in range(count):
         head, tail, refused, pixel = ticks[4 * i : 4 * i + 4]
         place = "!%d" % refused if refused else "%d" % pixel
-        rows.append(("%s %s" % (shown(kind, head, tail), place)).encode())
+        rows.append(("%s %s" % (shown(kind, head, tail, broken), place)).encode())
     return rows
 
 
@@ -98,14 +112,18 @@ class Reading:
                 self.rows[line] = [b"- !12"]
             else:
                 asked.append((line, request))
-        if not asked:
-            return
-        text = "".join(" ".join(map(str, request)) + "\n" for _, request in asked)
+        for (line, request), answer in zip(asked, self.told([request for _, request in asked])):
+            self.rows[line] = rows_of(request[0], answer)
+
+    def told(self, requests):
+        """The numbers that answers prints for each request."""
+        if not requests:
+            return []
+        text = "".join(" ".join(map(str, request)) + "\n" for request in requests)
         told = subprocess.run([self.answers], input=text.encode(), stdout=subprocess.PIPE, check=True).stdout.splitlines()
-        if len(told) != len(asked):
-            raise RuntimeError("answers has %d lines for %d requests" % (len(told), len(asked)))
-        for (line, request), answer in zip(asked, told):
-            self.rows[line] = rows_of(request[0], list(map(int, answer.split())))
+        if len(told) != len(requests):
+            raise RuntimeError("answers has %d lines for %d requests" % (len(told), len(requests)))
+        return [list(map(int, answer.split())) for answer in told]
 
     def expected(self, data):
         *lines, rest = data.split(b"\n")

@@ -25,7 +25,7 @@ fn print(text: &[u8]) -> bool {
 
 // The lines of a chunk, printed at once as far as the buffer goes; no more where nothing more can be written.
 fn eat(s: State, kept: &mut [u8], chunk: &[u8], lent: &mut [i64], out: &mut [u8]) -> Went
-    requires { ⌜ Keeps s (now kept) × ((length (now lent) ≡ 8194) × (266305 ≤ length (now out))) ⌝ }
+    requires { ⌜ Keeps s (now kept) × ((length (now lent) ≡ 8194) × (307275 ≤ length (now out))) ⌝ }
     ensures { λ r. ⌜ Keeps (r .state) (now (kept .exit)) ⌝ }
 {
     let mut state = s;
@@ -51,7 +51,7 @@ fn eat(s: State, kept: &mut [u8], chunk: &[u8], lent: &mut [i64], out: &mut [u8]
 
 // The input has ended.
 fn end(s: State, kept: &[u8], out: &mut [u8])
-    requires { ⌜ Keeps s (now kept) × (266305 ≤ length (now out)) ⌝ }
+    requires { ⌜ Keeps s (now kept) × (307275 ≤ length (now out)) ⌝ }
 {
     let n = s.len;
     let k = text_plate::ended(s.number, &kept[..n], out);
@@ -60,7 +60,7 @@ fn end(s: State, kept: &[u8], out: &mut [u8])
 
 // The next chunk, or the end; an input that cannot be read has no end.
 fn pull(s: State, kept: &mut [u8], buf: &mut [u8], lent: &mut [i64], out: &mut [u8]) -> Went
-    requires { ⌜ Keeps s (now kept) × ((length (now lent) ≡ 8194) × (266305 ≤ length (now out))) ⌝ }
+    requires { ⌜ Keeps s (now kept) × ((length (now lent) ≡ 8194) × (307275 ≤ length (now out))) ⌝ }
     ensures { λ r. ⌜ Keeps (r .state) (now (kept .exit)) ⌝ }
 {
     let got = libc::read(STDIN_FILENO, buf);
@@ -82,7 +82,8 @@ fn pull(s: State, kept: &mut [u8], buf: &mut [u8], lent: &mut [i64], out: &mut [
     eat(s, kept, &buf[..n], lent, out)
 }
 
-// All of the input. The buffer has room for what two lines print, so a chunk of short lines is printed at once.
+// All of the input. The buffer has room for what a line prints and for 225,335 bytes before it, so a chunk of short lines
+// is printed at once.
 fn run() {
     let mut kept = [0u8; 121];
     let mut buf = io::large_buffer();
@@ -113,8 +114,8 @@ fn help() {
 first line    kind start end hint low high
 other lines   a value of each, with one space between; LF at the end, at most 120 bytes before it
 date, month, year                start and end YYYY-MM-DD
-stamp, stampmonth, stampyear     start and end YYYY-MM-DDThh:mm:ss
-span                             start and end in whole seconds, as -90
+stamp, stampmonth, stampyear     start and end YYYY-MM-DDThh:mm:ss, with a fraction or without, as 00:00:00.5
+span                             start and end in seconds, with a fraction or without, as -90 or -0.5
 hint          the number of ticks wished for, 0 to 4096
 low, high     the pixels of start and end, -32767 to 32767
 output        line tick pixel; after ! the number of the question that refused, !12 for a line that does not read

@@ -42,7 +42,7 @@ asym (by-tail p q) (by-head r) = omega (arith, is-smaller r, ap posPart p, ap ne
 asym (by-tail p q) (by-tail r t) = omega (arith, is-smaller q, is-smaller t)
 
 -- and none is later than itself
-irrefl : {a : Value} → Later a a → ⊥
+pub irrefl : {a : Value} → Later a a → ⊥
 irrefl l = asym l l
 
 -- what is later than a later tick is later

@@ -2,10 +2,11 @@
 -- A line is its bytes without the LF. Its fields are kind start end hint low high, with one space between them.
 use mathlib.Core.Bool.{Bool, true, false, _&&_, cond}
 use mathlib.Core.List.{List, [], _∷_}
-use Prim.Native.Nat.{ℕ, zero, suc, _+_, _*_}
+use Prim.Native.Nat.{ℕ, zero, suc, _+_, _-_, _*_}
 use lib.Dec.{leb, ltb, eqb}
 use lib.IntN.{ℤ, pos}
 use lib.ListN.{length, drop}
+use Rattle.laws.specs.Numbers.{minus}
 use Rattle.laws.specs.Units.{perSecond}
 use Rattle.calendar.specs.Questions.{numberOf}
 use Rattle.calendar.specs.declared.DayAnswer.{DayAnswer}
@@ -13,15 +14,18 @@ use Rattle.calendar.specs.declared.DayAnswer.the-variants as day
 use Rattle.values.specs.declared.Value.{Value}
 use Rattle.axis.specs.Axes.{axisOf}
 use Rattle.text_read.specs.Bytes.{spaceByte}
-use Rattle.text_read.specs.Fields.{untilOf, fieldOf, readNumber, readDate, readStamp}
+use Rattle.text_read.specs.Fields.{untilOf, fieldOf, readNumber, readDate, readStamp, readSpan}
 use Rattle.text_read.specs.declared.Day.{Day}
 use Rattle.text_read.specs.declared.Moment.{Moment}
+use Rattle.text_read.specs.declared.Duration.{Duration}
 use Rattle.text_read.specs.declared.NumberField.{NumberField}
 use Rattle.text_read.specs.declared.NumberField.the-variants as number
 use Rattle.text_read.specs.declared.DateField.{DateField}
 use Rattle.text_read.specs.declared.DateField.the-variants as date
 use Rattle.text_read.specs.declared.StampField.{StampField}
 use Rattle.text_read.specs.declared.StampField.the-variants as stamp
+use Rattle.text_read.specs.declared.SpanField.{SpanField}
+use Rattle.text_read.specs.declared.SpanField.the-variants as span
 use Rattle.text_line.specs.declared.ValueField.{ValueField}
 use Rattle.text_line.specs.declared.ValueField.the-variants as value
 use Rattle.text_line.specs.declared.Request.{Request}
@@ -108,13 +112,22 @@ dateValue d = onDay d 0
 abbrev pub isTime : Moment → Bool
 isTime m = (ltb (m .hour) 24 && ltb (m .minute) 60) && ltb (m .second) 60
 
--- the second of the day, in nanoseconds
+-- the second of the day and its fraction, in nanoseconds
 unfoldable pub stampValue : Moment → Value
-stampValue m = cond (isTime m) (onDay (m .date) (((m .hour * 60 + m .minute) * 60 + m .second) * perSecond)) unreal
+stampValue m =
+    cond (isTime m) (onDay (m .date) (((m .hour * 60 + m .minute) * 60 + m .second) * perSecond + m .nano)) unreal
 
--- whole seconds
-abbrev pub spanValue : ℤ → Value
-spanValue n = record { head = n; tail = pos 0 }
+-- n seconds and q nanoseconds below zero: the seconds are rounded down, and the nanoseconds count up from them
+abbrev pub belowZero : ℕ → ℕ → Value
+belowZero n q =
+    cond (eqb q 0) (record { head = minus n; tail = pos 0 })
+    (record { head = minus (suc n); tail = pos (perSecond - q) })
+
+-- a span as a value
+unfoldable pub spanValue : Duration → Value
+spanValue p =
+    cond (p .below) (belowZero (p .seconds) (p .nano))
+    (record { head = pos (p .seconds); tail = pos (p .nano) })
 
 -- a field that is a date
 abbrev pub ofDate : DateField → ValueField
@@ -127,13 +140,13 @@ ofStamp (stamp.Read m) = value.Read (stampValue m)
 ofStamp stamp.Unread = value.Unread
 
 -- a field that is a span
-abbrev pub ofSpan : NumberField → ValueField
-ofSpan (number.Read n) = value.Read (spanValue n)
-ofSpan number.Unread = value.Unread
+abbrev pub ofSpan : SpanField → ValueField
+ofSpan (span.Read p) = value.Read (spanValue p)
+ofSpan span.Unread = value.Unread
 
--- dates on kinds 1 to 3, date-times on 4 to 6, seconds on 7
+-- dates on kinds 1 to 3, date-times on 4 to 6, spans on 7
 unfoldable pub readValue : ℕ → List ℕ → ValueField
-readValue kind s = cond (leb kind 3) (ofDate (readDate s)) (cond (leb kind 6) (ofStamp (readStamp s)) (ofSpan (readNumber s)))
+readValue kind s = cond (leb kind 3) (ofDate (readDate s)) (cond (leb kind 6) (ofStamp (readStamp s)) (ofSpan (readSpan s)))
 
 -- ---- the line
 abbrev pub request : ℕ → Value → Value → ℤ → ℤ → ℤ → Request

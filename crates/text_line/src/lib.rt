@@ -7,17 +7,19 @@ use calendar::DayAnswer;
 use calendar::Ymd;
 use text_read::DateField;
 use text_read::Day;
+use text_read::Duration;
 use text_read::Moment;
 use text_read::NumberField;
+use text_read::SpanField;
 use text_read::StampField;
 use values::Value;
 ghost use mathlib.Core.Path.{_≡_};
 ghost use mathlib.Core.Bool.{cond};
-ghost use Prim.Native.Nat.{_≤_, _<_};
-ghost use Rattle.laws.specs.Units.{perDay};
+ghost use Prim.Native.Nat.{_≤_, _<_, _^_};
+ghost use Rattle.laws.specs.Units.{perSecond, perDay};
 ghost use Rattle.text_read.specs.Fields.{fieldOf, Typed};
 ghost use Rattle.text_line.specs.Line.{sameAs, isNames, occurrences, inForm, kindOf, restOf};
-ghost use Rattle.text_line.specs.Line.{onDay, isTime, stampValue, readValue, requestOf, readLine};
+ghost use Rattle.text_line.specs.Line.{onDay, isTime, stampValue, belowZero, spanValue, readValue, requestOf, readLine};
 
 // The numbers of a line. No question was asked of them yet.
 pub struct Request {
@@ -32,7 +34,7 @@ pub enum Line {
 }
 
 // A start or an end.
-enum ValueField {
+pub enum ValueField {
     Read(Value),
     Unread,
 }
@@ -150,14 +152,47 @@ fn is_time(m: Moment) -> bool
 }
 
 fn stamp_value(m: Moment) -> Value
-    requires { ⌜ Typed (m .date) ⌝ }
+    requires { ⌜ Typed (m .date) × (m .nano < perSecond) ⌝ }
     ensures { λ r. ⌜ r ≡ stampValue m ⌝ }
 {
     if !is_time(m) {
         return Value { head: 0, tail: 0 };
     }
     let d = m.date;
-    on_day(d, ((m.hour * 60 + m.minute) * 60 + m.second) * 1000000000)
+    on_day(
+        d,
+        ((m.hour * 60 + m.minute) * 60 + m.second) * 1000000000 + m.nano,
+    )
+}
+
+// n seconds and q nanoseconds below zero.
+fn below_zero(n: u64, q: u64) -> Value
+    requires { ⌜ (n < 10 ^ 12) × (q < perSecond) ⌝ }
+    ensures { λ r. ⌜ r ≡ belowZero n q ⌝ }
+{
+    if q == 0 {
+        return Value {
+            head: -(n as i64),
+            tail: 0,
+        };
+    }
+    Value {
+        head: -((n + 1) as i64),
+        tail: (1000000000 - q) as i64,
+    }
+}
+
+fn span_value(p: Duration) -> Value
+    requires { ⌜ (p .seconds < 10 ^ 12) × (p .nano < perSecond) ⌝ }
+    ensures { λ r. ⌜ r ≡ spanValue p ⌝ }
+{
+    if p.below {
+        return below_zero(p.seconds, p.nano);
+    }
+    Value {
+        head: p.seconds as i64,
+        tail: p.nano as i64,
+    }
 }
 
 // A start or an end of the kind, from the field's start.
@@ -176,10 +211,10 @@ fn read_value(kind: u64, s: &[u8]) -> ValueField
         };
         return ValueField::Read(stamp_value(m));
     }
-    let NumberField::Read(n) = text_read::number(s) else {
+    let SpanField::Read(p) = text_read::span(s) else {
         return ValueField::Unread;
     };
-    ValueField::Read(Value { head: n, tail: 0 })
+    ValueField::Read(span_value(p))
 }
 
 // The request, if every field has its form.

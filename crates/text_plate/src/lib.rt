@@ -43,7 +43,7 @@ fn no_names(out: &mut [u8]) -> usize
 
 // What a finished line prints.
 fn finished(number: u64, text: &[u8], lent: &mut [i64], out: &mut [u8]) -> usize
-    requires { ⌜ (length (now lent) ≡ 8194) × (266305 ≤ length (now out)) ⌝ }
+    requires { ⌜ (length (now lent) ≡ 8194) × (307275 ≤ length (now out)) ⌝ }
     ensures { λ r. ⌜ Wrote (finishedText number (now (text .entry))) 0 (now (out .entry)) r (now (out .exit)) ⌝ }
     ensures { λ r. ⌜ r ≤ length (now (out .exit)) ⌝ }
 {
@@ -94,7 +94,7 @@ fn next_number(number: u64) -> u64
 
 // A turn over a chunk.
 fn turn(s: State, kept: &mut [u8], chunk: &[u8], lent: &mut [i64], out: &mut [u8]) -> Taken
-    requires { ⌜ Keeps s (now kept) × ((length (now lent) ≡ 8194) × (266305 ≤ length (now out))) ⌝ }
+    requires { ⌜ Keeps s (now kept) × ((length (now lent) ≡ 8194) × (307275 ≤ length (now out))) ⌝ }
     ensures { λ r. ⌜ Turned s (now (kept .entry)) (now (chunk .entry)) r (now (kept .exit)) (now (out .exit)) ⌝ }
 {
     let f = feed::feed(kept, s.len, chunk);
@@ -125,7 +125,7 @@ fn turn(s: State, kept: &mut [u8], chunk: &[u8], lent: &mut [i64], out: &mut [u8
 
 // Turns over a chunk, while some of it is left, there is more to print, and there is room for what a line prints.
 pub fn turns(s: State, kept: &mut [u8], chunk: &[u8], lent: &mut [i64], out: &mut [u8]) -> Taken
-    requires { ⌜ Keeps s (now kept) × ((length (now lent) ≡ 8194) × (266305 ≤ length (now out))) ⌝ }
+    requires { ⌜ Keeps s (now kept) × ((length (now lent) ≡ 8194) × (307275 ≤ length (now out))) ⌝ }
     ensures { λ r. ⌜ Turned s (now (kept .entry)) (now (chunk .entry)) r (now (kept .exit)) (now (out .exit)) ⌝ }
 {
     let first = turn(s, kept, chunk, lent, out);
@@ -133,7 +133,7 @@ pub fn turns(s: State, kept: &mut [u8], chunk: &[u8], lent: &mut [i64], out: &mu
     let mut more = first.goes;
     let mut used = first.used;
     let mut written = first.written;
-    while more & (used < chunk.len()) & (written <= out.len() - 266305) {
+    while more & (used < chunk.len()) & (written <= out.len() - 307275) {
         let t = turn(state, kept, &chunk[used..], lent, &mut out[written..]);
         state = t.state;
         more = t.goes;

@@ -1,24 +1,27 @@
 -- The fields' definitions, one byte at a time at a place i of the slice, and how large a number of 12 digits can be.
 -- Assumes nothing.
-use mathlib.Core.Path.{_≡_, refl, sym}
+use mathlib.Core.Path.{_≡_, refl, sym, ap}
 use mathlib.Core.Bool.{Bool, true, false, cond}
 use mathlib.Core.List.{List, [], _∷_}
 use Prim.Native.Nat.{ℕ, zero, suc, _+_, _*_, _-_, _^_, _<_, _≤_}
 use native.Mathlib.Numerals.{add-one}
 use native.Mathlib.Omega.{arith}
-use native.Mathlib.Nat.{pow-suc, pow-le-pow-right}
+use native.Mathlib.Nat.{pow-suc, pow-le-pow-right, mul-assoc}
 use lib.Dec.{leb, lit<}
 use lib.IntN.{pos, _-ℤ_}
 use lib.ListN.{length, take, drop, getD, drop-of-length-le}
 use lib.Seq.{drop-cons, take-nil, length-take-le}
 use mir.Syntax.{w64}
 use mir.Val.{SFits}
-use borrow.Author.Tests.{eq-eqb, ne-eqb, le-ltb, leb-true}
+use borrow.Author.Tests.{eq-eqb, ne-eqb, lt-ltb, le-ltb, leb-true}
 use Rattle.laws.proofs.Signed.{sub, fits}
 use Rattle.laws.proofs.Tests.{both-true}
-use Rattle.text_read.specs.Bytes.{zeroByte, nineByte}
-use Rattle.text_read.specs.Fields.{untilOf, isDigit, digitsFrom, digitsOf}
+use Rattle.text_read.specs.Bytes.{pointByte, zeroByte, nineByte}
+use Rattle.text_read.specs.Fields.{untilOf, isDigit, digitsFrom, digitsOf, times, nanosOf, fractionOf, stampRead}
 use Rattle.text_read.specs.declared.Whole.the-variants as whole
+use Rattle.text_read.specs.declared.Three.{Three}
+use Rattle.text_read.specs.declared.Three.the-variants as three
+use Rattle.text_read.specs.declared.StampField.the-variants as stamp
 
 -- ---- one byte
 -- no c stands before i
@@ -67,10 +70,11 @@ pub digit-value : (b : ℕ) → isDigit b ≡ true → (zeroByte ≤ b) × (b �
 digit-value b e = let (p, q) = both-true (leb zeroByte b) (leb b nineByte) e in (leb-true _ _ p, leb-true _ _ q)
 
 -- ---- numbers
-pub drop-one-take : (s : List ℕ) (k : ℕ) → drop 1 (take k s) ≡ take (k - 1) (drop 1 s)
-drop-one-take s zero = refl
-drop-one-take [] (suc k) = sym (take-nil (suc k - 1))
-drop-one-take (b ∷ s) (suc k) = let h : suc k - 1 ≡ k = omega arith in rw h
+pub drop-take : (j k : ℕ) (s : List ℕ) → drop j (take k s) ≡ take (k - j) (drop j s)
+drop-take zero k s = let h : k - 0 ≡ k = omega arith in rw h
+drop-take (suc j) zero s = let h : 0 - suc j ≡ 0 = omega arith in rw h
+drop-take (suc j) (suc k) [] = sym (take-nil (suc k - suc j))
+drop-take (suc j) (suc k) (b ∷ s) = let h : suc k - suc j ≡ k - j = omega arith in rw (h, drop-take j k s)
 
 pub same-both : {A : Type 0} (t : Bool) (x : A) → cond t x x ≡ x
 same-both true x = refl
@@ -79,6 +83,42 @@ same-both false x = refl
 -- the negative of such a number
 pub neg-fits : (n : ℕ) → n < 10 ^ 12 → SFits w64 (pos 0 -ℤ pos n)
 neg-fits n h = fits (pos 0 -ℤ pos n) 0 n (omega (arith, sub (pos 0) (pos n))) (omega arith) (omega arith)
+
+-- ---- fractions
+pub nanos-long : (s : List ℕ) → 9 < length s → nanosOf s ≡ whole.Unread
+unfolding nanosOf
+nanos-long s h = rw (lt-ltb 9 (length s) h)
+
+pub nanos-are : (s : List ℕ) → length s ≤ 9 → nanosOf s ≡ times (10 ^ (9 - length s)) (digitsOf s)
+unfolding nanosOf
+nanos-are s h = rw (le-ltb 9 (length s) h)
+
+-- a zero behind the digits
+pub ten-times : (q i : ℕ) → i < 9 → (q * 10) * 10 ^ (9 - (i + 1)) ≡ q * 10 ^ (9 - i)
+ten-times q i h =
+    let e : 9 - i ≡ suc (9 - (i + 1)) = omega arith in
+    rw (e, pow-suc 10 (9 - (i + 1)), mul-assoc q 10 (10 ^ (9 - (i + 1)))) (ap (λ (x : ℕ). q * x) (omega arith))
+
+pub fraction-none : (s : List ℕ) → length s ≡ 0 → fractionOf s ≡ whole.Value 0
+unfolding fractionOf
+fraction-none [] h = refl
+fraction-none (b ∷ s) h = absurd (let z : ⊥ = omega arith in z)
+
+pub fraction-other : (s : List ℕ) → (length s ≡ 0 → ⊥) → (getD s 0 0 ≡ pointByte → ⊥) → fractionOf s ≡ whole.Unread
+unfolding fractionOf
+fraction-other [] h e = absurd (h refl)
+fraction-other (b ∷ s) h e = rw (ne-eqb b pointByte e)
+
+pub fraction-some : (s : List ℕ) → (length s ≡ 0 → ⊥) → getD s 0 0 ≡ pointByte → fractionOf s ≡ nanosOf (drop 1 s)
+unfolding fractionOf
+fraction-some [] h e = absurd (h refl)
+fraction-some (b ∷ s) h e = rw (eq-eqb b pointByte e)
+
+-- a date-time whose fraction does not read
+pub stamp-unread : (a b : Three) → stampRead a b whole.Unread ≡ stamp.Unread
+stamp-unread (three.Of y m d) (three.Of h n c) = refl
+stamp-unread (three.Of y m d) three.Unread = refl
+stamp-unread three.Unread b = refl
 
 -- ---- a part from the front
 pub part-length : (n : ℕ) (s : List ℕ) → n ≤ length s → (n ≤ length s) × (n ≡ length (take n s))

@@ -17,6 +17,10 @@ exclamation = 33
 abbrev pub minusByte : ℕ
 minusByte = 45
 
+-- '.'
+abbrev pub pointByte : ℕ
+pointByte = 46
+
 -- '0'
 abbrev pub zeroByte : ℕ
 zeroByte = 48

@@ -1,12 +1,13 @@
--- The forms of a line's fields, over the bytes from a field's start: numbers, dates, date-times. Definitions only.
+-- The forms of a line's fields, over the bytes from a field's start: numbers, dates, date-times, spans. Definitions only.
 -- A field is what stands before the next space, or all to the line's end.
-use mathlib.Core.Bool.{Bool, _&&_, cond}
+use mathlib.Core.Bool.{Bool, true, false, _&&_, cond}
 use mathlib.Core.List.{List, [], _∷_}
 use Prim.Native.Nat.{ℕ, suc, _+_, _*_, _-_, _^_, _<_}
 use lib.Dec.{leb, ltb, eqb}
 use lib.IntN.{pos, _-ℤ_}
 use lib.ListN.{length, take, drop, getD}
-use Rattle.text_read.specs.Bytes.{spaceByte, minusByte, zeroByte, nineByte, colonByte, tByte}
+use Rattle.laws.specs.Units.{perSecond}
+use Rattle.text_read.specs.Bytes.{spaceByte, minusByte, pointByte, zeroByte, nineByte, colonByte, tByte}
 use Rattle.text_read.specs.declared.Whole.{Whole}
 use Rattle.text_read.specs.declared.Whole.the-variants as whole
 use Rattle.text_read.specs.declared.NumberField.{NumberField}
@@ -18,6 +19,8 @@ use Rattle.text_read.specs.declared.DateField.{DateField}
 use Rattle.text_read.specs.declared.DateField.the-variants as date
 use Rattle.text_read.specs.declared.StampField.{StampField}
 use Rattle.text_read.specs.declared.StampField.the-variants as stamp
+use Rattle.text_read.specs.declared.SpanField.{SpanField}
+use Rattle.text_read.specs.declared.SpanField.the-variants as span
 
 -- how many bytes stand before the first c, or all of them
 unfoldable pub untilOf : ℕ → List ℕ → ℕ
@@ -80,28 +83,57 @@ dateRead three.Unread = date.Unread
 unfoldable pub readDate : List ℕ → DateField
 readDate s = cond (eqb (untilOf spaceByte s) 10) (dateRead (tripleOf 4 minusByte s)) date.Unread
 
--- a date and a time of day as a date-time
-abbrev pub stampRead : Three → Three → StampField
-stampRead (three.Of y m d) (three.Of h n c) =
-    stamp.Read (record { date = record { year = y; month = m; day = d }; hour = h; minute = n; second = c })
-stampRead (three.Of y m d) three.Unread = stamp.Unread
-stampRead three.Unread t = stamp.Unread
+-- ---- fractions of a second
+-- so many times a whole number
+abbrev pub times : ℕ → Whole → Whole
+times k (whole.Value n) = whole.Value (n * k)
+times k whole.Unread = whole.Unread
 
--- YYYY-MM-DDThh:mm:ss: 19 bytes
+-- 1 to 9 digits, of which the first counts tenths of a second: the nanoseconds
+unfoldable pub nanosOf : List ℕ → Whole
+nanosOf s = cond (ltb 9 (length s)) whole.Unread (times (10 ^ (9 - length s)) (digitsOf s))
+
+-- what stands after the seconds: nothing, or a point and digits
+unfoldable pub fractionOf : List ℕ → Whole
+fractionOf [] = whole.Value 0
+fractionOf (b ∷ s) = cond (eqb b pointByte) (nanosOf s) whole.Unread
+
+-- a date, a time of day and a fraction as a date-time
+abbrev pub stampRead : Three → Three → Whole → StampField
+stampRead (three.Of y m d) (three.Of h n c) (whole.Value q) =
+    stamp.Read (record { date = record { year = y; month = m; day = d }; hour = h; minute = n; second = c; nano = q })
+stampRead (three.Of y m d) (three.Of h n c) whole.Unread = stamp.Unread
+stampRead (three.Of y m d) three.Unread q = stamp.Unread
+stampRead three.Unread t q = stamp.Unread
+
+-- YYYY-MM-DDThh:mm:ss, 19 bytes, and a fraction
 unfoldable pub readStamp : List ℕ → StampField
 readStamp s =
-    cond (eqb (untilOf spaceByte s) 19)
+    cond (ltb (untilOf spaceByte s) 19) stamp.Unread
     (cond (eqb (getD s 10 0) tByte)
-    (stampRead (tripleOf 4 minusByte s) (tripleOf 2 colonByte (take 8 (drop 11 s))))
+    (stampRead (tripleOf 4 minusByte s) (tripleOf 2 colonByte (take 8 (drop 11 s))) (fractionOf (drop 19 (fieldOf s))))
     stamp.Unread)
-    stamp.Unread
 
--- ---- what is typed has at most 12 digits
-abbrev pub TypedWhole : Whole → Type 0
-TypedWhole (whole.Value n) = n < 10 ^ 12
-TypedWhole whole.Unread = Unit {0}
+-- seconds and a fraction as a span, below zero or not
+abbrev pub spanRead : Bool → Whole → Whole → SpanField
+spanRead below (whole.Value n) (whole.Value q) = span.Read (record { below = below; seconds = n; nano = q })
+spanRead below (whole.Value n) whole.Unread = span.Unread
+spanRead below whole.Unread q = span.Unread
 
--- each number of a date has at most 12 digits
+-- digits up to a point or to the end, and a fraction
+unfoldable pub secondsOf : Bool → List ℕ → SpanField
+secondsOf below f = spanRead below (digitsOf (take (untilOf pointByte f) f)) (fractionOf (drop (untilOf pointByte f) f))
+
+-- a minus and seconds, or seconds
+unfoldable pub readSpan : List ℕ → SpanField
+readSpan s = cond (eqb (getD s 0 0) minusByte) (secondsOf true (drop 1 (fieldOf s))) (secondsOf false (fieldOf s))
+
+-- ---- how many digits a number that was read has at most
+abbrev pub Digits : ℕ → Whole → Type 0
+Digits k (whole.Value n) = n < 10 ^ k
+Digits k whole.Unread = Unit {0}
+
+-- each number of a date has at most 12
 pub record Typed (d : Day) : Type 0 where
   pub year : d .year < 10 ^ 12
   pub month : d .month < 10 ^ 12
@@ -117,7 +149,12 @@ abbrev pub TypedDate : DateField → Type 0
 TypedDate (date.Read d) = Typed d
 TypedDate date.Unread = Unit {0}
 
--- so has a date-time that was read
+-- so has a date-time that was read, and its fraction is less than a second
 abbrev pub TypedStamp : StampField → Type 0
-TypedStamp (stamp.Read m) = Typed (m .date)
+TypedStamp (stamp.Read m) = Typed (m .date) × (m .nano < perSecond)
 TypedStamp stamp.Unread = Unit {0}
+
+-- so have the seconds of a span that was read, and its fraction too
+abbrev pub TypedSpan : SpanField → Type 0
+TypedSpan (span.Read p) = (p .seconds < 10 ^ 12) × (p .nano < perSecond)
+TypedSpan span.Unread = Unit {0}

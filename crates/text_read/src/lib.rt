@@ -3,10 +3,11 @@
 ghost use mathlib.Core.Path.{_≡_};
 ghost use Prim.Native.Nat.{_+_, _≤_};
 ghost use lib.ListN.{length, take};
-ghost use Rattle.text_read.specs.Fields.{untilOf, isDigit, digitsOf, readNumber, threeOf, tripleOf, readDate, readStamp};
-ghost use Rattle.text_read.specs.Fields.{TypedWhole, TypedThree, TypedDate, TypedStamp};
+ghost use Rattle.text_read.specs.Fields.{untilOf, isDigit, digitsOf, readNumber, threeOf, tripleOf, readDate};
+ghost use Rattle.text_read.specs.Fields.{nanosOf, fractionOf, readStamp, secondsOf, readSpan};
+ghost use Rattle.text_read.specs.Fields.{Digits, TypedThree, TypedDate, TypedStamp, TypedSpan};
 
-enum Whole {
+pub enum Whole {
     Value(u64),
     Unread,
 }
@@ -40,10 +41,24 @@ pub struct Moment {
     pub hour: u64,
     pub minute: u64,
     pub second: u64,
+    // nanoseconds of the second
+    pub nano: u64,
 }
 
 pub enum StampField {
     Read(Moment),
+    Unread,
+}
+
+// A duration as it is typed: seconds and nanoseconds, both away from zero.
+pub struct Duration {
+    pub below: bool,
+    pub seconds: u64,
+    pub nano: u64,
+}
+
+pub enum SpanField {
+    Read(Duration),
     Unread,
 }
 
@@ -77,7 +92,7 @@ fn widened(b: u8) -> u64
 // 1 to 12 digits and nothing else: their value.
 fn digits(s: &[u8]) -> Whole
     ensures { λ r. ⌜ r ≡ digitsOf (now (s .entry)) ⌝ }
-    ensures { λ r. ⌜ TypedWhole r ⌝ }
+    ensures { λ r. ⌜ Digits 12 r × Digits (length (now (s .entry))) r ⌝ }
 {
     if s.len() < 1 {
         return Whole::Unread;
@@ -120,7 +135,7 @@ pub fn number(s: &[u8]) -> NumberField
 
 // All three, or none.
 fn all_three(a: Whole, b: Whole, c: Whole) -> Three
-    requires { ⌜ TypedWhole a × (TypedWhole b × TypedWhole c) ⌝ }
+    requires { ⌜ Digits 12 a × (Digits 12 b × Digits 12 c) ⌝ }
     ensures { λ r. ⌜ r ≡ threeOf a b c ⌝ }
     ensures { λ r. ⌜ TypedThree r ⌝ }
 {
@@ -176,12 +191,47 @@ pub fn date(s: &[u8]) -> DateField
     })
 }
 
-// YYYY-MM-DDThh:mm:ss.
+// 1 to 9 digits, of which the first counts tenths of a second: the nanoseconds.
+fn nanos(s: &[u8]) -> Whole
+    ensures { λ r. ⌜ r ≡ nanosOf (now (s .entry)) ⌝ }
+    ensures { λ r. ⌜ Digits 9 r ⌝ }
+{
+    if 9 < s.len() {
+        return Whole::Unread;
+    }
+    let Whole::Value(n) = digits(s) else {
+        return Whole::Unread;
+    };
+    let mut q = n;
+    let mut i = s.len();
+    while i < 9 {
+        q *= 10;
+        i += 1;
+    }
+    Whole::Value(q)
+}
+
+// What stands after the seconds: nothing, or a point and digits.
+fn fraction(s: &[u8]) -> Whole
+    ensures { λ r. ⌜ r ≡ fractionOf (now (s .entry)) ⌝ }
+    ensures { λ r. ⌜ Digits 9 r ⌝ }
+{
+    if s.len() == 0 {
+        return Whole::Value(0);
+    }
+    if s[0] != b'.' {
+        return Whole::Unread;
+    }
+    nanos(&s[1..])
+}
+
+// YYYY-MM-DDThh:mm:ss and a fraction.
 pub fn stamp(s: &[u8]) -> StampField
     ensures { λ r. ⌜ r ≡ readStamp (now (s .entry)) ⌝ }
     ensures { λ r. ⌜ TypedStamp r ⌝ }
 {
-    if until(s, b' ') != 19 {
+    let k = until(s, b' ');
+    if k < 19 {
         return StampField::Unread;
     }
     if s[10] != b'T' {
@@ -191,6 +241,9 @@ pub fn stamp(s: &[u8]) -> StampField
         return StampField::Unread;
     };
     let Three::Of(h, n, c) = triple(&s[11..19], 2, b':') else {
+        return StampField::Unread;
+    };
+    let Whole::Value(q) = fraction(&s[19..k]) else {
         return StampField::Unread;
     };
     let day = Day {
@@ -203,5 +256,40 @@ pub fn stamp(s: &[u8]) -> StampField
         hour: h,
         minute: n,
         second: c,
+        nano: q,
     })
+}
+
+// Digits up to a point or to the end, and a fraction.
+fn seconds(f: &[u8], below: bool) -> SpanField
+    ensures { λ r. ⌜ r ≡ secondsOf below (now (f .entry)) ⌝ }
+    ensures { λ r. ⌜ TypedSpan r ⌝ }
+{
+    let p = until(f, b'.');
+    let Whole::Value(n) = digits(&f[..p]) else {
+        return SpanField::Unread;
+    };
+    let Whole::Value(q) = fraction(&f[p..]) else {
+        return SpanField::Unread;
+    };
+    SpanField::Read(Duration {
+        below: below,
+        seconds: n,
+        nano: q,
+    })
+}
+
+// At most one minus, digits and a fraction.
+pub fn span(s: &[u8]) -> SpanField
+    ensures { λ r. ⌜ r ≡ readSpan (now (s .entry)) ⌝ }
+    ensures { λ r. ⌜ TypedSpan r ⌝ }
+{
+    let k = until(s, b' ');
+    if k == 0 {
+        return SpanField::Unread;
+    }
+    if s[0] == b'-' {
+        return seconds(&s[1..k], true);
+    }
+    seconds(&s[..k], false)
 }

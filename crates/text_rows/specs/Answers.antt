@@ -1,8 +1,15 @@
 -- The lines of output that answer a line of input. Definitions only.
+use mathlib.Core.Path.{_≡_}
+use mathlib.Core.Bool.{Bool, true, false, not, _||_}
 use mathlib.Core.List.{List, [], _++_}
-use Prim.Native.Nat.{ℕ, zero, suc, _*_, _/_, _≤_, _<_}
+use Prim.Native.Nat.{ℕ, zero, suc, _*_, _/_, _%_, _≤_, _<_}
+use lib.Dec.{eqb}
 use lib.IntN.{ℤ}
 use lib.ListN.{length}
+use Rattle.laws.specs.Numbers.{posPart}
+use Rattle.laws.specs.Units.{perSecond}
+use Rattle.values.specs.declared.Value.{Value}
+use Rattle.values.specs.Values.{isValue}
 use Rattle.axis.specs.declared.Axis.{Axis}
 use Rattle.axis.specs.declared.Limits.{Limits}
 use Rattle.mapping.specs.Mapping.{mapped}
@@ -15,15 +22,33 @@ use Rattle.text_line.specs.declared.Request.{Request}
 use Rattle.text_line.specs.declared.Line.{Line}
 use Rattle.text_line.specs.Line.{readLine}
 use Rattle.text_line.specs.declared.Line.the-variants as line
-use Rattle.text_write.specs.Rows.{Writable, rowText, refusalText}
+use Rattle.text_write.specs.Rows.{rowText, refusalText}
 
--- the first k ticks of a list, a line for each: what mapping answers stands beside the tick
+-- ---- fractions
+-- is the tick at no whole second? No value has a tail below 0, and a duration's is less than a second
+abbrev pub hasFraction : Value → Bool
+hasFraction v = not (eqb (posPart (v .tail) % perSecond) 0)
+
+-- has one of the first k ticks of a list a fraction?
+unfoldable pub fractionBefore : List ℤ → ℕ → Bool
+fractionBefore list zero = false
+fractionBefore list (suc k) = hasFraction (nth list k) || fractionBefore list k
+
+-- then all of them show one; a list is pairs of numbers
+abbrev pub showsFractions : List ℤ → Bool
+showsFractions list = fractionBefore list (length list / 2)
+
+-- ---- lines
+-- the line for the tick at place k: what mapping answers stands beside the tick
+abbrev pub tickRow : ℕ → Axis → Limits → List ℤ → ℕ → List ℕ
+tickRow number a l list k = rowText number (showsFractions list) (a .kind) (nth list k) (mapped a l (nth list k))
+
+-- the first k ticks, a line for each
 unfoldable pub ticksText : ℕ → Axis → Limits → List ℤ → ℕ → List ℕ
 ticksText number a l list zero = []
-ticksText number a l list (suc k) =
-    ticksText number a l list k ++ rowText number (a .kind) (nth list k) (mapped a l (nth list k))
+ticksText number a l list (suc k) = ticksText number a l list k ++ tickRow number a l list k
 
--- a list is pairs of numbers
+-- all of them
 abbrev pub listText : ℕ → Axis → Limits → List ℤ → List ℕ
 listText number a l list = ticksText number a l list (length list / 2)
 
@@ -45,7 +70,7 @@ lineText number line.Unread = refusalText number 12
 unfoldable pub rowsOf : ℕ → List ℕ → List ℕ
 rowsOf number s = lineText number (readLine s)
 
--- every tick of a list has a text, and there is room for a line of 65 bytes for each
+-- every tick of a list is a value of its kind, and there is room for a line of 75 bytes for each
 pub record Printable (kind : ℤ) (list : List ℤ) (room : ℕ) : Type 0 where
-  pub ticks : (i : ℕ) → i < length list / 2 → Writable kind (nth list i)
-  pub most : 65 * (length list / 2) ≤ room
+  pub ticks : (i : ℕ) → i < length list / 2 → isValue kind (nth list i) ≡ true
+  pub most : 75 * (length list / 2) ≤ room

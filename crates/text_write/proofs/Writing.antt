@@ -15,6 +15,10 @@ sets-append (x ∷ a) b d at k e = sets-append a b (set d at x) (suc at) k (omeg
 pub nothing : (at : ℕ) (d : List ℕ) → Wrote [] at d at d
 nothing at d = record { reached = omega arith; stored = refl }
 
+-- the same text
+pub same-text : {a b d e : List ℕ} {at r : ℕ} → a ≡ b → Wrote a at d r e → Wrote b at d r e
+same-text p w = rw (← p) w
+
 -- a text and then a text
 pub then : {a b d e f : List ℕ} {at p r : ℕ} → Wrote a at d p e → Wrote b p e r f → Wrote (a ++ b) at d r f
 then {a} {b} {d} {e} {f} {at} {p} {r} x y = record {

@@ -1,28 +1,23 @@
 -- The texts of ticks, pixels and the lines of plate's output. Definitions only.
-use mathlib.Core.Path.{_≡_}
-use mathlib.Core.Bool.{true, cond}
+use mathlib.Core.Bool.{Bool, cond}
 use mathlib.Core.List.{List, [], _∷_, _++_}
 use Prim.Native.Nat.{ℕ}
 use lib.IntN.{ℤ, pos}
 use lib.Signed.{leZ}
 use Rattle.laws.specs.Numbers.{posPart}
 use Rattle.values.specs.declared.Value.{Value}
-use Rattle.calendar.specs.Questions.{isDay}
+use Rattle.values.specs.Differences.{nanoseconds}
 use Rattle.mapping.specs.declared.Pixel.{Pixel}
 use Rattle.mapping.specs.declared.Pixel.the-variants.{Refused, At}
 use Rattle.text_read.specs.Bytes.{lineFeed, spaceByte, exclamation, minusByte}
-use Rattle.text_write.specs.Texts.{decimalText, signedText, dateText, dateTimeText}
+use Rattle.text_write.specs.Texts.{decimalText, signedText, dateText, dateTimeText, spanText}
 
--- what has a text: on the kinds 1 to 6 the head is a day of the calendar
-pub record Writable (kind : ℤ) (v : Value) : Type 0 where
-  pub day : leZ kind (pos 6) ≡ true → isDay (v .head) ≡ true
-
--- kinds 1 to 3 are over dates, 4 to 6 over date-times, 7 over durations, of which the head is in whole seconds
-unfoldable pub tickText : ℤ → Value → List ℕ
-tickText kind v =
+-- kinds 1 to 3 are over dates, 4 to 6 over date-times, 7 over durations; `shown`: the tick's list shows fractions
+unfoldable pub tickText : Bool → ℤ → Value → List ℕ
+tickText shown kind v =
     cond (leZ kind (pos 3)) (dateText (posPart (v .head)))
-    (cond (leZ kind (pos 6)) (dateTimeText (posPart (v .head)) (posPart (v .tail)))
-    (signedText (v .head)))
+    (cond (leZ kind (pos 6)) (dateTimeText shown (posPart (v .head)) (posPart (v .tail)))
+    (spanText shown (nanoseconds (pos 7) v)))
 
 -- the pixel, or '!' and the refusal's number
 abbrev pub markText : Pixel → List ℕ
@@ -30,9 +25,9 @@ markText (At n) = signedText n
 markText (Refused q) = (exclamation ∷ []) ++ decimalText q
 
 -- number, space, tick, space, mark, LF
-abbrev pub rowText : ℕ → ℤ → Value → Pixel → List ℕ
-rowText number kind v p =
-    decimalText number ++ (spaceByte ∷ []) ++ tickText kind v ++ (spaceByte ∷ []) ++ markText p ++ (lineFeed ∷ [])
+abbrev pub rowText : ℕ → Bool → ℤ → Value → Pixel → List ℕ
+rowText number shown kind v p =
+    decimalText number ++ (spaceByte ∷ []) ++ tickText shown kind v ++ (spaceByte ∷ []) ++ markText p ++ (lineFeed ∷ [])
 
 -- the same of a line that has no list: '-' for the tick
 abbrev pub refusalText : ℕ → ℕ → List ℕ

@@ -1,6 +1,6 @@
--- The texts of numbers, dates and times, as bytes, and what a writer leaves in a buffer. Definitions only.
+-- The texts of numbers, dates, times and spans, as bytes, and what a writer leaves in a buffer. Definitions only.
 use mathlib.Core.Path.{_≡_}
-use mathlib.Core.Bool.{cond}
+use mathlib.Core.Bool.{Bool, cond}
 use mathlib.Core.List.{List, [], _∷_, _++_}
 use Prim.Native.Nat.{ℕ, zero, suc, _+_, _/_, _%_}
 use lib.Dec.{ltb}
@@ -11,7 +11,7 @@ use lib.Seq.{sets}
 use Rattle.laws.specs.Units.{perSecond}
 use Rattle.calendar.specs.declared.Date.{Date}
 use Rattle.calendar.specs.Gregorian.{dateOf}
-use Rattle.text_read.specs.Bytes.{minusByte, zeroByte, colonByte, tByte}
+use Rattle.text_read.specs.Bytes.{minusByte, pointByte, zeroByte, colonByte, tByte}
 
 -- after a writer that was given the place `at` and the buffer `before`: the buffer is `before` with the text stored from
 -- `at` on, and r is the place after the text
@@ -57,6 +57,17 @@ dateText n = ymdText (dateOf n)
 abbrev pub timeText : ℕ → List ℕ
 timeText s = tripleText 2 colonByte (s / 3600) (s / 60 % 60) (s % 60)
 
--- YYYY-MM-DDThh:mm:ss of a day number and a nanosecond of the day, rounded down to the second
-abbrev pub dateTimeText : ℕ → ℕ → List ℕ
-dateTimeText n nano = dateText n ++ (tByte ∷ []) ++ timeText (nano / perSecond)
+-- a point and nine digits of nanoseconds, where a list shows fractions
+abbrev pub fractionText : Bool → ℕ → List ℕ
+fractionText shown q = cond shown ((pointByte ∷ []) ++ fixedText 9 q) []
+
+-- YYYY-MM-DDThh:mm:ss of a day number and a nanosecond of the day, and the fraction of its second
+abbrev pub dateTimeText : Bool → ℕ → ℕ → List ℕ
+dateTimeText shown n nano = dateText n ++ (tByte ∷ []) ++ timeText (nano / perSecond) ++ fractionText shown (nano % perSecond)
+
+-- of a span's nanoseconds: a minus where they are below 0, then how far from 0 they are, in whole seconds and a fraction
+abbrev pub spanText : Bool → ℤ → List ℕ
+spanText shown t =
+    cond (ltZ t (pos 0)) (minusByte ∷ []) []
+    ++ decimalText (natAbs t / perSecond)
+    ++ fractionText shown (natAbs t % perSecond)

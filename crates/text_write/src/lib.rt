@@ -3,14 +3,18 @@
 use mapping::Pixel;
 use values::Value;
 ghost use mathlib.Core.Path.{_≡_};
+ghost use mathlib.Core.Bool.{true};
 ghost use mathlib.Core.List.{_∷_, []};
 ghost use Prim.Native.Nat.{_+_, _≤_, _<_};
+ghost use lib.IntN.{pos};
 ghost use lib.ListN.{length};
 ghost use Rattle.laws.specs.Numbers.{posPart};
 ghost use Rattle.calendar.specs.Questions.{lastDay};
+ghost use Rattle.values.specs.Values.{isValue};
+ghost use Rattle.values.specs.Differences.{nanoseconds};
 ghost use Rattle.text_write.specs.Texts.{Wrote, fixedText, upToText, decimalText, signedText};
-ghost use Rattle.text_write.specs.Texts.{tripleText, dateText, timeText, dateTimeText};
-ghost use Rattle.text_write.specs.Rows.{Writable, tickText, markText, rowText, refusalText};
+ghost use Rattle.text_write.specs.Texts.{tripleText, dateText, timeText, fractionText, dateTimeText, spanText};
+ghost use Rattle.text_write.specs.Rows.{tickText, markText, rowText, refusalText};
 
 fn byte(out: &mut [u8], at: usize, b: u8) -> usize
     requires { ⌜ at < length (now out) ⌝ }
@@ -125,19 +129,33 @@ fn time(out: &mut [u8], at: usize, seconds: u64) -> usize
     )
 }
 
-// YYYY-MM-DDThh:mm:ss
-fn date_time(out: &mut [u8], at: usize, day: u64, nano: u64) -> usize
-    requires { ⌜ ((1 ≤ day) × (day ≤ lastDay)) × (at + 19 ≤ length (now out)) ⌝ }
-    ensures { λ r. ⌜ Wrote (dateTimeText day nano) at (now (out .entry)) r (now (out .exit)) ⌝ }
-    ensures { λ r. ⌜ (r ≡ at + 19) × (length (now (out .exit)) ≡ length (now (out .entry))) ⌝ }
+// A point and nine digits, where fractions are shown.
+fn fraction(out: &mut [u8], at: usize, shown: bool, q: u64) -> usize
+    requires { ⌜ at + 10 ≤ length (now out) ⌝ }
+    ensures { λ r. ⌜ Wrote (fractionText shown q) at (now (out .entry)) r (now (out .exit)) ⌝ }
+    ensures { λ r. ⌜ (r ≤ at + 10) × (length (now (out .exit)) ≡ length (now (out .entry))) ⌝ }
+{
+    if !shown {
+        return at;
+    }
+    let p = byte(out, at, b'.');
+    fixed(out, p, 9, q)
+}
+
+// YYYY-MM-DDThh:mm:ss and a fraction
+fn date_time(out: &mut [u8], at: usize, shown: bool, day: u64, nano: u64) -> usize
+    requires { ⌜ ((1 ≤ day) × (day ≤ lastDay)) × (at + 29 ≤ length (now out)) ⌝ }
+    ensures { λ r. ⌜ Wrote (dateTimeText shown day nano) at (now (out .entry)) r (now (out .exit)) ⌝ }
+    ensures { λ r. ⌜ (r ≤ at + 29) × (length (now (out .exit)) ≡ length (now (out .entry))) ⌝ }
 {
     let a = date(out, at, day);
     let b = byte(out, a, b'T');
-    time(out, b, nano / 1000000000)
+    let c = time(out, b, nano / 1000000000);
+    fraction(out, c, shown, nano % 1000000000)
 }
 
 // How far above 0.
-fn pos_part(n: i64) -> u64
+pub fn pos_part(n: i64) -> u64
     ensures { λ r. ⌜ r ≡ posPart n ⌝ }
 {
     if n < 0 {
@@ -146,20 +164,42 @@ fn pos_part(n: i64) -> u64
     calendar::as_count(n)
 }
 
+// The sign, then the seconds and the fraction, both away from zero: the head is rounded down, so below zero a tail takes
+// one second from it and is what is left of that second.
+fn span(out: &mut [u8], at: usize, shown: bool, v: Value) -> usize
+    requires { ⌜ (isValue (pos 7) v ≡ true) × (at + 31 ≤ length (now out)) ⌝ }
+    ensures { λ r. ⌜ Wrote (spanText shown (nanoseconds (pos 7) v)) at (now (out .entry)) r (now (out .exit)) ⌝ }
+    ensures { λ r. ⌜ (r ≤ at + 31) × (length (now (out .exit)) ≡ length (now (out .entry))) ⌝ }
+{
+    let n = floats::unsigned_abs(v.head);
+    let q = pos_part(v.tail);
+    if v.head >= 0 {
+        let a = decimal(out, at, n);
+        return fraction(out, a, shown, q);
+    }
+    let b = byte(out, at, b'-');
+    if q == 0 {
+        let c = decimal(out, b, n);
+        return fraction(out, c, shown, 0);
+    }
+    let d = decimal(out, b, n - 1);
+    fraction(out, d, shown, 1000000000 - q)
+}
+
 // The value in its kind's form.
-fn tick(out: &mut [u8], at: usize, kind: i64, v: Value) -> usize
-    requires { ⌜ Writable kind v × (at + 21 ≤ length (now out)) ⌝ }
-    ensures { λ r. ⌜ Wrote (tickText kind v) at (now (out .entry)) r (now (out .exit)) ⌝ }
-    ensures { λ r. ⌜ (r ≤ at + 21) × (length (now (out .exit)) ≡ length (now (out .entry))) ⌝ }
+fn tick(out: &mut [u8], at: usize, shown: bool, kind: i64, v: Value) -> usize
+    requires { ⌜ (isValue kind v ≡ true) × (at + 31 ≤ length (now out)) ⌝ }
+    ensures { λ r. ⌜ Wrote (tickText shown kind v) at (now (out .entry)) r (now (out .exit)) ⌝ }
+    ensures { λ r. ⌜ (r ≤ at + 31) × (length (now (out .exit)) ≡ length (now (out .entry))) ⌝ }
 {
     let day = pos_part(v.head);
     if kind <= 3 {
         return date(out, at, day);
     }
     if kind <= 6 {
-        return date_time(out, at, day, pos_part(v.tail));
+        return date_time(out, at, shown, day, pos_part(v.tail));
     }
-    signed(out, at, v.head)
+    span(out, at, shown, v)
 }
 
 // The pixel, or '!' and the refusal.
@@ -178,14 +218,22 @@ fn mark(out: &mut [u8], at: usize, p: Pixel) -> usize
 }
 
 // A line of the output: the input line's number, a tick and its pixel.
-pub fn row(out: &mut [u8], at: usize, number: u64, kind: i64, v: Value, p: Pixel) -> usize
-    requires { ⌜ Writable kind v × (at + 65 ≤ length (now out)) ⌝ }
-    ensures { λ r. ⌜ Wrote (rowText number kind v p) at (now (out .entry)) r (now (out .exit)) ⌝ }
-    ensures { λ r. ⌜ (r ≤ at + 65) × (length (now (out .exit)) ≡ length (now (out .entry))) ⌝ }
+pub fn row(
+    out: &mut [u8],
+    at: usize,
+    number: u64,
+    shown: bool,
+    kind: i64,
+    v: Value,
+    p: Pixel,
+) -> usize
+    requires { ⌜ (isValue kind v ≡ true) × (at + 75 ≤ length (now out)) ⌝ }
+    ensures { λ r. ⌜ Wrote (rowText number shown kind v p) at (now (out .entry)) r (now (out .exit)) ⌝ }
+    ensures { λ r. ⌜ (r ≤ at + 75) × (length (now (out .exit)) ≡ length (now (out .entry))) ⌝ }
 {
     let a = decimal(out, at, number);
     let b = byte(out, a, b' ');
-    let c = tick(out, b, kind, v);
+    let c = tick(out, b, shown, kind, v);
     let d = byte(out, c, b' ');
     let e = mark(out, d, p);
     byte(out, e, b'\n')

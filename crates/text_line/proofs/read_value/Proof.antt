@@ -3,12 +3,9 @@ use borrow.Author.Needs.{needs}
 use borrow.Author.Tests.{le-leb, lt-leb}
 use mathlib.Core.Path.{_≡_}
 use lib.Dec.{lit<}
-use mir.Syntax.{w64}
-use mir.Val.{SFits}
-use mir.Facts.{toZ-ofZ}
 use Rattle.text_read.specs.declared.DateField.{DateField}
-use Rattle.text_read.specs.declared.NumberField.{NumberField}
 use Rattle.text_read.specs.declared.StampField.{StampField}
+use Rattle.text_read.specs.declared.SpanField.{SpanField}
 use Rattle.text_line.specs.Line.{ofDate, ofStamp, ofSpan, readValue}
 use Rattle.text_line.proofs.read_value.Statement.{statement}
 use Rattle.text_line.proofs.read_value.Tie as tie
@@ -36,19 +33,16 @@ stamped c v e =
 returns-4 : tie.Need-returns-4
 returns-4 c = let m = c .before .before in rw (c .stamp-value .ensures) (stamped (m .before .before) _ (m .m .given .1))
 
--- ---- seconds
-counted : (c : tie.After-number) (v : NumberField) → c .number .result ≡ v → let x = c .before .before .before .before .args in
+-- ---- spans
+spanned : (c : tie.After-span) (v : SpanField) → c .span .result ≡ v → let x = c .before .before .before .before .args in
     ofSpan v ≡ readValue (x .kind) (x .s .now)
 unfolding readValue
-counted c v e =
+spanned c v e =
     let t = c .before in
-    rw (← e, c .number .ensures, lt-leb _ _ (t .before .if1 .left), lt-leb _ _ (t .if2 .left))
+    rw (← e, c .span .ensures .0, lt-leb _ _ (t .before .if1 .left), lt-leb _ _ (t .if2 .left))
 
 returns-6 : tie.Need-returns-6
-returns-6 c =
-    let n = c .before in
-    let fits : SFits w64 (n .n .given .0 .0) = search needs in
-    rw (toZ-ofZ fits) (counted (n .before .before) _ (n .n .given .1))
+returns-6 c = let p = c .before .before in rw (c .span-value .ensures) (spanned (p .before .before) _ (p .p .given .1))
 
 pub read-value-spec : {M : Type 1} → statement M
 read-value-spec =
@@ -59,4 +53,5 @@ read-value-spec =
     (λ c. stamped (c .before .before) _ (c .enum-told2 .given .1))
     (λ c κs. rw (c .before .m .given .1) at (c .before .before .before .stamp .ensures .1)) returns-4
     (λ c κs. search needs) (λ c. search needs) (λ c. search needs)
-    (λ c. counted (c .before .before) _ (c .enum-told3 .given .1)) returns-6)
+    (λ c. spanned (c .before .before) _ (c .enum-told3 .given .1))
+    (λ c κs. rw (c .before .p .given .1) at (c .before .before .before .span .ensures .1)) returns-6)

@@ -29,11 +29,11 @@ in-day : (c : tie.Else1) → let m = c .before .before .args .m in (m .hour < 24
 in-day c = ranges (c .before .before .args .m) (is c)
 
 on-day-requires : tie.Need-on-day-requires
-on-day-requires c κs = let e = c .before .before .before .before in (e .before .before .pre, omega (arith, in-day e))
+on-day-requires c κs = let e = c .before .before .before .before .before in (e .before .before .pre .0, omega (arith, in-day e))
 
 returns-2 : tie.Need-returns-2
 unfolding stampValue
-returns-2 c = rw (is (c .before .before .before .before .before)) (c .on-day .ensures)
+returns-2 c = rw (is (c .before .before .before .before .before .before)) (c .on-day .ensures)
 
 pub stamp-value-spec : {M : Type 1} → statement M
 stamp-value-spec =
@@ -41,4 +41,5 @@ stamp-value-spec =
     (tie.spec (λ c κs. search needs) returns (λ c. omega (arith, in-day (c .before .before)))
     (λ c. omega (arith, in-day (c .before .before .before))) (λ c. omega (arith, in-day (c .before .before .before)))
     (λ c. omega (arith, in-day (c .before .before .before .before)))
-    (λ c. omega (arith, in-day (c .before .before .before .before))) on-day-requires returns-2)
+    (λ c. omega (arith, in-day (c .before .before .before .before)))
+    (λ c. omega (arith, in-day (c .before .before .before .before .before))) on-day-requires returns-2)

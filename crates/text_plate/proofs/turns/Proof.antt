@@ -37,11 +37,11 @@ chunkOf c = c .before .before .before .before .before .before .before .before .b
 
 tested : (c : tie.In-loop Inv-loop μ-loop) → (c .before .loop .more ≡ true)
     × ((c .before .loop .used < length (chunkOf (c .before)))
-    × (c .before .loop .written ≤ length (c .before .loop .out) - 266305))
+    × (c .before .loop .written ≤ length (c .before .loop .out) - 307275))
 tested c =
     let l = c .before .loop in
     let n = length (chunkOf (c .before)) in
-    let m = length (l .out) - 266305 in
+    let m = length (l .out) - 307275 in
     let a = both-true (l .more && ltb (l .used) n) (leb (l .written) m) (c .loop-test .taken) in
     let b = both-true (l .more) (ltb (l .used) n) (a .0) in
     (b .0, (ltb-true (l .used) n (b .1), leb-true (l .written) m (a .1)))
@@ -56,7 +56,7 @@ a-turn-more {s} {k} {chunk} {kept} {out} {later} {part} {state} {goes} {used} {w
     rw (given-back out written part) (turned-both a e (rw (to-end chunk used) at b))
 
 -- what is lent keeps its size: room for a line's list and text, and none is too long to count
-sizes : (l : tie.At-loop Inv-loop μ-loop) → (length (l .loop .lent) ≡ 8194) × ((266305 ≤ length (l .loop .out))
+sizes : (l : tie.At-loop Inv-loop μ-loop) → (length (l .loop .lent) ≡ 8194) × ((307275 ≤ length (l .loop .out))
     × ((length (l .loop .out) < 18446744073709551616) × (length (chunkOf l) < 18446744073709551616)))
 sizes l =
     let s = l .before .before .before .before .before .before .before .before .before .before .before .before .before .before in

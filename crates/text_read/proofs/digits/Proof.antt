@@ -20,11 +20,11 @@ abbrev μ-loop : tie.MeasureT-loop
 
 returns : tie.Need-returns Inv-loop μ-loop
 unfolding digitsOf
-returns c = (rw (lt-ltb _ _ (c .if1 .taken)), tt)
+returns c = (rw (lt-ltb _ _ (c .if1 .taken)), (tt, tt))
 
 returns-2 : tie.Need-returns-2 Inv-loop μ-loop
 unfolding digitsOf
-returns-2 c = (rw (le-ltb _ 1 (c .before .if1 .left), lt-ltb _ _ (c .if2 .taken)), tt)
+returns-2 c = (rw (le-ltb _ 1 (c .before .if1 .left), lt-ltb _ _ (c .if2 .taken)), (tt, tt))
 
 loop-holds : tie.Need-loop-holds Inv-loop μ-loop
 loop-holds c = (search needs, (search needs, digits-start _ (omega arith) (omega arith)))
@@ -33,7 +33,7 @@ returns-3 : tie.Need-returns-3 Inv-loop μ-loop
 returns-3 c =
     let t = c .before .before .before in
     let e = sym (c .before .is-digit .ensures) ∙ not-true _ (c .if3 .taken) in
-    (sym (t .before .loop .inv .1 .1 ∙ digit-not _ _ (t .loop-test .taken) _ e), tt)
+    (sym (t .before .loop .inv .1 .1 ∙ digit-not _ _ (t .loop-test .taken) _ e), (tt, tt))
 
 -- the byte at i, which was a digit
 digit : (c : tie.Else3 Inv-loop μ-loop) → let l = c .before .before .before .before in
@@ -62,7 +62,11 @@ loop-again c =
 returns-4 : tie.Need-returns-4 Inv-loop μ-loop
 returns-4 c =
     let l = c .before .loop in
-    (sym (l .inv .1 .1 ∙ digits-end (l .n) _ (l .i) (c .loop-test .left)), below _ _ (l .inv .1 .0) (omega arith))
+    let s = c .before .before .before .before .before .args .s .now in
+    let all : l .i ≡ length s = omega arith in (
+      sym (l .inv .1 .1 ∙ digits-end (l .n) _ (l .i) (c .loop-test .left)),
+      (below _ _ (l .inv .1 .0) (omega arith), rw (← all) (l .inv .1 .0)),
+    )
 
 pub digits-spec : {M : Type 1} → statement M
 digits-spec =

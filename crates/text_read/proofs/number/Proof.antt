@@ -8,7 +8,7 @@ use mir.Facts.{toZ-ofZ}
 use Rattle.laws.proofs.Signed.{count-fits, read-count}
 use Rattle.text_read.specs.Fields.{digitsOf, plusOf, minusOf, readNumber}
 use Rattle.text_read.specs.declared.Whole.{Whole}
-use Rattle.text_read.proofs.Fields.{drop-one-take, same-both, neg-fits}
+use Rattle.text_read.proofs.Fields.{drop-take, same-both, neg-fits}
 use Rattle.text_read.proofs.number.Statement.{statement}
 use Rattle.text_read.proofs.number.Tie as tie
 
@@ -22,10 +22,10 @@ below-zero : (c : tie.After-digits) (v : Whole) → c .digits .result ≡ v
 unfolding readNumber
 below-zero c v e =
     let t = c .before .before in
-    rw (← e, c .digits .ensures .0, ← t .before .before .before .until .ensures .0, eq-eqb _ _ (t .if2 .taken), drop-one-take)
+    rw (← e, c .digits .ensures .0, ← t .before .before .before .until .ensures .0, eq-eqb _ _ (t .if2 .taken), drop-take)
 
 small : (c : tie.After-known-told) → c .before .n .given .0 .0 < 10 ^ 12
-small c = rw (c .before .n .given .1) at (c .before .before .before .digits .ensures .1)
+small c = rw (c .before .n .given .1) at (c .before .before .before .digits .ensures .1 .0)
 
 sub-t14 : tie.Need-sub-t14
 sub-t14 c = let n = c .before .n .given .0 .0 in rw (read-count n (omega (arith, small c))) (neg-fits n (small c))
@@ -45,7 +45,7 @@ above-zero c v e =
     rw (← e, c .digits2 .ensures .0, ← t .before .before .before .until .ensures .0, ne-eqb _ _ (t .if2 .left))
 
 small-2 : (c : tie.After-known-told2) → c .before .n2 .given .0 .0 < 10 ^ 12
-small-2 c = rw (c .before .n2 .given .1) at (c .before .before .before .digits2 .ensures .1)
+small-2 c = rw (c .before .n2 .given .1) at (c .before .before .before .digits2 .ensures .1 .0)
 
 returns-5 : tie.Need-returns-5
 returns-5 c =
