@@ -6,12 +6,13 @@ use mathlib.Core.List.{List, [], _∷_, _++_, append-assoc}
 use Prim.Native.Nat.{ℕ, zero, suc, _+_, _<_, _≤_}
 use native.Mathlib.Numerals.{add-one}
 use native.Mathlib.Omega.{arith}
-use lib.Dec.{ltb, eqb}
+use lib.Dec.{ltb}
 use lib.ListN.{length, take, getD, set, length-append}
 use lib.Seq.{take-suc, take-suc-set, take-all, take-append-add}
 use borrow.Author.Tests.{lt-ltb, le-ltb, ltb-true, ltb-false}
 use Rattle.text_read.specs.Bytes.{lineFeed}
 use Rattle.text_read.specs.Fields.{untilOf}
+use Rattle.text_read.proofs.Fields.{until-le}
 use Rattle.feed.specs.declared.Fed.{Fed}
 use Rattle.feed.specs.Feed.{Kept, Ate}
 
@@ -55,15 +56,6 @@ module _ (b chunk after : List ℕ) (k m : ℕ) (e : k ≡ untilOf lineFeed chun
       record { most = h .most; same-size = h .same-size; line = rw (← e) (h .line); ended = sym t; used = rw (t, ← e) }
 
 -- ---- how much of a chunk is read
-until-le : (c : ℕ) (s : List ℕ) → untilOf c s ≤ length s
-unfolding untilOf
-until-le c [] = omega arith
-until-le c (b ∷ s) = by-byte (eqb b c) (untilOf c s) (length s) (until-le c s)
-  where
-    by-byte : (t : Bool) (k n : ℕ) → k ≤ n → cond t 0 (suc k) ≤ suc n
-    by-byte true k n h = omega arith
-    by-byte false k n h = omega arith
-
 by-end : (t : Bool) (k n u : ℕ) → ltb k n ≡ t → k ≤ n → u ≡ cond t (k + 1) k → (0 < n → 1 ≤ u) × (u ≤ n)
 by-end true k n u e l q = let h : k < n = ltb-true k n e in (λ p. omega arith, omega arith)
 by-end false k n u e l q = let h : n ≤ k = ltb-false k n e in (λ p. omega arith, omega arith)

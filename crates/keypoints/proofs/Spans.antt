@@ -12,7 +12,7 @@ use lib.Signed.{ltZ}
 use borrow.Author.Tests.{ltb-true, ltb-false, eqb-true, eqb-false}
 use Rattle.laws.specs.Numbers.{posPart, negPart}
 use Rattle.laws.specs.Units.{secondsPerDay}
-use Rattle.laws.proofs.Signed.{add, sub, lt-true, lt-false}
+use Rattle.laws.proofs.Signed.{add, sub, lt-true, lt-false, pos-up}
 use Rattle.values.specs.declared.Value.{Value}
 use Rattle.values.specs.Values.{earlier, midnight}
 use Rattle.values.specs.Differences.{daysIn, ofDays}
@@ -28,7 +28,6 @@ use Rattle.plans.specs.Days.{evenly}
 use Rattle.plans.specs.Times.{firstSecond, secondsLeft, spanDaysPlan, Long}
 use Rattle.plans.proofs.Cases.{both-ways, choose}
 use Rattle.plans.proofs.Spans.{left-dn, left-most, total-dn, total-range}
-use Rattle.plans.proofs.Promise.{pos-up}
 use Rattle.keypoints.specs.Times.{multiplier, daysPerTick, firstWhole, wholeDaysBy}
 use Rattle.keypoints.proofs.Years.{step-is}
 use Rattle.keypoints.proofs.Times.{earlier-yes, earlier-no, walk-is}

@@ -7,13 +7,13 @@ use Prim.Native.Nat.{ℕ, zero, suc, _+_, _*_, _-_, _/_, _^_, _<_, _≤_}
 use native.Mathlib.Nat.{zero-mul, zero-div, div-le-self}
 use native.Mathlib.Omega.{arith}
 use lib.Dec.{T, ltb}
-use lib.IntN.{ℤ, pos, negsuc, negℤ, _+ℤ_, _-ℤ_, _*ℤ_}
+use lib.IntN.{ℤ, pos, negsuc, negℤ, natAbs, _+ℤ_, _-ℤ_, _*ℤ_}
 use lib.Signed.{mag, mag-rem, ltZ, leZ, nonNeg, quotZ, remZ}
 use mir.Syntax.{w64}
 use mir.Val.{SFits, ofZ, toZ}
 use mir.Facts.{toZ-ofZ}
 use mir.ValLaws.{sfits-le, toZ-pos}
-use Rattle.laws.specs.Numbers.{asU64, posPart, negPart}
+use Rattle.laws.specs.Numbers.{minus, asU64, posPart, negPart}
 use borrow.Author.Tests.{ltb-true, ltb-false, leb-true, leb-false, lt-ltb, le-ltb}
 
 -- ---- tests
@@ -105,6 +105,11 @@ pub one-is-zero : (z : ℤ) → (posPart z ≡ 0) ⊎ (negPart z ≡ 0)
 one-is-zero (pos n) = inr refl
 one-is-zero (negsuc n) = inl refl
 
+-- how far from 0
+pub abs : (z : ℤ) → natAbs z ≡ posPart z + negPart z
+abs (pos n) = omega arith
+abs (negsuc n) = omega arith
+
 pub up-fits : (z : ℤ) → SFits w64 z → posPart z < 2 ^ 63
 up-fits (pos n) f = f .sfits
 up-fits (negsuc n) f = omega arith
@@ -127,6 +132,24 @@ same (pos a) (pos b) e = ap pos (omega arith)
 same (pos a) (negsuc b) e = absurd (let z : ⊥ = omega arith in z)
 same (negsuc a) (pos b) e = absurd (let z : ⊥ = omega arith in z)
 same (negsuc a) (negsuc b) e = ap negsuc (omega arith)
+
+-- a number that is not below 0, and one that is not above it
+pub pos-up : (z : ℤ) → negPart z ≡ 0 → pos (posPart z) ≡ z
+pos-up z e = same (pos (posPart z)) z (omega arith)
+
+pub minus-dn : (z : ℤ) → posPart z ≡ 0 → minus (negPart z) ≡ z
+minus-dn z e = same (minus (negPart z)) z (omega (arith, neg-up (pos (negPart z)), neg-dn (pos (negPart z))))
+
+-- n below 0, also as code takes it from 0
+module _ (n : ℕ) where
+  pub minus-parts : (posPart (minus n) ≡ 0) × (negPart (minus n) ≡ n)
+  minus-parts = (neg-up (pos n), neg-dn (pos n))
+
+  pub from-zero : pos 0 -ℤ pos n ≡ minus n
+  from-zero = same (pos 0 -ℤ pos n) (minus n) (omega (arith, sub (pos 0) (pos n), minus-parts))
+
+  pub neg-fits : n < 2 ^ 63 → SFits w64 (pos 0 -ℤ pos n)
+  neg-fits h = fits (pos 0 -ℤ pos n) 0 n (omega (arith, sub (pos 0) (pos n))) (omega arith) (omega arith)
 
 -- ---- what division and casts ask
 -- a quotient by a positive number lies in the range, and so does a remainder

@@ -12,7 +12,7 @@ use lib.Signed.{mag, ltZ, leZ}
 use borrow.Author.Tests.{ltb-true, ltb-false, not-true}
 use Rattle.laws.specs.Numbers.{posPart, negPart}
 use Rattle.laws.specs.Units.{perSecond, perDay, secondsPerDay}
-use Rattle.laws.proofs.Signed.{add, sub, same, lt-false, le-true}
+use Rattle.laws.proofs.Signed.{add, sub, same, lt-false, le-true, pos-up}
 use Rattle.laws.proofs.Tests.{either-false}
 use Rattle.values.specs.declared.Value.{Value}
 use Rattle.values.specs.Values.{isDuration, earlier, midnight}
@@ -163,9 +163,6 @@ unfolding inOrder earlier
 heads-in-order a o =
     lt-false (a .«end_head») (a .«start_head») (either-false (ltZ (a .«end_head») (a .«start_head»))
     (leZ (a .«end_head») (a .«start_head») && ltZ (a .«end_tail») (a .«start_tail»)) (not-true _ o) .0)
-
-pub pos-up : (z : ℤ) → negPart z ≡ 0 → pos (posPart z) ≡ z
-pos-up z e = same (pos (posPart z)) z (omega arith)
 
 module _ (a : Axis) (o : inOrder a ≡ true) where
   abbrev heads : ℤ

@@ -12,7 +12,7 @@ use lib.Seq.{take-all, length-take-le}
 use borrow.Author.Tests.{lt-leb, le-leb, lt-ltb, le-ltb, eq-eqb, ne-eqb}
 use Rattle.laws.specs.Numbers.{posPart, negPart}
 use Rattle.laws.specs.Units.{perSecond}
-use Rattle.laws.proofs.Signed.{is-lt, is-ge}
+use Rattle.laws.proofs.Signed.{is-lt, is-ge, abs, from-zero}
 use Rattle.values.specs.declared.Value.{Value}
 use Rattle.values.specs.Differences.{nanoseconds}
 use Rattle.values.proofs.Joining.{joint}
@@ -28,19 +28,17 @@ use Rattle.text_read.specs.Fields.{spanRead, secondsOf, readSpan}
 use Rattle.text_read.specs.declared.Whole.{Whole}
 use Rattle.text_read.specs.declared.Whole.the-variants as whole
 use Rattle.text_read.specs.declared.StampField.the-variants as stamp
-use Rattle.text_read.proofs.Fields.{same-both, fraction-none, fraction-other, stamp-unread}
+use Rattle.text_read.proofs.Fields.{until-le, same-both, fraction-none, fraction-other, stamp-unread}
 use Rattle.text_line.specs.declared.Request.{Request}
 use Rattle.text_line.specs.declared.Line.{Line}
 use Rattle.text_line.specs.declared.Line.the-variants as line
 use Rattle.text_line.specs.Line.{occurrences, kindOf, fieldsFrom, spanValue, ofSpan, readValue, readLine}
-use Rattle.text_line.proofs.Lines.{from-zero}
 use Rattle.text_write.specs.Texts.{signedText, spanText}
 use Rattle.text_write.specs.Rows.{tickText}
-use Rattle.text_write.proofs.Spans.{abs}
-use Rattle.text_rows.specs.Answers.{showsFractions, ticksText, listedText, requestText, lineText, rowsOf}
-use Rattle.readback.specs.Before.{stampBefore, ofSeconds, valueBefore, lineBefore, tickBefore, ticksBefore, listOf}
-use Rattle.readback.specs.Before.{listedBefore, answerBefore, rowsBefore, listIn}
-use Rattle.readback.specs.Claims.{Shown, AsBefore}
+use Rattle.text_rows.specs.Answers.{listOf, showsFractions, ticksText, listedText, requestText, lineText, rowsOf}
+use Rattle.readback.specs.Before.{stampBefore, ofSeconds, valueBefore, lineBefore, tickBefore, ticksBefore}
+use Rattle.readback.specs.Before.{listedBefore, answerBefore, rowsBefore}
+use Rattle.readback.specs.Claims.{Shown, listIn, AsBefore}
 use Rattle.readback.proofs.Lists.{kind-is, shown}
 use Rattle.readback.proofs.ReadBack.{duration}
 use Rattle.readback.proofs.ReadBack as read
@@ -81,22 +79,13 @@ no-fraction (b ∷ s) e h = fraction-other (b ∷ s) (λ z. omega arith) (other 
 field-none : (s : List ℕ) → NoPoint s → NoPoint (fieldOf s)
 field-none s e = take-none (untilOf spaceByte s) s e
 
-until-most : (c : ℕ) (s : List ℕ) → untilOf c s ≤ length s
-unfolding untilOf
-until-most c [] = omega arith
-until-most c (b ∷ s) = go (eqb b c) (until-most c s)
-  where
-    go : (t : Bool) → untilOf c s ≤ length s → cond t 0 (suc (untilOf c s)) ≤ suc (length s)
-    go true h = omega arith
-    go false h = omega arith
-
 -- ---- reading
 module _ (s : List ℕ) (e : NoPoint s) where
   abbrev u : ℕ
   u = untilOf spaceByte s
 
   field-length : length (fieldOf s) ≡ u
-  field-length = length-take-le u s (until-most spaceByte s)
+  field-length = length-take-le u s (until-le spaceByte s)
 
   stamps : readStamp s ≡ stampBefore s
   unfolding readStamp stampBefore

@@ -1,6 +1,6 @@
 -- What a list that plate asks for is: its ticks are values of the axis's kind, each later than the one before, and at whole
 -- seconds where the list shows no fractions. Assumes nothing.
-use mathlib.Core.Path.{_≡_, refl, subst}
+use mathlib.Core.Path.{_≡_, refl, sym, subst}
 use mathlib.Core.Bool.{true, false}
 use mathlib.Core.List.{List, []}
 use Prim.Native.Nat.{ℕ, zero, suc, _+_, _*_, _/_, _-_, _<_}
@@ -11,7 +11,7 @@ use lib.Signed.{leZ}
 use lib.ListN.{length}
 use Rattle.laws.specs.Asking.{firstNo, unless}
 use Rattle.laws.specs.Numbers.{posPart, negPart}
-use Rattle.laws.proofs.Signed.{same, le-true}
+use Rattle.laws.proofs.Signed.{le-true, pos-up}
 use Rattle.laws.proofs.Tests.{either-false, both-true}
 use Rattle.values.specs.declared.Value.{Value}
 use Rattle.values.specs.Values.{isValue}
@@ -28,9 +28,8 @@ use Rattle.ticks.proofs.Promise.{key-points-fine}
 use Rattle.ticks.proofs.Values.{tick-value, no-tail}
 use Rattle.axis.specs.Axes.{start, end}
 use Rattle.text_line.specs.declared.Request.{Request}
-use Rattle.text_rows.specs.Answers.{hasFraction, fractionBefore, showsFractions}
+use Rattle.text_rows.specs.Answers.{listOf, hasFraction, fractionBefore, showsFractions}
 use Rattle.text_rows.proofs.Lists.{handed}
-use Rattle.readback.specs.Before.{listOf}
 use Rattle.readback.specs.Claims.{Shown, OnlyTimes}
 
 -- ---- no tick of a list without fractions has one
@@ -77,7 +76,7 @@ module _ (q : Request) where
         let k = q .axis .kind in
         let p = both-true (leZ (pos 1) k) (leZ k (pos 7)) (accepted (q .axis) (Bold (q .hint)) z .kind) .0 in
         let n : negPart k ≡ 0 = not-below k (omega (arith, le-true (pos 1) k p)) in
-        same k (pos (posPart k)) (omega arith)
+        sym (pos-up k n)
 
     pub shown : Shown (showsFractions list) (posPart (q .axis .kind)) (nth list i)
     shown = record {

@@ -9,17 +9,16 @@ use native.Mathlib.Nat.{mul-add-mod-self-right}
 use native.Mathlib.Omega.{arith}
 use lib.Dec.{eqb}
 use lib.IntN.{ℤ, pos, natAbs}
-use lib.Signed.{ltZ, leZ}
+use lib.Signed.{ltZ}
 use borrow.Author.Tests.{lt-leb, le-leb, eq-eqb, ne-eqb, eqb-true, not-false}
 use Rattle.laws.specs.Numbers.{minus, posPart, negPart}
 use Rattle.laws.specs.Units.{perSecond}
-use Rattle.laws.proofs.Signed.{same, lt-true, lt-false, is-lt, is-ge, neg-up, neg-dn, one-is-zero}
-use Rattle.laws.proofs.Tests.{both-true}
+use Rattle.laws.proofs.Signed.{same, lt-true, lt-false, is-lt, is-ge, one-is-zero, abs, pos-up, minus-dn, minus-parts}
 use Rattle.values.specs.declared.Value.{Value}
-use Rattle.values.specs.Values.{isDuration, aDuration, isValue}
+use Rattle.values.specs.Values.{isDuration, isValue}
 use Rattle.values.specs.Differences.{nanoseconds}
 use Rattle.values.proofs.Numbers.{not-below, not-above}
-use Rattle.values.proofs.Values.{DayValue, DurationValue, of-durations, date-value, day-value, duration-value}
+use Rattle.values.proofs.Values.{DayValue, DurationValue, is-duration, date-value, day-value, duration-value}
 use Rattle.values.proofs.Joining.{joint}
 use Rattle.calendar.specs.Gregorian.{dateOf}
 use Rattle.text_read.specs.Bytes.{spaceByte}
@@ -29,7 +28,6 @@ use Rattle.text_line.specs.declared.ValueField.the-variants as value
 use Rattle.text_line.specs.Line.{stampValue, belowZero, spanValue, ofDate, ofStamp, ofSpan, readValue}
 use Rattle.text_write.specs.Texts.{dateText, dateTimeText, spanText}
 use Rattle.text_write.specs.Rows.{tickText}
-use Rattle.text_write.proofs.Spans.{abs}
 use Rattle.text_rows.specs.Answers.{hasFraction}
 use Rattle.readback.specs.Claims.{Shown, TickReadsBack, OneText, SpanCounts}
 use Rattle.readback.proofs.Forms.{of-day, ymd-read, stamp-read, is-time, second-is, above-read, below-read}
@@ -68,24 +66,11 @@ module _ (kind : ℕ) (v : Value) (x : isValue (pos kind) v ≡ true) where
   pub duration : 6 < kind → DurationValue v
   duration h =
       let l : 3 < kind = omega arith in
-      let (m, _) = both-true (leZ (pos kind) (pos 7)) (aDuration v)
-      (sym (of-durations (pos kind) v (lt-leb kind 3 l) (lt-leb kind 6 h)) ∙ x) in
-      let n : isDuration (pos kind) ≡ true = rw (le-leb 7 kind (omega arith), m) in
-      duration-value (pos kind) v x n
+      duration-value (pos kind) v x (is-duration (pos kind) v x (lt-leb kind 3 l) (lt-leb kind 6 h) .0)
 
 -- ---- a value from its numbers
-count-is : (z : ℤ) → negPart z ≡ 0 → pos (posPart z) ≡ z
-count-is z e = same (pos (posPart z)) z (omega arith)
-
 same-value : (v w : Value) → v .head ≡ w .head → v .tail ≡ w .tail → v ≡ w
 same-value v w p q = λ i. record { head = p i; tail = q i }
-
--- n below zero, as `omega` reads it
-below-is : (n : ℕ) → (posPart (minus n) ≡ 0) × (negPart (minus n) ≡ n)
-below-is n = (neg-up (pos n), neg-dn (pos n))
-
-minus-is : (n : ℕ) (z : ℤ) → posPart z ≡ 0 → negPart z ≡ n → minus n ≡ z
-minus-is n z e f = same (minus n) z (omega (arith, below-is n))
 
 pub no-fraction : (v : Value) → hasFraction v ≡ false → posPart (v .tail) % perSecond ≡ 0
 no-fraction v e = eqb-true _ _ (not-false (eqb (posPart (v .tail) % perSecond) 0) e)
@@ -132,7 +117,7 @@ module _ (v : Value) (d : DurationValue v) where
       let h = not-below (v .head) (omega (arith, d)) in
       let a : n ≡ posPart (v .head) = omega (arith, abs t, d) in
       let b : q ≡ posPart (v .tail) = omega (arith, abs t, d) in
-      same-value (record { head = pos n; tail = pos q }) v (rw a (count-is (v .head) h)) (rw b (count-is (v .tail) (d .tail-dn)))
+      same-value (record { head = pos n; tail = pos q }) v (rw a (pos-up (v .head) h)) (rw b (pos-up (v .tail) (d .tail-dn)))
 
   below : ltZ t (pos 0) ≡ true → spanValue (record { below = true; seconds = n; nano = q }) ≡ v
   unfolding spanValue nanoseconds
@@ -145,14 +130,14 @@ module _ (v : Value) (d : DurationValue v) where
             let a : negPart (v .head) ≡ n = omega (arith, abs t, d) in
             let b : posPart (v .tail) ≡ 0 = omega (arith, abs t, d) in
             rw (eq-eqb q 0 (omega arith))
-            (same-value (record { head = minus n; tail = pos 0 }) v (minus-is n (v .head) h a)
-            (rw b at (count-is (v .tail) (d .tail-dn))))
+            (same-value (record { head = minus n; tail = pos 0 }) v (ap minus (sym a) ∙ minus-dn (v .head) h)
+            (rw b at (pos-up (v .tail) (d .tail-dn))))
         | no l ↦
             let a : negPart (v .head) ≡ suc n = omega (arith, abs t, d) in
             let b : perSecond - q ≡ posPart (v .tail) = omega (arith, abs t, d) in
             rw (ne-eqb q 0 (λ y. omega arith))
-            (same-value (record { head = minus (suc n); tail = pos (perSecond - q) }) v (minus-is (suc n) (v .head) h a)
-            (rw b (count-is (v .tail) (d .tail-dn))))
+            (same-value (record { head = minus (suc n); tail = pos (perSecond - q) }) v (ap minus (sym a) ∙ minus-dn (v .head) h)
+            (rw b (pos-up (v .tail) (d .tail-dn))))
       ]
 
 -- ---- a tick
@@ -164,7 +149,7 @@ module _ (shown : Bool) (kind : ℕ) (v : Value) (t : List ℕ) (x : Shown shown
       let o = of-day n (d .head-least) (d .head-most) in
       value-date kind (tickText shown (pos kind) v ++ t) h
       ∙ rw (text-date shown kind v h, ymd-read (dateOf n) t (o .short) e, o .value 0)
-      (ap value.Read (same-value (record { head = pos n; tail = pos 0 }) v (count-is (v .head) (d .head-dn)) (sym (d .no-tail))))
+      (ap value.Read (same-value (record { head = pos n; tail = pos 0 }) v (pos-up (v .head) (d .head-dn)) (sym (d .no-tail))))
 
   stamps : 3 < kind → kind ≤ 6 → readValue kind (tickText shown (pos kind) v ++ t) ≡ value.Read v
   unfolding stampValue
@@ -184,8 +169,8 @@ module _ (shown : Bool) (kind : ℕ) (v : Value) (t : List ℕ) (x : Shown shown
         whole,
         o .value nano,
       )
-      (ap value.Read (same-value (record { head = pos n; tail = pos nano }) v (count-is (v .head) (d .head-dn))
-      (count-is (v .tail) (d .tail-dn))))
+      (ap value.Read (same-value (record { head = pos n; tail = pos nano }) v (pos-up (v .head) (d .head-dn))
+      (pos-up (v .tail) (d .tail-dn))))
 
   spans : 6 < kind → readValue kind (tickText shown (pos kind) v ++ t) ≡ value.Read v
   spans h =
@@ -248,11 +233,11 @@ module _ (n q : ℕ) (l : q < perSecond) where
       elim (decLe q 0) [
         | yes m ↦
             rw (eq-eqb q 0 (omega arith))
-            (same _ (minus size) (omega (arith, joint (minus n) (pos 0) perSecond, below-is n, below-is size)))
+            (same _ (minus size) (omega (arith, joint (minus n) (pos 0) perSecond, minus-parts n, minus-parts size)))
         | no m ↦
             rw (ne-eqb q 0 (λ z. omega arith))
             (same _ (minus size)
-            (omega (arith, joint (minus (suc n)) (pos (perSecond - q)) perSecond, below-is (suc n), below-is size)))
+            (omega (arith, joint (minus (suc n)) (pos (perSecond - q)) perSecond, minus-parts (suc n), minus-parts size)))
       ]
 
 pub span-counts : SpanCounts

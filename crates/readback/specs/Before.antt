@@ -18,7 +18,7 @@ use Rattle.mapping.specs.declared.Pixel.{Pixel}
 use Rattle.steps.specs.Promise.{nth}
 use Rattle.steps.specs.declared.Listed.{Listed}
 use Rattle.steps.specs.declared.Listed.the-variants as listed
-use Rattle.ticks.specs.Answers.{ticksAnswer, ticksHanded}
+use Rattle.ticks.specs.Answers.{ticksAnswer}
 use Rattle.text_read.specs.Bytes.{lineFeed, spaceByte, minusByte, colonByte, tByte}
 use Rattle.text_read.specs.Fields.{untilOf, fieldOf, tripleOf, stampRead, readNumber, readDate}
 use Rattle.text_read.specs.declared.Whole.the-variants as whole
@@ -31,9 +31,10 @@ use Rattle.text_line.specs.declared.ValueField.the-variants as value
 use Rattle.text_line.specs.declared.Request.{Request}
 use Rattle.text_line.specs.declared.Line.{Line}
 use Rattle.text_line.specs.declared.Line.the-variants as line
-use Rattle.text_line.specs.Line.{inForm, kindOf, fieldsFrom, ofDate, ofStamp, requestOf, readLine}
+use Rattle.text_line.specs.Line.{inForm, kindOf, fieldsFrom, ofDate, ofStamp, requestOf}
 use Rattle.text_write.specs.Texts.{decimalText, signedText, dateText, timeText}
 use Rattle.text_write.specs.Rows.{markText, refusalText}
+use Rattle.text_rows.specs.Answers.{listOf}
 
 -- ---- reading
 -- YYYY-MM-DDThh:mm:ss: 19 bytes
@@ -90,10 +91,6 @@ ticksBefore number a l list (suc k) =
     ticksBefore number a l list k ++ rowBefore number (a .kind) (nth list k) (mapped a l (nth list k))
 
 -- ---- a line's answer
--- the list that plate asks for
-abbrev pub listOf : Request → List ℤ
-listOf q = ticksHanded (q .axis) (Bold (q .hint)) 8194
-
 -- where listing is refused, its number
 abbrev pub listedBefore : ℕ → Request → Listed → List ℕ
 listedBefore number q (listed.Refused n) = refusalText number n
@@ -107,12 +104,3 @@ answerBefore number line.Unread = refusalText number 12
 -- the answer to the line of that number
 unfoldable pub rowsBefore : ℕ → List ℕ → List ℕ
 rowsBefore number s = answerBefore number (lineBefore s)
-
--- the list of a line, as it is read now; of one that does not read, none
-abbrev pub listIn : Line → List ℤ
-listIn (line.Read q) = listOf q
-listIn line.Unread = []
-
--- of a line's bytes
-abbrev pub lineList : List ℕ → List ℤ
-lineList s = listIn (readLine s)

@@ -4,7 +4,7 @@ use mathlib.Core.Path.{_≡_}
 use mathlib.Core.Bool.{Bool, true, false, cond}
 use mathlib.Core.List.{List, [], _∷_, _++_}
 use Prim.Native.Nat.{ℕ, _+_, _*_, _<_}
-use lib.IntN.{pos}
+use lib.IntN.{ℤ, pos}
 use lib.ListN.{length}
 use Rattle.laws.specs.Numbers.{minus, posPart}
 use Rattle.laws.specs.Units.{perSecond}
@@ -17,12 +17,14 @@ use Rattle.text_read.specs.Bytes.{spaceByte, pointByte}
 use Rattle.text_read.specs.Fields.{untilOf, fieldOf}
 use Rattle.text_read.specs.declared.Duration.{Duration}
 use Rattle.text_line.specs.declared.Request.{Request}
+use Rattle.text_line.specs.declared.Line.{Line}
+use Rattle.text_line.specs.declared.Line.the-variants as line
 use Rattle.text_line.specs.declared.ValueField.the-variants as value
-use Rattle.text_line.specs.Line.{occurrences, restOf, spanValue, readValue}
+use Rattle.text_line.specs.Line.{occurrences, restOf, spanValue, readValue, readLine}
 use Rattle.text_write.specs.Rows.{tickText}
-use Rattle.text_rows.specs.Answers.{hasFraction, showsFractions, tickRow, rowsOf}
+use Rattle.text_rows.specs.Answers.{hasFraction, showsFractions, tickRow, listOf, rowsOf}
 use Rattle.text_plate.specs.Plate.{linesOf}
-use Rattle.readback.specs.Before.{listOf, lineList, rowsBefore}
+use Rattle.readback.specs.Before.{rowsBefore}
 
 -- ---- a tick
 -- what a list shows of a value: of its kind, and at a whole second unless the list shows fractions
@@ -80,8 +82,13 @@ RowsDiffer = (number : ℕ) (s : List ℕ) → AllDiffer (tickTexts (linesOf (ro
 abbrev pub OnlyTimes : Type 0
 OnlyTimes = (q : Request) → hasPeriod (q .axis) ≡ false → showsFractions (listOf q) ≡ false
 
+-- the list of a line; of one that does not read, none
+abbrev pub listIn : Line → List ℤ
+listIn (line.Read q) = listOf q
+listIn line.Unread = []
+
 -- a line without a point whose list has no fraction prints as before
 abbrev pub AsBefore : Type 0
 AsBefore =
-    (number : ℕ) (s : List ℕ) → occurrences pointByte s ≡ 0 → showsFractions (lineList s) ≡ false
+    (number : ℕ) (s : List ℕ) → occurrences pointByte s ≡ 0 → showsFractions (listIn (readLine s)) ≡ false
     → rowsOf number s ≡ rowsBefore number s

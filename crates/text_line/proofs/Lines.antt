@@ -1,5 +1,5 @@
--- The lines' definitions, one byte at a time, the kinds that a word can name, what stands after a field, and a number below
--- zero. Assumes nothing.
+-- The lines' definitions, one byte at a time, the kinds that a word can name, and what stands after a field.
+-- Assumes nothing.
 use mathlib.Core.Path.{_≡_, refl, sym, _∙_, ap}
 use mathlib.Core.Bool.{Bool, true, false, cond}
 use mathlib.Core.List.{List, [], _∷_}
@@ -7,13 +7,10 @@ use Prim.Native.Nat.{ℕ, suc, _+_, _-_, _<_, _≤_}
 use native.Mathlib.Numerals.{add-one}
 use native.Mathlib.Omega.{arith}
 use lib.Dec.{eqb, lit≤}
-use lib.IntN.{pos, _-ℤ_}
 use lib.ListN.{length, take, drop, getD, drop-of-length-le}
 use lib.Seq.{drop-cons}
 use borrow.Author.Tests.{eq-eqb, ne-eqb}
-use Rattle.laws.specs.Numbers.{minus}
 use Rattle.laws.proofs.Parts.{to-end}
-use Rattle.laws.proofs.Signed.{neg-up, neg-dn, sub, same}
 use Rattle.text_read.specs.Bytes.{spaceByte}
 use Rattle.text_read.specs.Fields.{untilOf}
 use Rattle.text_read.proofs.Fields.{same-both}
@@ -76,8 +73,3 @@ module _ (s : List ℕ) (k : ℕ) (e : k ≡ untilOf spaceByte s) where
 
   pub rest-some : take (length s - (k + 1)) (drop (k + 1) s) ≡ restOf s
   rest-some = to-end s (k + 1) ∙ rw e
-
--- ---- spans
--- a number below 0, as the code takes it from 0
-pub from-zero : (n : ℕ) → pos 0 -ℤ pos n ≡ minus n
-from-zero n = same (pos 0 -ℤ pos n) (minus n) (omega (arith, sub (pos 0) (pos n), neg-up (pos n), neg-dn (pos n)))

@@ -7,14 +7,10 @@ use Prim.Native.Nat.{ℕ, zero, suc, _+_, _*_, _-_, _^_, _<_, _≤_}
 use native.Mathlib.Numerals.{add-one}
 use native.Mathlib.Omega.{arith}
 use native.Mathlib.Nat.{pow-suc, pow-le-pow-right, mul-assoc}
-use lib.Dec.{leb, lit<}
-use lib.IntN.{pos, _-ℤ_}
+use lib.Dec.{leb, eqb, lit<}
 use lib.ListN.{length, take, drop, getD, drop-of-length-le}
 use lib.Seq.{drop-cons, take-nil, length-take-le}
-use mir.Syntax.{w64}
-use mir.Val.{SFits}
 use borrow.Author.Tests.{eq-eqb, ne-eqb, lt-ltb, le-ltb, leb-true}
-use Rattle.laws.proofs.Signed.{sub, fits}
 use Rattle.laws.proofs.Tests.{both-true}
 use Rattle.text_read.specs.Bytes.{pointByte, zeroByte, nineByte}
 use Rattle.text_read.specs.Fields.{untilOf, isDigit, digitsFrom, digitsOf, times, nanosOf, fractionOf, stampRead}
@@ -39,6 +35,16 @@ module _ (c : ℕ) (s : List ℕ) (i : ℕ) (v : untilOf c s ≡ i + untilOf c (
   pub until-end : length s ≤ i → i ≡ untilOf c s
   unfolding untilOf
   until-end h = let z : untilOf c (drop i s) ≡ 0 = rw (drop-of-length-le s h) in omega arith
+
+-- no more than there are
+pub until-le : (c : ℕ) (s : List ℕ) → untilOf c s ≤ length s
+unfolding untilOf
+until-le c [] = omega arith
+until-le c (b ∷ s) = by-byte (eqb b c) (untilOf c s) (length s) (until-le c s)
+  where
+    by-byte : (t : Bool) (k n : ℕ) → k ≤ n → cond t 0 (suc k) ≤ suc n
+    by-byte true k n h = omega arith
+    by-byte false k n h = omega arith
 
 module _ (s : List ℕ) (i : ℕ) (h : i < length s) where
   pub digit-on : (n : ℕ) → isDigit (getD s i 0) ≡ true
@@ -79,10 +85,6 @@ drop-take (suc j) (suc k) (b ∷ s) = let h : suc k - suc j ≡ k - j = omega ar
 pub same-both : {A : Type 0} (t : Bool) (x : A) → cond t x x ≡ x
 same-both true x = refl
 same-both false x = refl
-
--- the negative of such a number
-pub neg-fits : (n : ℕ) → n < 10 ^ 12 → SFits w64 (pos 0 -ℤ pos n)
-neg-fits n h = fits (pos 0 -ℤ pos n) 0 n (omega (arith, sub (pos 0) (pos n))) (omega arith) (omega arith)
 
 -- ---- fractions
 pub nanos-long : (s : List ℕ) → 9 < length s → nanosOf s ≡ whole.Unread

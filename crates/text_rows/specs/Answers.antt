@@ -52,12 +52,16 @@ ticksText number a l list (suc k) = ticksText number a l list k ++ tickRow numbe
 abbrev pub listText : ℕ → Axis → Limits → List ℤ → List ℕ
 listText number a l list = ticksText number a l list (length list / 2)
 
+-- the list of a request: 8,194 numbers are lent, two for each tick that a list can have
+abbrev pub listOf : Request → List ℤ
+listOf q = ticksHanded (q .axis) (Bold (q .hint)) 8194
+
 -- where listing is refused, its number; an empty list gives nothing
 abbrev pub listedText : ℕ → Request → Listed → List ℕ
 listedText number q (listed.Refused n) = refusalText number n
-listedText number q (listed.Ticks c) = listText number (q .axis) (q .limits) (ticksHanded (q .axis) (Bold (q .hint)) 8194)
+listedText number q (listed.Ticks c) = listText number (q .axis) (q .limits) (listOf q)
 
--- 8,194 numbers are lent, two for each tick that a list can have
+-- of a request, refused or not
 unfoldable pub requestText : ℕ → Request → List ℕ
 requestText number q = listedText number q (ticksAnswer (q .axis) (Bold (q .hint)) 8194)
 

@@ -4,11 +4,11 @@ use mathlib.Core.Bool.{Bool, true, false, cond}
 use mathlib.Core.List.{List, [], _∷_, _++_}
 use Prim.Native.Nat.{ℕ, _+_, _*_, _/_, _%_, _≤_, _<_}
 use native.Mathlib.Omega.{arith}
-use lib.IntN.{ℤ, pos, negsuc, natAbs}
+use lib.IntN.{ℤ, pos, natAbs}
 use lib.Signed.{ltZ}
 use Rattle.laws.specs.Numbers.{posPart, negPart}
 use Rattle.laws.specs.Units.{perSecond}
-use Rattle.laws.proofs.Signed.{is-lt, is-ge}
+use Rattle.laws.proofs.Signed.{is-lt, is-ge, abs}
 use Rattle.values.specs.declared.Value.{Value}
 use Rattle.values.specs.Values.{isValue}
 use Rattle.values.specs.Differences.{nanoseconds}
@@ -17,11 +17,6 @@ use Rattle.values.proofs.Values.{duration-value}
 use Rattle.values.proofs.Joining.{joint}
 use Rattle.text_read.specs.Bytes.{minusByte}
 use Rattle.text_write.specs.Texts.{Wrote, decimalText, fractionText, spanText}
-
--- of the two parts one is 0
-pub abs : (z : ℤ) → natAbs z ≡ posPart z + negPart z
-abs (pos n) = omega arith
-abs (negsuc n) = omega arith
 
 -- s seconds and q nanoseconds from 0
 by-seconds : {at r : ℕ} {d a : List ℕ} (shown : Bool) (t : ℤ) (s q : ℕ) (below : Bool) → ltZ t (pos 0) ≡ below →

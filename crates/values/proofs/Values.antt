@@ -86,6 +86,12 @@ day-range v m l e =
     record { head-dn = zh; head-least = omega arith; head-most = omega arith; tail-dn = zt; tail-most = omega arith }
 
 module _ (kind : ℤ) (v : Value) (value : isValue kind v ≡ true) where
+  -- past the kinds of dates and date-times
+  pub is-duration : leZ kind (pos 3) ≡ false → leZ kind (pos 6) ≡ false → (isDuration kind ≡ true) × (aDuration v ≡ true)
+  is-duration e f =
+      let (x, y) = both-true (leZ kind (pos 7)) (aDuration v) (sym (of-durations kind v e f) ∙ value) in
+      (rw (is-le (pos 7) kind (omega (arith, le-false kind (pos 6) f)), x), y)
+
   -- kinds 1 to 3
   pub date-value : leZ kind (pos 3) ≡ true → DateValue v
   date-value e =
@@ -103,11 +109,7 @@ module _ (kind : ℤ) (v : Value) (value : isValue kind v ≡ true) where
       go : (a b : Bool) → leZ kind (pos 3) ≡ a → leZ kind (pos 6) ≡ b → DayValue v
       go true b e f = day-range v 0 (omega arith) (both-true (leZ (pos 1) kind) (aDate v) (sym (of-dates kind v e) ∙ value) .1)
       go false true e f = day-range v 86399999999999 (omega arith) (sym (of-date-times kind v e f) ∙ value)
-      go false false e f =
-          let (x, y) = both-true (leZ kind (pos 7)) (aDuration v) (sym (of-durations kind v e f) ∙ value) in
-          let z : leZ (pos 7) kind ≡ true = is-le (pos 7) kind (omega (arith, le-false kind (pos 6) f)) in
-          let w : isDuration kind ≡ true = rw (z, x) in
-          absurd (true≢false (sym w ∙ n))
+      go false false e f = absurd (true≢false (sym (is-duration e f .0) ∙ n))
 
   pub duration-value : isDuration kind ≡ true → DurationValue v
   duration-value n =

@@ -10,20 +10,15 @@ use mir.Syntax.{w64}
 use mir.Val.{SFits, toZ, ofZ}
 use mir.Facts.{toZ-ofZ}
 use Rattle.laws.specs.Numbers.{minus}
-use Rattle.laws.proofs.Signed.{read-count, sub, fits}
-use Rattle.text_line.proofs.Lines.{from-zero}
+use Rattle.laws.proofs.Signed.{from-zero, neg-fits, read-count}
 use Rattle.text_line.proofs.below_zero.Statement.{statement}
 use Rattle.text_line.proofs.below_zero.Tie as tie
 
--- 0 less a small number
-small : (n : ℕ) → n < 2 ^ 63 → SFits w64 (pos 0 -ℤ pos n)
-small n h = fits (pos 0 -ℤ pos n) 0 n (omega (arith, sub (pos 0) (pos n))) (omega arith) (omega arith)
-
 negated : (n : ℕ) → n < 2 ^ 63 → SFits w64 (pos 0 -ℤ toZ w64 n)
-negated n h = rw (read-count n h) (small n h)
+negated n h = rw (read-count n h) (neg-fits n h)
 
 read-negated : (n : ℕ) → n < 2 ^ 63 → toZ w64 (ofZ w64 (pos 0 -ℤ toZ w64 n)) ≡ minus n
-read-negated n h = rw (read-count n h) (toZ-ofZ (small n h) ∙ from-zero n)
+read-negated n h = rw (read-count n h) (toZ-ofZ (neg-fits n h) ∙ from-zero n)
 
 returns : tie.Need-returns
 returns c = let x = c .before .args in rw (read-negated (x .n) (omega arith), eq-eqb _ _ (c .if1 .taken))

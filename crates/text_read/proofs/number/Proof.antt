@@ -5,10 +5,10 @@ use mathlib.Core.Path.{_≡_}
 use Prim.Native.Nat.{_<_, _^_}
 use native.Mathlib.Omega.{arith}
 use mir.Facts.{toZ-ofZ}
-use Rattle.laws.proofs.Signed.{count-fits, read-count}
+use Rattle.laws.proofs.Signed.{neg-fits, count-fits, read-count}
 use Rattle.text_read.specs.Fields.{digitsOf, plusOf, minusOf, readNumber}
 use Rattle.text_read.specs.declared.Whole.{Whole}
-use Rattle.text_read.proofs.Fields.{drop-take, same-both, neg-fits}
+use Rattle.text_read.proofs.Fields.{drop-take, same-both}
 use Rattle.text_read.proofs.number.Statement.{statement}
 use Rattle.text_read.proofs.number.Tie as tie
 
@@ -28,12 +28,12 @@ small : (c : tie.After-known-told) → c .before .n .given .0 .0 < 10 ^ 12
 small c = rw (c .before .n .given .1) at (c .before .before .before .digits .ensures .1 .0)
 
 sub-t14 : tie.Need-sub-t14
-sub-t14 c = let n = c .before .n .given .0 .0 in rw (read-count n (omega (arith, small c))) (neg-fits n (small c))
+sub-t14 c = let n = c .before .n .given .0 .0 in rw (read-count n (omega (arith, small c))) (neg-fits n (omega (arith, small c)))
 
 returns-3 : tie.Need-returns-3
 returns-3 c =
     let n = c .before .n .given in
-    rw (read-count (n .0 .0) (omega (arith, small c)), toZ-ofZ (neg-fits (n .0 .0) (small c)))
+    rw (read-count (n .0 .0) (omega (arith, small c)), toZ-ofZ (neg-fits (n .0 .0) (omega (arith, small c))))
     (below-zero (c .before .before .before) _ (n .1))
 
 -- with no minus

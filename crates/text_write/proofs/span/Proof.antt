@@ -12,11 +12,11 @@ use mir.Facts.{toZ-ofZ}
 use borrow.Author.Needs.{needs}
 use Rattle.laws.specs.Numbers.{posPart, negPart}
 use Rattle.laws.specs.Units.{perSecond}
-use Rattle.laws.proofs.Signed.{le-true, le-false, read-up}
+use Rattle.laws.proofs.Signed.{le-true, le-false, abs, read-up}
 use Rattle.values.specs.declared.Value.{Value}
 use Rattle.values.proofs.Values.{duration-value}
 use Rattle.text_write.proofs.Writing.{then}
-use Rattle.text_write.proofs.Spans.{abs, from-zero, below-zero}
+use Rattle.text_write.proofs.Spans.{from-zero, below-zero}
 use Rattle.text_write.proofs.span.Statement.{statement}
 use Rattle.text_write.proofs.span.Tie as tie
 

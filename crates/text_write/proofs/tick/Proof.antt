@@ -1,6 +1,6 @@
 -- `text_write::tick` meets its contract: each branch is one of the definition's. Assumes nothing.
 use borrow.Author.Needs.{needs}
-use mathlib.Core.Path.{_≡_, refl, sym, _∙_}
+use mathlib.Core.Path.{_≡_, refl, _∙_}
 use mathlib.Core.Bool.{true, false}
 use Prim.Native.Nat.{ℕ, _≤_}
 use native.Mathlib.Omega.{arith}
@@ -12,12 +12,11 @@ use mir.Val.{SFits, toZ, ofZ}
 use mir.Facts.{toZ-ofZ}
 use Rattle.laws.specs.Numbers.{posPart}
 use Rattle.laws.proofs.Signed.{le-true, read-up}
-use Rattle.laws.proofs.Tests.{both-true}
 use Rattle.calendar.specs.Questions.{lastDay}
 use Rattle.values.specs.declared.Value.{Value}
-use Rattle.values.specs.Values.{isDuration, aDuration, isValue}
+use Rattle.values.specs.Values.{isDuration, isValue}
 use Rattle.values.proofs.Numbers.{is-gt}
-use Rattle.values.proofs.Values.{of-durations, day-value}
+use Rattle.values.proofs.Values.{of-durations, is-duration, day-value}
 use Rattle.text_write.specs.Rows.{tickText}
 use Rattle.text_write.proofs.tick.Statement.{statement}
 use Rattle.text_write.proofs.tick.Tie as tie
@@ -35,8 +34,7 @@ head-day kind v w f n l e =
 a-duration : (kind : ℤ) (v : Value) → isValue kind v ≡ true → SFits w64 kind → leZ (toZ w64 (ofZ w64 kind)) (pos 3) ≡ false
     → leZ (toZ w64 (ofZ w64 kind)) (pos 6) ≡ false → isValue (pos 7) v ≡ true
 a-duration kind v w f e g =
-    let d = of-durations kind v (rw (toZ-ofZ f) at e) (rw (toZ-ofZ f) at g) in
-    of-durations (pos 7) v refl refl ∙ both-true (leZ kind (pos 7)) (aDuration v) (sym d ∙ w) .1
+    of-durations (pos 7) v refl refl ∙ is-duration kind v w (rw (toZ-ofZ f) at e) (rw (toZ-ofZ f) at g) .1
 
 day : (c : tie.After-pos-part) → c .pos-part .result ≡ posPart (c .before .before .before .args .v .head)
 day c =
