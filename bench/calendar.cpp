@@ -1,5 +1,5 @@
-// The calendar's two exports beside chrono and libstdc++, in one process on the same inputs.
-// libstdc++ over its own types and over ours, with and without ok().
+// The calendar's exports beside chrono and libstdc++, in one process on the same inputs.
+// libstdc++ over its own types and over ours, with and without ok(); it has no week dates, which stand beside our dates too.
 #include <chrono>
 #include <cstdint>
 #include <random>
@@ -13,7 +13,7 @@ namespace {
 
 constexpr int LAST_DAY = 3652059, RANDOM = 1 << 16;
 
-// As small as it can be, so that memory is no part of what is measured.
+// As small as it can be, so that memory is no part of what is measured. Of a week date the week and the weekday.
 struct Small {
     int16_t year;
     uint8_t month, day;
@@ -52,6 +52,32 @@ void date_of(Table &table, const char *title, const Inputs<int32_t> &days) {
     });
 }
 
+void week_day_number(Table &table, const char *title, const Inputs<Small> &weeks, const Inputs<Small> &dates) {
+    auto ours = [](Small s) { return ordered_week_day_number(s.year, s.month, s.day).value; };
+    auto date = [](Small s) { return ordered_day_number(s.year, s.month, s.day).value; };
+    auto chrono = [](Small s) { return chrono_week_day_number(s.year, s.month, s.day); };
+    table.row(title, weeks->size(), {{"ordered", loop(weeks, ours)}, {"day_number", loop(dates, date)},
+                                     {"chrono", loop(weeks, chrono)}});
+}
+
+void week_date_of(Table &table, const char *title, const Inputs<int32_t> &days) {
+    auto fields = [](const auto &d) { return packed(d.year, d.week, d.weekday); };
+    auto ours = [=](int32_t n) { return fields(ordered_week_date_of(n)); };
+    auto date = [](int32_t n) { ordered_date d = ordered_date_of(n); return packed(d.year, d.month, d.day); };
+    auto chrono = [=](int32_t n) { return fields(chrono_week_date_of(n)); };
+    table.row(title, days->size(), {{"ordered", loop(days, ours)}, {"date_of", loop(days, date), false},
+                                    {"chrono", loop(days, chrono)}});
+}
+
+Inputs<Small> week_dates_of(const Inputs<int32_t> &days) {
+    std::vector<Small> all;
+    for (int32_t n : *days) {
+        ordered_week_date d = ordered_week_date_of(n);
+        all.push_back({(int16_t)d.year, (uint8_t)d.week, (uint8_t)d.weekday});
+    }
+    return std::make_shared<std::vector<Small>>(all);
+}
+
 Inputs<Small> dates_of(const Inputs<int32_t> &days) {
     std::vector<Small> all;
     for (int32_t n : *days) {
@@ -77,5 +103,9 @@ int main(int, char **argv) {
     day_number(table, "day_number | random", dates_of(some));
     date_of(table, "date_of | in order", every);
     date_of(table, "date_of | random", some);
+    week_day_number(table, "week_day_number | in order", week_dates_of(every), dates_of(every));
+    week_day_number(table, "week_day_number | random", week_dates_of(some), dates_of(some));
+    week_date_of(table, "week_date_of | in order", every);
+    week_date_of(table, "week_date_of | random", some);
     return table.end();
 }

@@ -1,5 +1,6 @@
 // Every operation of the C interface that has an axis beside plotters' own, for each kind, from the same raw numbers in one
-// process. All answers and every number of a list are compared before anything is measured.
+// process. All answers and every number of a list are compared before anything is measured. Plotters has no weeks: kind 8
+// stands beside our own kind 1.
 #include <cstring>
 #include <functional>
 #include <string>
@@ -13,8 +14,8 @@
 
 namespace {
 
-const std::vector<int> ALL = {1, 2, 3, 4, 5, 6, 7}, UNMAPPED = {1, 2, 3, 4, 5, 6}, WITH_PERIOD = {4, 7},
-                       INDEXED = {1, 2, 3, 5, 6};
+const std::vector<int> ALL = {1, 2, 3, 4, 5, 6, 7, 8}, UNMAPPED = {1, 2, 3, 4, 5, 6, 8}, WITH_PERIOD = {4, 7},
+                       INDEXED = {1, 2, 3, 5, 6, 8};
 
 // What a case of an operation is called, and its requests.
 struct Case {
@@ -51,6 +52,31 @@ ordered_number values_walk(int64_t kind, int64_t start_head, int64_t start_tail,
         if (step.status)
             return {0, count};
     }
+}
+
+// An operation on weeks, and on dates from the same numbers; only pixels are the same on both.
+template <auto... Field, class Answer>
+void week_row(Table &table, const std::string &name, const Case &of,
+              Answer (*export_of)(int64_t, int64_t, int64_t, int64_t, int64_t, Type<Field>...)) {
+    const std::string title = name + of.name + " | " + std::to_string(ORDERED_KIND_WEEK);
+    const auto on = [=](int kind) {
+        return [=](const Request &r) {
+            return export_of(kind, r.start_head, r.start_tail, r.end_head, r.end_tail, r.*Field...);
+        };
+    };
+    const auto requests = std::make_shared<std::vector<Request>>();
+    generator.seed(SEED);
+    for (int i = 0; i < of.requests; i++) {
+        requests->push_back(of.draw(ORDERED_KIND_WEEK));
+        if (on(ORDERED_KIND_WEEK)(requests->back()).status > 0 || on(ORDERED_KIND_DATE)(requests->back()).status > 0)
+            return table.fail(title, "refused");
+    }
+    const auto side = [&](const char *beside, int kind, bool alike) {
+        const auto call = on(kind);
+        return Side{beside, loop(Inputs<Request>(requests), [=](const Request &r) { return told(call(r)); }), alike};
+    };
+    table.row(title, requests->size(),
+              {side("ordered", ORDERED_KIND_WEEK, true), side("kind 1", ORDERED_KIND_DATE, name == "map")});
 }
 
 // An operation on a kind: after the axis it takes the fields, in their order.
@@ -98,7 +124,10 @@ void rows(Table &table, const std::string &name, const std::vector<int> &kinds, 
         return;
     for (const Case &of : cases)
         for (int kind : kinds)
-            row<Field...>(table, name, kind, of, export_of);
+            if (kind == ORDERED_KIND_WEEK)
+                week_row<Field...>(table, name, of, export_of);
+            else
+                row<Field...>(table, name, kind, of, export_of);
 }
 
 Case segments(const char *name, int64_t segment) {

@@ -1,5 +1,5 @@
-// What ready.rattle offers: the scale of an axis and its limits, and the pixel of a value with it: coord for the
-// kinds 1 to 6, duration for 7. Nothing is asked: the ends, the limits and the value must be accepted ones.
+// What ready.rattle offers: the scale of an axis and its limits, and the pixel of a value with it: coord for
+// all kinds but 7, duration for it. Nothing is asked: the ends, the limits and the value must be accepted ones.
 // It stands in an archive of its own, so that no call is inlined into the loop.
 #pragma once
 

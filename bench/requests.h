@@ -30,7 +30,7 @@ inline int64_t from(int64_t low, int64_t high) { return low + (int64_t)(generato
 inline bool has_indices(int kind) { return kind != 4 && kind != 7; }
 
 // Heads are days or seconds; what a tail is less than.
-inline int64_t tails(int kind) { return kind <= 3 ? 1 : kind <= 6 ? DAY : SECOND; }
+inline int64_t tails(int kind) { return kind <= 3 || kind == 8 ? 1 : kind <= 6 ? DAY : SECOND; }
 
 // Spans that a chart of the kind has, in its own unit: days of dates, else nanoseconds.
 inline int64_t chart_span(int kind) {
@@ -41,6 +41,7 @@ inline int64_t chart_span(int kind) {
     case 4: return from(60 * SECOND, 30 * DAY);
     case 5: return from(180, 1800) * DAY + from(0, DAY);
     case 6: return from(3, 50) * 365 * DAY + from(0, DAY);
+    case 8: return from(28, 800);
     default: return from(SECOND / 1000, 10 * HOUR);
     }
 }
@@ -50,7 +51,7 @@ inline int64_t chart_span(int kind) {
 inline Request chart(int kind) {
     const int64_t per = tails(kind);
     int64_t start_head = kind == 7 ? 0 : from(715510, 737425), start_tail = 0;
-    if (kind >= 4 && from(0, 1))
+    if (per > 1 && from(0, 1))
         start_head += kind == 7 ? from(-86400, 86400) : 0, start_tail = from(0, per - 1);
     const int64_t span = chart_span(kind), end = start_tail + span, value = start_tail + from(0, span);
 
@@ -64,7 +65,7 @@ inline Request chart(int kind) {
     return r;
 }
 
-// Axes whose lists are about n long: n to 10 n days, months or years as far as the calendar goes, or any time. The bold
+// Axes whose lists are about n long: n to 10 n days, weeks, months or years as far as the calendar goes, or any time. The bold
 // count is around half of these, so that half of the light lists go to the finer axis; for the longest ones it is at most
 // 4096, and few do.
 inline Request listing(int kind, int64_t n) {
@@ -76,13 +77,14 @@ inline Request listing(int kind, int64_t n) {
     case 3:
     case 6: days = (units = std::min<int64_t>(units, 9000)) * 365; break;
     case 4: rest = from(60 * SECOND, 30 * DAY); break;
+    case 8: days = units * 7; break;
     default: rest = from(SECOND / 1000, 10 * HOUR);
     }
     const int64_t per = tails(kind);
 
     Request r = {};
     r.start_head = kind == 7 ? from(-86400, 86400) : from(1, 3652000 - 40 - days);
-    r.start_tail = kind <= 3 ? 0 : from(0, per - 1);
+    r.start_tail = per == 1 ? 0 : from(0, per - 1);
     const int64_t end = r.start_tail + rest;
     r.end_head = r.start_head + days + end / per, r.end_tail = end % per;
     r.bold = std::min(from(units / 4, 3 * units / 4), MOST), r.n = n;

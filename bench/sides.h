@@ -20,6 +20,12 @@ struct chrono_date {
     int32_t year;
     uint32_t month, day;
 };
+struct chrono_week_date {
+    int32_t year;
+    uint32_t week, weekday;
+};
 int32_t chrono_day_number(int32_t year, uint32_t month, uint32_t day);
 chrono_date chrono_date_of(int32_t number);
+int32_t chrono_week_day_number(int32_t year, uint32_t week, uint32_t weekday);
+chrono_week_date chrono_week_date_of(int32_t number);
 }

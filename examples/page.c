@@ -1,9 +1,9 @@
 /* Draws a date axis as an SVG picture on standard output: page KIND START END HINT [WIDTH] [--light N] [--segments]
-   The kind is date, month, year, stamp, stampmonth, stampyear or span. Start and end are YYYY-MM-DD for the first three,
-   YYYY-MM-DDThh:mm:ss for the stamps, whole seconds for a span. The hint is how many ticks are wished for, the width in
-   pixels. With --light up to N + 1 light ticks stand between the bold ones, grey and without a label. With --segments each
-   day, month or year is a segment of the line, and the labels stand at the centres. As page --sheet it draws one sheet with an
-   axis of each kind.
+   The kind is date, month, year, stamp, stampmonth, stampyear, span or week. Start and end are YYYY-MM-DD for date, month, year
+   and week, YYYY-MM-DDThh:mm:ss for the stamps, whole seconds for a span. The hint is how many ticks are wished for, the width
+   in pixels. With --light up to N + 1 light ticks stand between the bold ones, grey and without a label. With --segments each
+   day, week, month or year is a segment of the line, and the labels stand at the centres. As page --sheet it draws one sheet
+   with an axis of each kind.
    Where the library refuses a call, its question is named on standard error and the exit status is 1. */
 #include <ctype.h>
 #include <errno.h>
@@ -54,7 +54,7 @@ typedef struct {
 
 static void usage(const char *what) {
     fprintf(stderr, "page: %s\nusage: page KIND START END HINT [WIDTH] [--light N] [--segments], or page --sheet\n"
-                    "kinds: date, month, year (YYYY-MM-DD); stamp, stampmonth, stampyear (YYYY-MM-DDThh:mm:ss); "
+                    "kinds: date, month, year, week (YYYY-MM-DD); stamp, stampmonth, stampyear (YYYY-MM-DDThh:mm:ss); "
                     "span (seconds)\n", what);
     exit(2);
 }
@@ -88,8 +88,8 @@ static int64_t read_number(const char *text) {
 }
 
 static int64_t read_kind(const char *name) {
-    static const char *const names[] = {"date", "month", "year", "stamp", "stampmonth", "stampyear", "span"};
-    for (int i = 0; i < ORDERED_KIND_SPAN; i++)
+    static const char *const names[] = {"date", "month", "year", "stamp", "stampmonth", "stampyear", "span", "week"};
+    for (int i = 0; i < ORDERED_KIND_WEEK; i++)
         if (!strcmp(name, names[i]))
             return i + 1;
     usage("the kind is not known");
@@ -101,7 +101,8 @@ static value read_value(int64_t kind, const char *text) {
     int year, month, day, hour = 0, minute = 0, second = 0;
     if (kind == ORDERED_KIND_SPAN)
         return (value){read_number(text), 0};
-    if (!has_form(text, kind < ORDERED_KIND_STAMP ? "0000-00-00" : "0000-00-00T00:00:00"))
+    bool dated = kind < ORDERED_KIND_STAMP || kind == ORDERED_KIND_WEEK;
+    if (!has_form(text, dated ? "0000-00-00" : "0000-00-00T00:00:00"))
         usage("start or end does not read");
     sscanf(text, "%4d-%2d-%2dT%2d:%2d:%2d", &year, &month, &day, &hour, &minute, &second);
     ordered_number number = ordered_day_number(year, month, day);
@@ -148,8 +149,15 @@ static void write_fraction(char *to, size_t room, int64_t fraction) {
     snprintf(to, room, ".%0*" PRId64, digits, fraction);
 }
 
-/* A date, or its month where months and years are listed; below it the time of a stamp. A span shows its seconds, which the
-   library rounds down. */
+/* The week of ISO 8601 with its own year, which may be another one than the date's. */
+static void write_week(char *to, size_t room, int64_t day_number) {
+    ordered_week_date w = ordered_week_date_of(day_number);
+    expect_answer("ordered_week_date_of", w.status);
+    snprintf(to, room, "%04" PRId64 "-W%02" PRId64, w.year, w.week);
+}
+
+/* A date, or its month where months and years are listed; below it the time of a stamp, or the week. A span shows its seconds,
+   which the library rounds down. */
 static label label_at(const picture *p, value v, int64_t pixel) {
     label l = {pixel, "", ""};
     if (p->kind == ORDERED_KIND_SPAN) {
@@ -162,8 +170,10 @@ static label label_at(const picture *p, value v, int64_t pixel) {
     ordered_date d = ordered_date_of(v.head);
     expect_answer("ordered_date_of", d.status);
     int end = snprintf(l.upper, sizeof l.upper, "%04" PRId64 "-%02" PRId64, d.year, d.month);
-    if (p->kind == ORDERED_KIND_DATE || p->kind == ORDERED_KIND_STAMP)
+    if (p->kind == ORDERED_KIND_DATE || p->kind == ORDERED_KIND_STAMP || p->kind == ORDERED_KIND_WEEK)
         snprintf(l.upper + end, sizeof l.upper - (size_t)end, "-%02" PRId64, d.day);
+    if (p->kind == ORDERED_KIND_WEEK)
+        write_week(l.lower, sizeof l.lower, v.head);
     if (p->kind == ORDERED_KIND_STAMP) {
         int64_t s = v.tail / SECOND;
         end = snprintf(l.lower, sizeof l.lower, "%02" PRId64 ":%02" PRId64 ":%02" PRId64, s / 3600, s / 60 % 60, s % 60);
@@ -315,6 +325,7 @@ static const struct {
     {"stampmonth", "2021-02-15T12:00:00", "2022-02-15T12:00:00", 6, 12},
     {"stampyear", "2001-01-01T00:00:00", "2021-12-31T23:59:59", 7, 21},
     {"span", "-3600", "7200", 7, 40},
+    {"week", "2020-11-15", "2021-05-15", 8, 26},
 };
 enum { AXES = sizeof sheet / sizeof sheet[0] };
 

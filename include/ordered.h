@@ -8,12 +8,13 @@
    Nothing is allocated and no state is kept: calls may be made on several threads at once, each with a lent slice of its own. A
    call takes less than 1 KiB of stack.
 
-   A kind is 1 date, 2 monthly and 3 yearly over dates, 4 date-time, 5 monthly and 6 yearly over date-times, 7 duration. A
-   value is head and tail: a date is its day number (0001-01-01 is 1) and 0; a date-time its day number and the nanosecond of
-   the day; a duration its seconds, rounded down, and nanoseconds 0 to 999999999. The limits are the pixels of start and end.
+   A kind is 1 date, 2 monthly and 3 yearly over dates, 4 date-time, 5 monthly and 6 yearly over date-times, 7 duration, 8 weekly
+   over dates. A value is head and tail: a date is its day number (0001-01-01 is 1, a Monday) and 0; a date-time its day number
+   and the nanosecond of the day; a duration its seconds, rounded down, and nanoseconds 0 to 999999999. A week begins on Monday.
+   The limits are the pixels of start and end.
 
    Questions are asked in this order, where they apply; the first no gives its number:
-   1   the kind is 1 to 7
+   1   the kind is 1 to 8
    2   the kind has this operation
    3   start and end are values of the kind: days 1 to 3652059, durations within 315576000000 seconds
    4   start is no later than end
@@ -27,7 +28,8 @@
    10  the answer and each sum on the way fit 32 bits, a date answered or mapped is one of the days of 3, an unmapped index
        one of 8
    11  the lent slice has two numbers for each tick
-   Beside each declaration stand the questions that can refuse it. docs/C.md has an example of each call. */
+   13  of a week date, before 10: the year is 1 to 9999 and has the week, the weekday is 1 to 7
+   12 is plate's alone. Beside each declaration stand the questions that can refuse it. docs/C.md has an example of each call. */
 #ifndef ORDERED_H
 #define ORDERED_H
 
@@ -45,7 +47,8 @@ enum ordered_kinds {
     ORDERED_KIND_STAMP,
     ORDERED_KIND_STAMP_MONTH,
     ORDERED_KIND_STAMP_YEAR,
-    ORDERED_KIND_SPAN
+    ORDERED_KIND_SPAN,
+    ORDERED_KIND_WEEK
 };
 
 enum ordered_segments { ORDERED_SEGMENT_EXACT = 1, ORDERED_SEGMENT_CENTRE, ORDERED_SEGMENT_LAST };
@@ -64,7 +67,8 @@ enum ordered_questions {
     ORDERED_QUESTION_VALUE,
     ORDERED_QUESTION_LENGTH,
     ORDERED_QUESTION_RANGE,
-    ORDERED_QUESTION_ROOM
+    ORDERED_QUESTION_ROOM,
+    ORDERED_QUESTION_WEEK_DATE = 13
 };
 
 /* Numbers that have room for every list: no hint lists more than 4097 ticks. */
@@ -78,6 +82,7 @@ typedef struct { int64_t status, pixel; } ordered_pixel;
 typedef struct { int64_t status, nanoseconds; } ordered_period;
 typedef struct { int64_t status, head, tail; } ordered_value;
 typedef struct { int64_t status, year, month, day; } ordered_date;
+typedef struct { int64_t status, year, week, weekday; } ordered_week_date; /* weekday: 1 is Monday, 7 Sunday */
 typedef struct { int64_t status, head, tail, next; } ordered_step; /* next: the next place of the cursor */
 typedef struct { int64_t status, segment, head, tail; } ordered_segment; /* segment: 1 exact, 2 centre, 3 last */
 
@@ -87,13 +92,21 @@ ordered_number ordered_day_number(int64_t year, int64_t month, int64_t day);
 /* The date of a day number. Refused by 8. */
 ordered_date ordered_date_of(int64_t day_number);
 
+/* The day number of a week date of ISO 8601: a week is of the year that has its Thursday, week 1 has the year's first one. A
+   year has 53 weeks where it begins on a Thursday, or is a leap year and begins on a Wednesday, else 52. 10 refuses 9999-W52-6
+   and 9999-W52-7 alone. Refused by 13, 10. */
+ordered_number ordered_week_day_number(int64_t year, int64_t week, int64_t weekday);
+
+/* The week date of a day number; every day has one of the years 1 to 9999. Refused by 8. */
+ordered_week_date ordered_week_date_of(int64_t day_number);
+
 /* The pixel of a value on an axis. Refused by 1, 3, 4, 5, 7, 8, 9, 10. */
 ordered_pixel ordered_map(ORDERED_AXIS, int64_t low, int64_t high, int64_t head, int64_t tail);
 
 /* The value at a pixel, all kinds but 7. It does not undo ordered_map: on the kinds with indices the limits part the size, and
-   the high limit is one past the last. For the day, month or year under a pointer let the pixel be at least low and below high
-   (at most low and above high, where the limits are swapped): then, where the size is at least 1, no value is past the last, and
-   10 refuses only on kind 5 with a start of 9999-12-31 00:00:01 or later. Refused by 1, 2, 3, 4, 7, 10. */
+   the high limit is one past the last. For the day, week, month or year under a pointer let the pixel be at least low and below
+   high (at most low and above high, where the limits are swapped): then, where the size is at least 1, no value is past the
+   last, and 10 refuses only on kind 5 with a start of 9999-12-31 00:00:01 or later. Refused by 1, 2, 3, 4, 7, 10. */
 ordered_value ordered_unmap(ORDERED_AXIS, int64_t low, int64_t high, int64_t pixel);
 
 /* The step between ticks of the kinds 4 and 7, for at most n + 1 of them. None where whole days are listed: on kind 4 from
@@ -101,27 +114,30 @@ ordered_value ordered_unmap(ORDERED_AXIS, int64_t low, int64_t high, int64_t pix
 ordered_period ordered_period_per_point(ORDERED_AXIS, int64_t n);
 
 /* The ticks of an axis for a bold hint of n, at most n + 1: their count. Head and tail of each stand at the front of the lent
-   numbers, in order; the numbers behind them are unchanged. Refused by 1, 3, 4, 5, 6, 11. */
+   numbers, in order; the numbers behind them are unchanged. Kind 8 lists the first Monday of the span and every m-th after it,
+   with the least m from 1 on that has at most n + 1 of them; without a Monday none. Refused by 1, 3, 4, 5, 6, 11. */
 ordered_number ordered_ticks_bold(ORDERED_AXIS, int64_t n, int64_t *lent, size_t lent_len);
 
 /* The same for a light hint, a bold count and a limit n: the ticks of the finer axis where the size is at most twice the
-   bold count, from years to months, from months to days or times. Refused by 1, 3, 4, 5, 6, 11. */
+   bold count, from years to months, from months to days or times. Kinds 1, 4, 7 and 8 go to no other axis: the bold count
+   changes nothing there. Refused by 1, 3, 4, 5, 6, 11. */
 ordered_number ordered_ticks_light(ORDERED_AXIS, int64_t bold, int64_t n, int64_t *lent, size_t lent_len);
 
-/* The answers of the two above for a lent slice of that length, with nothing lent; on kinds 1, 2, 3, 5 and 6 also those of the
-   lists of segments, which kinds 4 and 7 lack. Refused by 1, 3, 4, 5, 6, 11. */
+/* The answers of the two above for a lent slice of that length, with nothing lent; on kinds 1, 2, 3, 5, 6 and 8 also those of
+   the lists of segments, which kinds 4 and 7 lack. Refused by 1, 3, 4, 5, 6, 11. */
 ordered_number ordered_count_bold(ORDERED_AXIS, int64_t n, size_t lent_len);
 ordered_number ordered_count_light(ORDERED_AXIS, int64_t bold, int64_t n, size_t lent_len);
 
-/* The days, months or years of an axis; kinds 1, 2, 3, 5 and 6, as all below. Refused by 1, 2, 3, 4. */
+/* The days, weeks, months or years of an axis; kinds 1, 2, 3, 5, 6 and 8, as all below. On kind 8 each week counts that has a day
+   of the span. Refused by 1, 2, 3, 4. */
 ordered_number ordered_size(ORDERED_AXIS);
 
-/* The index of the day, month or year of a value, 0 at the start; past the end too. None before the start, but a month of an
-   earlier year counts as that month of the start's. Refused by 1, 2, 3, 4, 8. */
+/* The index of the day, week, month or year of a value, 0 at the start; past the end too. None before the start's, but a month of
+   an earlier year counts as that month of the start's. Refused by 1, 2, 3, 4, 8. */
 ordered_number ordered_index_of(ORDERED_AXIS, int64_t head, int64_t tail);
 
-/* The first value of the day, month or year with that index, past the end too; of 0 the start or its ceiling.
-   Refused by 1, 2, 3, 4, 8, 10. */
+/* The first value of the day, week, month or year with that index, past the end too; of 0 the start or its ceiling. On kind 8 it
+   is a Monday, but of 0 the start itself, which may be none. Refused by 1, 2, 3, 4, 8, 10. */
 ordered_value ordered_from_index(ORDERED_AXIS, int64_t index);
 
 /* The value of the index after a value's, or before it. None past the size, or below 0. Refused by 1, 2, 3, 4, 8, 10. */
@@ -132,10 +148,10 @@ ordered_value ordered_previous(ORDERED_AXIS, int64_t head, int64_t tail);
    Refused by 1, 2, 3, 4, 8, 10. */
 ordered_step ordered_values(ORDERED_AXIS, int64_t place);
 
-/* Segments: each day, month or year of an axis reaches to its follower, and one more stands after them, the last. A segment is
-   1 exact, the left end of a value's, 2 the centre of a value's, or 3 the last; the head and tail beside 3 are not read. On
-   months and years let the end be the first day of the last one: its segment is then as wide as an even part of the limits, to
-   1.5 pixels. A later end makes it wider. */
+/* Segments: each day, week, month or year of an axis reaches to its follower, and one more stands after them, the last. A
+   segment is 1 exact, the left end of a value's, 2 the centre of a value's, or 3 the last; the head and tail beside 3 are not
+   read. On weeks, months and years let the end be the first day of the last one: its segment is then as wide as an even part of
+   the limits, to 1.5 pixels. A later end makes it wider. */
 
 /* The pixel of a segment. The limits part the size: the last is at the high limit, the end of the axis a part below it.
    Refused by 1, 2, 3, 4, 7, 8, 9, 10. */
@@ -171,6 +187,7 @@ static inline const char *ordered_status_text(int64_t status) {
     case ORDERED_QUESTION_LENGTH: return "the axis has no length";
     case ORDERED_QUESTION_RANGE: return "the answer is out of range";
     case ORDERED_QUESTION_ROOM: return "too few numbers were lent";
+    case ORDERED_QUESTION_WEEK_DATE: return "there is no such week date";
     default: return "the status is not known";
     }
 }

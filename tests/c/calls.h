@@ -36,6 +36,16 @@ static inline int call_date_of(const int64_t *in, int64_t *out) {
     return 4;
 }
 
+static inline int call_week_day_number(const int64_t *in, int64_t *out) {
+    return numbers_of(ordered_week_day_number(in[0], in[1], in[2]), out);
+}
+
+static inline int call_week_date_of(const int64_t *in, int64_t *out) {
+    ordered_week_date r = ordered_week_date_of(in[0]);
+    out[0] = r.status, out[1] = r.year, out[2] = r.week, out[3] = r.weekday;
+    return 4;
+}
+
 static inline int call_map(const int64_t *in, int64_t *out) {
     ordered_pixel r = ordered_map(in[0], in[1], in[2], in[3], in[4], in[5], in[6], in[7], in[8]);
     out[0] = r.status, out[1] = r.pixel;

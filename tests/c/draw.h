@@ -7,6 +7,8 @@
 #include <stddef.h>
 #include <stdint.h>
 
+#include "months.h"
+
 /* Places and spans are nanoseconds in 128 bits: they reach 6 x 10^20. */
 typedef __int128 wide;
 
@@ -85,13 +87,13 @@ static inline wide first_place(int64_t kind) {
 }
 
 static inline wide last_place(int64_t kind) {
-    return kind == 7 ? (wide)LAST_SECOND * SECOND + SECOND - 1 : (wide)LAST_DAY * DAY + (kind <= 3 ? 0 : DAY - 1);
+    return kind == 7 ? (wide)LAST_SECOND * SECOND + SECOND - 1 : (wide)LAST_DAY * DAY + (of_dates(kind) ? 0 : DAY - 1);
 }
 
 /* The place of a value of the kind: what lies outside goes to the nearest end, a date loses its time. */
 static inline wide place_on(int64_t kind, wide place) {
     place = clamp(first_place(kind), place, last_place(kind));
-    return kind <= 3 ? place / DAY * DAY : place;
+    return of_dates(kind) ? place / DAY * DAY : place;
 }
 
 static inline value value_at(int64_t kind, wide place) {
@@ -125,7 +127,7 @@ static inline wide span_on(int64_t kind) {
 /* Where a span can begin: on kind 7, mostly where question 5 lets it. */
 static inline axis axis_with(int64_t kind, wide span) {
     axis a = {kind, first_place(kind), last_place(kind)};
-    if (kind <= 3) /* up to whole days, or too many spans would be 0 */
+    if (of_dates(kind)) /* up to whole days, or too many spans would be 0 */
         span = (span + DAY - 1) / DAY * DAY;
     span = clamp(0, span, a.end - a.start);
     if (kind == 7 && span <= (wide)2 * NEAR && !chance(50))
@@ -187,7 +189,7 @@ static inline value spoilt(int64_t kind, value v) {
         else
             v.head = ONE_OF(0, -1, LAST_DAY + 1, v.head + (INT64_C(1) << 32), -v.head, INT64_MIN, INT64_MAX);
     } else {
-        int64_t per = kind <= 3 ? 1 : unit(kind);
+        int64_t per = of_dates(kind) ? 1 : unit(kind);
         v.tail = ONE_OF(per, -1, per + 1, -per, per + v.tail, INT64_C(1) << 62, INT64_MIN, INT64_MAX);
     }
     return v;
@@ -203,7 +205,7 @@ static inline int64_t hint_on(int64_t kind) {
     case 3: n = from(0, 60); break;
     default: n = from(0, 12);
     }
-    return n == 0 && kind >= 4 && !chance(20) ? 1 : n;
+    return n == 0 && !of_dates(kind) && !chance(20) ? 1 : n;
 }
 
 #endif

@@ -57,6 +57,8 @@ static const struct row {
 } rows[] = {
     {"day_number", 3, call_day_number, refuse_day_number, .none = 8},
     {"date_of", 1, call_date_of, refuse_date_of, .none = 8},
+    {"week_day_number", 3, call_week_day_number, refuse_week_day_number, .none = 0}, /* the Rust lacks week dates */
+    {"week_date_of", 1, call_week_date_of, refuse_date_of, .none = 0},
     {"map", 9, call_map, refuse_map, .panic = 10},
     {"period", 6, call_period, refuse_period, .none = -1, .exact = exact_period_answer},
     {"ticks_bold", 6, NULL, refuse_ticks_bold, .exact = exact_bold, .list = list_bold, .count = count_bold},

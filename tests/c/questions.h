@@ -20,7 +20,7 @@ static inline bool in_range(int64_t low, int64_t x, int64_t high) {
 static inline bool value_of_kind(int64_t kind, int64_t head, int64_t tail) {
     if (kind == 7)
         return in_range(-INT64_C(315576000000), head, INT64_C(315576000000)) && in_range(0, tail, 999999999);
-    return in_range(1, head, 3652059) && in_range(0, tail, kind <= 3 ? 0 : INT64_C(86399999999999));
+    return in_range(1, head, 3652059) && in_range(0, tail, of_dates(kind) ? 0 : INT64_C(86399999999999));
 }
 
 /* From the value 0 0, in 128 bits: spans reach 6 x 10^20. */
@@ -29,12 +29,12 @@ static inline __int128 nanoseconds(int64_t kind, int64_t head, int64_t tail) {
 }
 
 /* The kinds that have an operation, a bit for each: bit 1 is kind 1. */
-enum { ALL_KINDS = 0xfe, PERIOD_KINDS = 1 << 4 | 1 << 7, UNMAP_KINDS = 0x7e, INDEX_KINDS = 0x6e };
+enum { ALL_KINDS = 0x1fe, PERIOD_KINDS = 1 << 4 | 1 << 7, UNMAP_KINDS = 0x17e, INDEX_KINDS = 0x16e };
 
 /* Questions 1 to 5, about kind, start and end. */
 static inline int64_t refuse_axis(const int64_t axis[5], unsigned kinds) {
     int64_t kind = axis[0];
-    if (!in_range(1, kind, 7))
+    if (!in_range(1, kind, 8))
         return 1;
     if (!(kinds >> kind & 1))
         return 2;
@@ -70,7 +70,7 @@ static inline int64_t refuse_map(const int64_t *in) {
 /* The questions of an axis, and 6 of a hint: bold count and N. */
 static inline int64_t refuse_hint(const int64_t *in, unsigned kinds, int64_t bold, int64_t n) {
     int64_t number = refuse_axis(in, kinds);
-    return number ? number : in_range(0, bold, 4096) && in_range(in[0] >= 4, n, 4096) ? 0 : 6;
+    return number ? number : in_range(0, bold, 4096) && in_range(!of_dates(in[0]), n, 4096) ? 0 : 6;
 }
 
 /* in: kind, start, end, N */
@@ -182,6 +182,13 @@ static inline int64_t refuse_day_number(const int64_t *in) {
 
 static inline int64_t refuse_date_of(const int64_t *in) {
     return in_range(1, in[0], 3652059) ? 0 : 8;
+}
+
+/* in: year, week, weekday. Here question 10 is asked too: only 9999-W52-6 and 9999-W52-7 are behind the last day. */
+static inline int64_t refuse_week_day_number(const int64_t *in) {
+    if (!in_range(1, in[0], 9999) || !in_range(1, in[1], weeks_of(in[0])) || !in_range(1, in[2], 7))
+        return 13;
+    return in[0] == 9999 && in[1] == 52 && in[2] > 5 ? 10 : 0;
 }
 
 #endif

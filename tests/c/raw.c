@@ -12,7 +12,7 @@
 #include "months.h"
 #include "questions.h"
 
-enum { ARGUMENTS = 10, NUMBERS = 4, QUESTIONS = 12, GUARD = 5, SHOWN = 5, ENOUGH = 10000 };
+enum { ARGUMENTS = 10, NUMBERS = 4, QUESTIONS = 14, GUARD = 5, SHOWN = 5, ENOUGH = 10000 };
 
 /* May these numbers, the status first, be an answer to these arguments? */
 typedef bool fine(const int64_t *in, const int64_t *out);
@@ -62,6 +62,15 @@ static bool fine_day_number(const int64_t *in, const int64_t *out) {
     return out[1] == first_of_month(12 * (in[0] - 1) + in[1] - 1) + in[2] - 1;
 }
 
+static bool fine_week_date(const int64_t *in, const int64_t *out) {
+    struct week_date date = week_date_at(in[0]);
+    return out[1] == date.year && out[2] == date.week && out[3] == date.weekday;
+}
+
+static bool fine_week_day_number(const int64_t *in, const int64_t *out) {
+    return out[1] == day_of_week_date(in[0], in[1], in[2]);
+}
+
 /* Here the month's end is asked too. */
 static int64_t refuse_no_date(const int64_t *in) {
     if (refuse_day_number(in))
@@ -74,7 +83,7 @@ static int64_t refuse_no_date(const int64_t *in) {
 enum { ALL = Q(1) | Q(3) | Q(4), SOME = ALL | Q(2), BY_INDEX = SOME | Q(8) | Q(10) };
 
 /* What is taken, a letter each: a the five numbers of an axis, l a limit or pixel, v the two of a value, s a segment, h a hint's
-   number, i an index or place; y, m and d a date, n a day number. */
+   number, i an index or place; y, m and d a date, y, w and k a week date, n a day number. */
 static const struct operation {
     const char *name, *takes;
     refusal *refusal;
@@ -85,9 +94,13 @@ static const struct operation {
     count_call *count;
     bool none;
     int place; /* at none the last number is this argument; 0: none is all zeros */
+    bool whole; /* the refusal has question 10 too */
 } operations[] = {
     {"day_number", "ymd", refuse_no_date, Q(8), fine_day_number, .call = call_day_number},
     {"date_of", "n", refuse_date_of, Q(8), fine_date, .call = call_date_of},
+    {"week_day_number", "ywk", refuse_week_day_number, Q(10) | Q(13), fine_week_day_number, .call = call_week_day_number,
+     .whole = true},
+    {"week_date_of", "n", refuse_date_of, Q(8), fine_week_date, .call = call_week_date_of},
     {"map", "allv", refuse_map, ALL | Q(5) | Q(7) | Q(8) | Q(9) | Q(10), fine_pixel, .call = call_map},
     {"unmap", "alll", refuse_unmap, SOME | Q(7) | Q(10), fine_unmapped, .call = call_unmap},
     {"period", "ah", refuse_period, SOME | Q(5) | Q(6), fine_period, .call = call_period, .none = true},
@@ -129,7 +142,7 @@ static int64_t hostile(void) {
     case 0: return bits;
     case 1: return bits >> from(0, 63);
     default:
-        bound = ONE_OF(0, 7, 12, 31, 4096, 9999, 32767, 65534, LAST_DAY, INT32_MAX, SECOND - 1, DAY - 1, LAST_SECOND, NEAR,
+        bound = ONE_OF(0, 7, 8, 12, 31, 53, 4096, 9999, 32767, 65534, LAST_DAY, INT32_MAX, SECOND - 1, DAY - 1, LAST_SECOND, NEAR,
                        NEAR / SECOND, INT64_C(1) << 32, INT64_C(1) << 53, INT64_MAX - 1, INT64_MIN + 1, INT32_MIN, -LAST_SECOND,
                        -32767, -NEAR);
         step = ONE_OF(-1, 0, 1);
@@ -140,7 +153,7 @@ static int64_t hostile(void) {
 /* Arguments that the first questions mostly let pass. */
 static int plain_arguments(const char *takes, int64_t *in) {
     int64_t *to = in;
-    axis a = axis_of(from(1, 7));
+    axis a = axis_of(from(1, 8));
     if (a.kind == 5 && chance(8)) /* from here on its ceiling is in the year 10000 */
         a.end = last_place(5), a.start = a.end - any_size(DAY);
     for (; *takes; takes++) {
@@ -155,9 +168,11 @@ static int plain_arguments(const char *takes, int64_t *in) {
         case 's': *to++ = from(1, 3); break;
         case 'h': *to++ = hint_on(a.kind); break;
         case 'i': *to++ = (int64_t)any_size(LAST_DAY); break;
-        case 'y': *to++ = from(1, 9999); break;
+        case 'y': *to++ = chance(8) ? 9999 : from(1, 9999); break;
         case 'm': *to++ = from(1, 12); break;
         case 'd': *to++ = from(1, 31); break;
+        case 'w': *to++ = chance(4) ? 52 : from(1, 53); break;
+        case 'k': *to++ = from(1, 7); break;
         default: *to++ = from(1, LAST_DAY);
         }
     }
@@ -185,7 +200,7 @@ static bool fine_status(const struct operation *o, const int64_t *in, int64_t st
     if (!in_range(-1, status, QUESTIONS - 1) || (status == -1 && !o->none) || (status > 0 && !(o->asks >> status & 1)))
         return false;
     seen[o - operations][status + 1]++;
-    return number ? status == number : status < 1 || status >= 10;
+    return number ? status == number : status < 1 || (status >= 10 && !o->whole);
 }
 
 static void compare_call(const struct operation *o, const int64_t *in, int arguments) {

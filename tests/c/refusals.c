@@ -8,7 +8,7 @@
 
 #include "ordered.h"
 
-enum { QUESTIONS = 12, LENT = 20 };
+enum { QUESTIONS = 14, LENT = 20 };
 
 /* The numbers as ordered_map takes them: kind, start, end, low, high, value. `also`: the next question that says no. */
 static const struct mapping {
@@ -23,8 +23,9 @@ static const struct mapping {
     {{5, 1, 0, 11, 0, 0, 100, 2, 0}, 0, 0, 10, "kind 5"},
     {{6, 1, 0, 11, 0, 0, 100, 2, 0}, 0, 0, 10, "kind 6"},
     {{7, 1, 0, 11, 0, 0, 100, 2, 0}, 0, 0, 10, "kind 7"},
+    {{8, 1, 0, 11, 0, 0, 100, 2, 0}, 0, 0, 10, "kind 8"},
     {{0, 1, 0, 11, 0, 0, 100, 2, 0}, 1, 0, 0, "kind 0"},
-    {{8, 1, 0, 11, 0, 0, 100, 2, 0}, 1, 0, 0, "kind 8"},
+    {{9, 1, 0, 11, 0, 0, 100, 2, 0}, 1, 0, 0, "kind 9"},
     {{-1, 1, 0, 11, 0, 0, 100, 2, 0}, 1, 0, 0, "kind -1"},
     {{257, 1, 0, 11, 0, 0, 100, 2, 0}, 1, 0, 0, "kind 1 in the low 8 bits"},
     {{4294967297, 1, 0, 11, 0, 0, 100, 2, 0}, 1, 0, 0, "kind 1 in the low 32 bits"},
@@ -43,6 +44,10 @@ static const struct mapping {
     {{1, 1, 1, 11, 0, 0, 100, 2, 0}, 3, 0, 0, "a date with a tail, kind 1"},
     {{2, 1, 0, 11, 1, 0, 100, 2, 0}, 3, 0, 0, "a date with a tail, kind 2"},
     {{3, 1, -1, 11, 0, 0, 100, 2, 0}, 3, 0, 0, "a date with a tail below 0, kind 3"},
+    {{8, 1, 0, 3652059, 0, 0, 100, 3652059, 0}, 0, 0, 100, "all days, kind 8"},
+    {{8, 0, 0, 11, 0, 0, 100, 2, 0}, 3, 0, 0, "day 0 as start, kind 8"},
+    {{8, 1, 0, 3652060, 0, 0, 100, 2, 0}, 3, 0, 0, "10000-01-01 as end, kind 8"},
+    {{8, 1, 0, 11, 1, 0, 100, 2, 0}, 3, 0, 0, "a date with a tail, kind 8"},
     {{4, 1, 0, 3652059, 86399999999999, 0, 100, 3652059, 86399999999999}, 0, 0, 100, "the last nanosecond, kind 4"},
     {{5, 1, 0, 3652059, 86399999999999, 0, 100, 3652059, 86399999999999}, 0, 0, 100, "the last nanosecond, kind 5"},
     {{6, 1, 0, 3652059, 86399999999999, 0, 100, 3652059, 86399999999999}, 0, 0, 100, "the last nanosecond, kind 6"},
@@ -62,6 +67,7 @@ static const struct mapping {
     {{1, 5, 0, 5, 0, 0, 100, 5, 0}, 0, 0, 0, "start and end equal"},
     {{1, 6, 0, 5, 0, 0, 100, 6, 0}, 4, 0, 0, "start a day later"},
     {{2, 3652059, 0, 1, 0, 0, 100, 3652059, 0}, 4, 0, 0, "the last day to the first"},
+    {{8, 6, 0, 5, 0, 0, 100, 6, 0}, 4, 0, 0, "start a day later in its week, kind 8"},
     {{4, 5, 1, 5, 0, 0, 100, 5, 1}, 4, 0, 0, "start 1 ns later"},
     {{4, 6, 0, 5, 86399999999999, 0, 100, 6, 0}, 4, 0, 0, "the head decides before the tail"},
     {{4, 5, 86399999999999, 6, 0, 0, 100, 6, 0}, 0, 0, 100, "1 ns over midnight"},
@@ -81,6 +87,7 @@ static const struct mapping {
     {{7, -5000000000, 0, 4223372036, 854775808, 0, 100, -5000000000, 0}, 0, 0, 0, "past it, a span of 2^63 ns"},
     {{7, -5000000000, 0, 4223372036, 854775808, 0, 100, 4223372036, 854775808}, 0, 0, 100, "its end, by whole days"},
     {{4, 1, 0, 3652059, 0, 0, 100, 3652059, 0}, 0, 0, 100, "5 is not asked of date-times"},
+    {{8, 46297, 0, 3652059, 0, 0, 100, 46297, 0}, 0, 0, 0, "nor of weeks, whose days are past 4 x 10^18 ns"},
 
     /* 7: the limits. */
     {{1, 1, 0, 11, 0, 32767, -32767, 1, 0}, 0, 0, 32767, "the largest low, the least high"},
@@ -90,6 +97,7 @@ static const struct mapping {
     {{1, 1, 0, 11, 0, 32768, 0, 1, 0}, 7, 0, 0, "low one more"},
     {{1, 1, 0, 11, 0, -32768, 0, 1, 0}, 7, 0, 0, "low one less"},
     {{1, 1, 0, 11, 0, 0, 32768, 1, 0}, 7, 0, 0, "high one more"},
+    {{8, 1, 0, 11, 0, 0, 32768, 1, 0}, 7, 0, 0, "high one more, kind 8"},
     {{1, 1, 0, 11, 0, 0, -32768, 1, 0}, 7, 0, 0, "high one less"},
     {{1, 1, 0, 11, 0, 4294967296, 100, 1, 0}, 7, 10, 0, "low 0 in its low 32 bits"},
     {{1, 1, 0, 11, 0, 0, 4294967396, 1, 0}, 7, 0, 0, "high 100 in its low 32 bits"},
@@ -106,6 +114,8 @@ static const struct mapping {
     {{1, 1, 0, 11, 0, 0, 100, 2, 1}, 8, 0, 0, "a date with a tail, kind 1"},
     {{2, 1, 0, 11, 0, 0, 100, 2, 1}, 8, 0, 0, "a date with a tail, kind 2"},
     {{3, 1, 0, 11, 0, 0, 100, 2, -1}, 8, 0, 0, "a date with a tail below 0, kind 3"},
+    {{8, 1, 0, 11, 0, 0, 100, 2, 1}, 8, 0, 0, "a date with a tail, kind 8"},
+    {{8, 2, 0, 3, 0, 0, 100, 3652060, 0}, 8, 0, 0, "10000-01-01, kind 8"},
     {{4, 1, 0, 2, 0, 0, 100, 1, 86399999999999}, 0, 0, 99, "the last nanosecond of a day"},
     {{4, 1, 0, 2, 0, 0, 100, 1, 86400000000000}, 8, 0, 0, "24:00"},
     {{5, 1, 0, 2, 0, 0, 100, 2, -1}, 8, 0, 0, "a time below 0"},
@@ -121,7 +131,9 @@ static const struct mapping {
     {{1, 5, 0, 5, 0, 7, 9, 5, 0}, 0, 0, 7, "the start of an empty axis, kind 1"},
     {{4, 5, 1, 5, 1, 7, 9, 5, 1}, 0, 0, 7, "the start of an empty axis, kind 4"},
     {{7, 5, 1, 5, 1, 7, 9, 5, 1}, 0, 0, 7, "the start of an empty axis, kind 7"},
+    {{8, 5, 0, 5, 0, 7, 9, 5, 0}, 0, 0, 7, "the start of an empty axis, kind 8"},
     {{1, 5, 0, 5, 0, 0, 9, 6, 0}, 9, 0, 0, "a day later, kind 1"},
+    {{8, 5, 0, 5, 0, 0, 9, 6, 0}, 9, 0, 0, "a day later in its week, kind 8"},
     {{2, 5, 0, 5, 0, 0, 9, 4, 0}, 9, 0, 0, "a day earlier, kind 2"},
     {{3, 5, 0, 5, 0, 7, 7, 6, 0}, 9, 0, 0, "equal limits do not help, kind 3"},
     {{4, 5, 1, 5, 1, 0, 9, 5, 2}, 9, 0, 0, "1 ns later, kind 4"},
@@ -152,6 +164,7 @@ static const struct mapping {
     {{1, 1, 0, 2, 0, 0, 32767, 3652059, 0}, 0, 0, 2147483647, "dates saturate, low 0"},
     {{1, 1, 0, 2, 0, 1, 32767, 3652059, 0}, 10, 0, 0, "kind 1, low 1"},
     {{2, 1, 0, 2, 0, 1, 32767, 3652059, 0}, 10, 0, 0, "kind 2"},
+    {{8, 1, 0, 2, 0, 1, 32767, 3652059, 0}, 10, 0, 0, "kind 8"},
     {{3, 3652058, 0, 3652059, 0, -1, 32767, 1, 0}, 10, 0, 0, "kind 3, below"},
     {{7, 0, 0, 0, 1, 0, 1, 2, 147483648}, 0, 0, 2147483647, "kind 7 saturates, low 0"},
     {{7, 0, 0, 0, 1, 1, 2, 2, 147483648}, 10, 0, 0, "kind 7, low 1"},
@@ -163,12 +176,12 @@ static const struct mapping {
     {{7, 0, 0, 0, 1, -1, 0, -9223372037, 145224191}, 0, 0, 0, "1 ns less: the high limit"},
 
     /* Two at once, each two that can fail together; 5 is asked of kind 7 only, so never with 1. */
-    {{8, 1, 0, 315576000001, 0, 0, 100, 1, 0}, 1, 3, 0, "no kind, an end of no kind"},
-    {{8, 2, 0, 1, 0, 0, 100, 2, 0}, 1, 4, 0, "no kind, start later"},
-    {{8, 1, 0, 2, 0, 0, 32768, 1, 0}, 1, 7, 0, "no kind, high too large"},
-    {{8, 1, 0, 2, 0, 0, 100, 1, -1}, 1, 8, 0, "no kind, a value of no kind"},
-    {{8, 1, 0, 1, 0, 0, 100, 2, 0}, 1, 9, 0, "no kind, empty"},
-    {{8, 1, 0, 1, 1, 1, 2, 1, 2147483648}, 1, 10, 0, "no kind, the pixel would not fit"},
+    {{9, 1, 0, 315576000001, 0, 0, 100, 1, 0}, 1, 3, 0, "no kind, an end of no kind"},
+    {{9, 2, 0, 1, 0, 0, 100, 2, 0}, 1, 4, 0, "no kind, start later"},
+    {{9, 1, 0, 2, 0, 0, 32768, 1, 0}, 1, 7, 0, "no kind, high too large"},
+    {{9, 1, 0, 2, 0, 0, 100, 1, -1}, 1, 8, 0, "no kind, a value of no kind"},
+    {{9, 1, 0, 1, 0, 0, 100, 2, 0}, 1, 9, 0, "no kind, empty"},
+    {{9, 1, 0, 1, 1, 1, 2, 1, 2147483648}, 1, 10, 0, "no kind, the pixel would not fit"},
     {{1, 2, 0, 0, 0, 0, 100, 2, 0}, 3, 4, 0, "end day 0, start later"},
     {{7, 0, 0, 4000000000, 1000000000, 0, 100, 0, 0}, 3, 5, 0, "the end's tail too large, the end too far"},
     {{1, 0, 0, 2, 0, 0, 32768, 1, 0}, 3, 7, 0, "start day 0, high too large"},
@@ -192,7 +205,7 @@ static const struct mapping {
     {{4, 1, 0, 1, 0, 1, 2, 1, 1}, 9, 10, 0, "empty, and the Rust's quotient by zero saturates"},
 
     /* All at once, then mended one by one. */
-    {{8, 4000000005, -1, 4000000005, -2, 32768, 32769, 4000000000, -1}, 1, 3, 0, "all but 5"},
+    {{9, 4000000005, -1, 4000000005, -2, 32768, 32769, 4000000000, -1}, 1, 3, 0, "all but 5"},
     {{7, 4000000005, -1, 4000000005, -2, 32768, 32769, 4000000000, -1}, 3, 4, 0, "all but 1"},
     {{7, 4000000005, 1, 4000000005, 0, 32768, 32769, 4000000000, -1}, 4, 5, 0, "3 mended"},
     {{7, 4000000005, 0, 4000000005, 0, 32768, 32769, 4000000009, -1}, 5, 7, 0, "4 mended"},
@@ -204,7 +217,7 @@ static const struct mapping {
 };
 
 /* A tick list by its hint, bold count (-1: none, a bold hint) and N, and the length of the lent slice. An accepted one has its
-   first ticks beside it, up to three. Day 32 is 0001-02-01, 60 March 1, 738155 is 2021-12-31. */
+   first ticks beside it, up to three. Day 32 is 0001-02-01, 60 March 1, 738155 is 2021-12-31; 1, 8 and 15 are Mondays. */
 static const struct listing {
     int64_t in[5], bold, n;
     size_t lent;
@@ -219,8 +232,9 @@ static const struct listing {
     {{5, 1, 0, 60, 0}, -1, 2, 6, 0, 0, 3, {1, 0, 32, 0, 60, 0}, "kind 5"},
     {{6, 1, 0, 731, 0}, -1, 4, 6, 0, 0, 3, {1, 0, 366, 0, 731, 0}, "kind 6"},
     {{7, 0, 0, 3, 0}, -1, 3, 6, 0, 0, 3, {0, 0, 1, 0, 2, 0}, "kind 7: the end is not included"},
+    {{8, 1, 0, 15, 0}, -1, 2, 6, 0, 0, 3, {1, 0, 8, 0, 15, 0}, "kind 8: three Mondays, the end is included"},
     {{0, 1, 0, 3, 0}, -1, 2, 16, 1, 0, 0, {0}, "kind 0"},
-    {{8, 1, 0, 3, 0}, -1, 2, 16, 1, 0, 0, {0}, "kind 8"},
+    {{9, 1, 0, 3, 0}, -1, 2, 16, 1, 0, 0, {0}, "kind 9"},
     {{257, 1, 0, 3, 0}, -1, 2, 16, 1, 0, 0, {0}, "kind 1 in the low 8 bits"},
     {{4294967297, 1, 0, 3, 0}, 2, 2, 16, 1, 0, 0, {0}, "kind 1 in the low 32 bits, light"},
     {{INT64_MIN, 1, 0, 3, 0}, -1, 2, 16, 1, 0, 0, {0}, "the least kind"},
@@ -230,6 +244,10 @@ static const struct listing {
     {{1, 0, 0, 3, 0}, -1, 3, 16, 3, 0, 0, {0}, "day 0 as start"},
     {{1, 3652058, 0, 3652060, 0}, -1, 3, 16, 3, 0, 0, {0}, "10000-01-01 as end"},
     {{2, 1, 1, 60, 0}, -1, 3, 16, 3, 0, 0, {0}, "a date with a tail"},
+    {{8, 1, 0, 3652059, 0}, -1, 0, 2, 0, 0, 1, {1, 0}, "all weeks"},
+    {{8, 3652055, 0, 3652059, 0}, -1, 3, 2, 0, 0, 1, {3652055, 0}, "the last Monday"},
+    {{8, 0, 0, 15, 0}, -1, 3, 16, 3, 0, 0, {0}, "day 0 as start, kind 8"},
+    {{8, 1, 0, 15, 1}, 1, 3, 16, 3, 0, 0, {0}, "a date with a tail, kind 8, light"},
     {{4, 1, 86400000000000, 3, 0}, -1, 3, 16, 3, 0, 0, {0}, "24:00 as start"},
     {{4, 3652059, 86399999999998, 3652059, 86399999999999}, -1, 1, 2, 0, 0, 1, {3652059, 86399999999998},
      "the last nanosecond"},
@@ -239,7 +257,10 @@ static const struct listing {
     /* 4: the order. An empty axis has a list too. */
     {{1, 5, 0, 5, 0}, -1, 3, 2, 0, 0, 1, {5, 0}, "start and end equal, dates"},
     {{4, 5, 0, 5, 0}, -1, 3, 0, 0, 0, 0, {0}, "start and end equal, date-times"},
+    {{8, 8, 0, 8, 0}, -1, 3, 2, 0, 0, 1, {8, 0}, "start and end equal, a Monday"},
+    {{8, 9, 0, 9, 0}, -1, 3, 0, 0, 0, 0, {0}, "and a Tuesday"},
     {{1, 6, 0, 5, 0}, -1, 3, 16, 4, 0, 0, {0}, "start a day later"},
+    {{8, 9, 0, 8, 0}, -1, 3, 16, 4, 0, 0, {0}, "start a day later in its week"},
     {{4, 5, 1, 5, 0}, -1, 3, 16, 4, 0, 0, {0}, "start 1 ns later"},
     {{7, 0, 0, -1, 999999999}, 3, 3, 16, 4, 0, 0, {0}, "0 to -1 ns, light"},
 
@@ -260,6 +281,13 @@ static const struct listing {
     {{1, 1, 0, 3, 0}, -1, 4294967298, 16, 6, 0, 0, {0}, "N 2 in the low 32 bits"},
     {{1, 1, 0, 3, 0}, -1, INT64_MIN, 16, 6, 0, 0, {0}, "the least N"},
     {{3, 1, 0, 3, 0}, -1, 0, 2, 0, 0, 1, {1, 0}, "N 0 on kind 3"},
+    {{8, 2, 0, 99, 0}, -1, 0, 2, 0, 0, 1, {8, 0}, "N 0 on kind 8"},
+    {{8, 2, 0, 99, 0}, 5, 0, 2, 0, 0, 1, {8, 0}, "N 0 on kind 8, light"},
+    {{8, 1, 0, 15, 0}, -1, 4096, 6, 0, 0, 3, {1, 0, 8, 0, 15, 0}, "the largest N on kind 8"},
+    {{8, 1, 0, 15, 0}, -1, 4097, 16, 6, 0, 0, {0}, "one more"},
+    {{8, 1, 0, 15, 0}, 4096, 2, 6, 0, 0, 3, {1, 0, 8, 0, 15, 0}, "the largest bold count on kind 8"},
+    {{8, 1, 0, 15, 0}, 4097, 2, 16, 6, 0, 0, {0}, "one more"},
+    {{8, 1, 0, 15, 0}, 2, -1, 16, 6, 0, 0, {0}, "N -1 on kind 8, light"},
     {{4, 1, 0, 1, 3}, -1, 0, 16, 6, 0, 0, {0}, "N 0 on kind 4"},
     {{5, 1, 0, 60, 0}, -1, 0, 16, 6, 0, 0, {0}, "N 0 on kind 5"},
     {{6, 1, 0, 60, 0}, 5, 0, 16, 6, 0, 0, {0}, "N 0 on kind 6, light"},
@@ -277,6 +305,8 @@ static const struct listing {
     {{1, 1, 0, 3, 0}, -1, 2, 0, 11, 0, 0, {0}, "nothing lent"},
     {{1, 1, 0, 3, 0}, -1, 2, 16, 0, 0, 3, {1, 0, 2, 0, 3, 0}, "more than enough"},
     {{7, -1, 999999999, 0, 4}, 2, 1, 1, 11, 0, 0, {0}, "a light list, one number short"},
+    {{8, 1, 0, 15, 0}, -1, 2, 5, 11, 0, 0, {0}, "three Mondays, one number short"},
+    {{8, 1, 0, 15, 0}, 2, 2, 0, 11, 0, 0, {0}, "three Mondays, nothing lent, light"},
     {{5, 738155, 36000000000000, 738155, 43200000000000}, -1, 3, 0, 0, 0, 0, {0}, "2021-12-31 10:00 to 12:00 has no ticks"},
 
     /* Turns of the list itself. */
@@ -290,12 +320,21 @@ static const struct listing {
     {{3, 1, 0, 59, 0}, 1, 10, 18, 0, 0, 9, {1, 0, 8, 0, 15, 0}, "one year of two months: through both, weeks"},
     {{3, 1, 0, 60, 0}, 1, 10, 6, 0, 0, 3, {1, 0, 32, 0, 60, 0}, "one year of three: months"},
     {{7, -129600, 0, 9223366036, 854775808}, -1, 1, 4, 0, 0, 2, {0, 0, 8640000000, 0}, "from -1.5 days, beyond 64 bits: 0"},
+    {{8, 2, 0, 7, 0}, -1, 4096, 0, 0, 0, 0, {0}, "Tuesday to Sunday has no Monday"},
+    {{8, 2, 0, 8, 0}, -1, 4096, 2, 0, 0, 1, {8, 0}, "a day more: one"},
+    {{8, 2, 0, 28, 0}, -1, 2, 6, 0, 0, 3, {8, 0, 15, 0, 22, 0}, "three Mondays, N 2: each"},
+    {{8, 2, 0, 29, 0}, -1, 2, 4, 0, 0, 2, {8, 0, 22, 0}, "four: each second"},
+    {{8, 2, 0, 49, 0}, -1, 2, 6, 0, 0, 3, {8, 0, 22, 0, 36, 0}, "six: each second"},
+    {{8, 2, 0, 50, 0}, -1, 2, 6, 0, 0, 3, {8, 0, 29, 0, 50, 0}, "seven: each third"},
+    {{8, 2, 0, 29, 0}, 0, 2, 4, 0, 0, 2, {8, 0, 22, 0}, "a light hint counts by its limit: bold count 0"},
+    {{8, 2, 0, 29, 0}, 3, 2, 4, 0, 0, 2, {8, 0, 22, 0}, "and bold count 3, with a size of 5"},
+    {{8, 737850, 0, 737971, 0}, -1, 6, 12, 0, 0, 6, {737850, 0, 737871, 0, 737892, 0}, "2021-03-01 to 06-30, N 6: each third"},
 
     /* Two at once; 5 is asked of kind 7 only, so never with 1. */
-    {{8, 1, 0, 315576000001, 0}, -1, 3, 16, 1, 3, 0, {0}, "no kind, an end of no kind"},
-    {{8, 2, 0, 1, 0}, -1, 3, 16, 1, 4, 0, {0}, "no kind, start later"},
-    {{8, 1, 0, 2, 0}, -1, -1, 16, 1, 6, 0, {0}, "no kind, N -1"},
-    {{8, 1, 0, 2, 0}, -1, 3, 0, 1, 11, 0, {0}, "no kind, nothing lent"},
+    {{9, 1, 0, 315576000001, 0}, -1, 3, 16, 1, 3, 0, {0}, "no kind, an end of no kind"},
+    {{9, 2, 0, 1, 0}, -1, 3, 16, 1, 4, 0, {0}, "no kind, start later"},
+    {{9, 1, 0, 2, 0}, -1, -1, 16, 1, 6, 0, {0}, "no kind, N -1"},
+    {{9, 1, 0, 2, 0}, -1, 3, 0, 1, 11, 0, {0}, "no kind, nothing lent"},
     {{1, 2, 0, 0, 0}, -1, 3, 16, 3, 4, 0, {0}, "end day 0, start later"},
     {{7, 0, 0, 4000000000, 1000000000}, -1, 3, 16, 3, 5, 0, {0}, "the end's tail too large, the end too far"},
     {{1, 0, 0, 2, 0}, -1, 4097, 16, 3, 6, 0, {0}, "start day 0, N too large"},
@@ -309,7 +348,7 @@ static const struct listing {
     {{2, 1, 0, 3, 0}, -2, 2, 0, 6, 11, 0, {0}, "a bold count of -2, nothing lent"},
 
     /* All at once, then mended one by one. */
-    {{8, 4000000005, -1, 4000000005, -2}, -1, 0, 0, 1, 3, 0, {0}, "all but 5"},
+    {{9, 4000000005, -1, 4000000005, -2}, -1, 0, 0, 1, 3, 0, {0}, "all but 5"},
     {{7, 4000000005, -1, 4000000005, -2}, -1, 0, 0, 3, 4, 0, {0}, "all but 1"},
     {{7, 4000000005, 1, 4000000005, 0}, -1, 0, 0, 4, 5, 0, {0}, "3 mended"},
     {{7, 4000000005, 0, 4000000005, 1}, -1, 0, 0, 5, 6, 0, {0}, "4 mended"},
@@ -318,20 +357,25 @@ static const struct listing {
     {{7, 5, 0, 5, 1}, -1, 1, 2, 0, 0, 1, {5, 0}, "11 mended"},
 };
 
-/* Lists of segments: the same centres, kinds 1, 2, 3, 5 and 6 only; no count without a list. */
+/* Lists of segments: the same centres, kinds 1, 2, 3, 5, 6 and 8 only; no count without a list. */
 static const struct listing segment_listings[] = {
     {{1, 1, 0, 3, 0}, -1, 2, 6, 0, 0, 3, {1, 0, 2, 0, 3, 0}, "kind 1"},
     {{2, 1, 0, 60, 0}, -1, 2, 7, 0, 0, 3, {1, 0, 32, 0, 60, 0}, "kind 2, one number more lent"},
     {{3, 1, 0, 731, 0}, -1, 4, 6, 0, 0, 3, {1, 0, 366, 0, 731, 0}, "kind 3"},
     {{5, 1, 0, 60, 0}, -1, 2, 6, 0, 0, 3, {1, 0, 32, 0, 60, 0}, "kind 5"},
     {{6, 1, 0, 731, 0}, -1, 4, 6, 0, 0, 3, {1, 0, 366, 0, 731, 0}, "kind 6"},
+    {{8, 1, 0, 15, 0}, -1, 2, 6, 0, 0, 3, {1, 0, 8, 0, 15, 0}, "kind 8"},
+    {{8, 2, 0, 50, 0}, 0, 2, 6, 0, 0, 3, {8, 0, 29, 0, 50, 0}, "kind 8, light"},
+    {{8, 1, 0, 15, 0}, 2, 2, 5, 11, 0, 0, {0}, "kind 8, one number short, light"},
+    {{8, 2, 0, 99, 0}, -1, 0, 2, 0, 0, 1, {8, 0}, "N 0 on kind 8"},
+    {{8, 1, 0, 15, 0}, -1, 4097, 16, 6, 0, 0, {0}, "N too large on kind 8"},
     {{5, 738155, 36000000000000, 738155, 43200000000000}, -1, 3, 0, 0, 0, 0, {0}, "2021-12-31 10:00 to 12:00 has no ticks"},
     {{5, 737880, 36000000000000, 737880, 43200000000000}, 0, 2, 4, 0, 0, 2, {737880, 36000000000000, 737880, 39600000000000},
      "2021-03-31 10:00 to 12:00: hours, of the finer axis"},
     {{2, 1, 0, 59, 0}, 1, 10, 18, 0, 0, 9, {1, 0, 8, 0, 15, 0}, "size 2, bold count 1: weeks"},
     {{0, 1, 0, 3, 0}, -1, 2, 16, 1, 0, 0, {0}, "kind 0"},
     {{4294967297, 1, 0, 3, 0}, -1, 2, 16, 1, 0, 0, {0}, "kind 1 in the low 32 bits"},
-    {{8, 1, 0, 3, 0}, 2, 2, 16, 1, 0, 0, {0}, "kind 8, light"},
+    {{9, 1, 0, 3, 0}, 2, 2, 16, 1, 0, 0, {0}, "kind 9, light"},
     {{4, 1, 0, 1, 3}, -1, 3, 16, 2, 0, 0, {0}, "kind 4"},
     {{7, 0, 0, 3, 0}, -1, 3, 16, 2, 0, 0, {0}, "kind 7"},
     {{4, 1, 0, 1, 3}, 3, 3, 16, 2, 0, 0, {0}, "kind 4, light"},
@@ -348,10 +392,10 @@ static const struct listing segment_listings[] = {
     {{2, 1, 0, 3, 0}, 4096, 2, 0, 11, 0, 0, {0}, "nothing lent, light"},
 
     /* Two at once. */
-    {{8, 0, 0, 3, 0}, -1, 3, 16, 1, 3, 0, {0}, "no kind, start day 0"},
-    {{8, 2, 0, 1, 0}, 3, 3, 16, 1, 4, 0, {0}, "no kind, start later"},
-    {{8, 1, 0, 2, 0}, -1, -1, 16, 1, 6, 0, {0}, "no kind, N -1"},
-    {{8, 1, 0, 2, 0}, 3, 3, 0, 1, 11, 0, {0}, "no kind, nothing lent"},
+    {{9, 0, 0, 3, 0}, -1, 3, 16, 1, 3, 0, {0}, "no kind, start day 0"},
+    {{9, 2, 0, 1, 0}, 3, 3, 16, 1, 4, 0, {0}, "no kind, start later"},
+    {{9, 1, 0, 2, 0}, -1, -1, 16, 1, 6, 0, {0}, "no kind, N -1"},
+    {{9, 1, 0, 2, 0}, 3, 3, 0, 1, 11, 0, {0}, "no kind, nothing lent"},
     {{4, 0, 0, 3, 0}, -1, 3, 16, 2, 3, 0, {0}, "kind 4, start day 0"},
     {{7, 2, 0, 1, 0}, 3, 3, 16, 2, 4, 0, {0}, "kind 7, start later"},
     {{4, 1, 0, 2, 0}, -1, 0, 16, 2, 6, 0, {0}, "kind 4, N 0"},
@@ -381,13 +425,15 @@ static const struct period {
     {{7, -5000000000, 0, 4223372036, 854775808, 1}, -1, 0, 0, "beyond 64 bits, kind 7"},
     {{4, 1, 0, 3652059, 0, 4096}, -1, 0, 0, "beyond 64 bits, kind 4"},
     {{0, 1, 0, 2, 0, 1}, 1, 0, 0, "kind 0"},
-    {{8, 1, 0, 2, 0, 1}, 1, 0, 0, "kind 8"},
+    {{9, 1, 0, 2, 0, 1}, 1, 0, 0, "kind 9"},
     {{260, 1, 0, 2, 0, 1}, 1, 0, 0, "kind 4 in the low 8 bits"},
     {{1, 1, 0, 2, 0, 1}, 2, 0, 0, "kind 1"},
     {{2, 1, 0, 2, 0, 1}, 2, 0, 0, "kind 2"},
     {{3, 1, 0, 2, 0, 1}, 2, 0, 0, "kind 3"},
     {{5, 1, 0, 2, 0, 1}, 2, 0, 0, "kind 5"},
     {{6, 1, 0, 2, 0, 1}, 2, 0, 0, "kind 6"},
+    {{8, 1, 0, 2, 0, 1}, 2, 0, 0, "kind 8"},
+    {{8, 0, 0, 2, 0, 1}, 2, 3, 0, "kind 8, start day 0"},
     {{4, 0, 0, 2, 0, 1}, 3, 0, 0, "day 0 as start"},
     {{7, 0, 0, 0, 1000000000, 1}, 3, 0, 0, "a whole second as tail"},
     {{4, 2, 1, 2, 0, 1}, 4, 0, 0, "start 1 ns later"},
@@ -399,9 +445,9 @@ static const struct period {
     {{7, 0, 0, 1, 0, 4294967297}, 6, 0, 0, "N 1 in the low 32 bits"},
     {{4, 1, 0, 3652059, 0, 0}, 6, 0, 0, "6 is asked before there is none"},
 
-    {{8, 0, 0, 2, 0, 1}, 1, 3, 0, "no kind, start day 0"},
-    {{8, 2, 0, 1, 0, 1}, 1, 4, 0, "no kind, start later"},
-    {{8, 1, 0, 2, 0, 0}, 1, 6, 0, "no kind, N 0"},
+    {{9, 0, 0, 2, 0, 1}, 1, 3, 0, "no kind, start day 0"},
+    {{9, 2, 0, 1, 0, 1}, 1, 4, 0, "no kind, start later"},
+    {{9, 1, 0, 2, 0, 0}, 1, 6, 0, "no kind, N 0"},
     {{2, 0, 0, 2, 0, 1}, 2, 3, 0, "kind 2, start day 0"},
     {{2, 2, 0, 1, 0, 1}, 2, 4, 0, "kind 2, start later"},
     {{2, 1, 0, 2, 0, 4097}, 2, 6, 0, "kind 2, N too large"},
@@ -444,6 +490,35 @@ static const struct asking {
     {UNMAP, {4, 1, 0, 2, 0, 0, 100, 101}, 0, 0, {2, 864000000000}, "past the end"},
     {UNMAP, {4, 1, 5, 2, 0, 100, 0, 50}, 0, 0, {1, 5}, "swapped limits, a span under a day: the start"},
     {UNMAP, {5, 737880, 36000000000000, 737880, 43200000000000, 0, 100, 50}, 0, 0, {737881, 0}, "size 0: index 0"},
+    {UNMAP, {8, 737850, 0, 737863, 0, 0, 100, 49}, 0, 0, {737850, 0}, "two weeks: the first"},
+    {UNMAP, {8, 737850, 0, 737863, 0, 0, 100, 50}, 0, 0, {737857, 0}, "the second"},
+    {UNMAP, {8, 737850, 0, 737863, 0, 0, 100, 100}, 0, 0, {737864, 0}, "the high limit: the Monday past them"},
+    {UNMAP, {8, 737852, 0, 737863, 0, 0, 100, -1}, 0, 0, {737852, 0}, "from Wednesday: index 0 is the start"},
+    {UNMAP, {8, 737852, 0, 737863, 0, 100, 0, 50}, 0, 0, {737857, 0}, "then Mondays; swapped limits"},
+    {SIZE, {8, 1, 0, 7, 0}, 0, 0, {1}, "one week"},
+    {SIZE, {8, 7, 0, 8, 0}, 0, 0, {2}, "Sunday and Monday: two"},
+    {SIZE, {8, 1, 0, 3652059, 0}, 0, 0, {521723}, "all weeks"},
+    {INDEX_OF, {8, 10, 0, 30, 0, 8, 0}, 0, 0, {0}, "from Wednesday: the Monday before the start"},
+    {INDEX_OF, {8, 10, 0, 30, 0, 7, 0}, -1, 0, {0}, "the Sunday before that: none"},
+    {INDEX_OF, {8, 10, 0, 30, 0, 14, 0}, 0, 0, {0}, "the Sunday of the start's week"},
+    {INDEX_OF, {8, 10, 0, 30, 0, 15, 0}, 0, 0, {1}, "the Monday after it"},
+    {INDEX_OF, {8, 10, 0, 30, 0, 40, 0}, 0, 0, {4}, "past the end, kind 8"},
+    {INDEX_OF, {8, 1, 0, 2, 0, 3652059, 0}, 0, 0, {521722}, "the last week"},
+    {FROM_INDEX, {8, 10, 0, 30, 0, 0}, 0, 0, {10, 0}, "index 0, kind 8: the start, a Wednesday"},
+    {FROM_INDEX, {8, 10, 0, 30, 0, 1}, 0, 0, {15, 0}, "then Mondays"},
+    {FROM_INDEX, {8, 10, 0, 30, 0, 4}, 0, 0, {36, 0}, "past the end, kind 8"},
+    {FROM_INDEX, {8, 1, 0, 2, 0, 521722}, 0, 0, {3652055, 0}, "the last Monday"},
+    {NEXT, {8, 10, 0, 30, 0, 8, 0}, 0, 0, {15, 0}, "from the start's Monday"},
+    {NEXT, {8, 10, 0, 30, 0, 28, 0}, 0, 0, {29, 0}, "to the last week"},
+    {NEXT, {8, 10, 0, 30, 0, 29, 0}, -1, 0, {0}, "after the last week: none"},
+    {NEXT, {8, 10, 0, 30, 0, 7, 0}, -1, 0, {0}, "before the start's week: none"},
+    {PREVIOUS, {8, 10, 0, 30, 0, 15, 0}, 0, 0, {10, 0}, "to the start, a Wednesday"},
+    {PREVIOUS, {8, 10, 0, 30, 0, 14, 0}, -1, 0, {0}, "in the start's week: none"},
+    {PREVIOUS, {8, 10, 0, 30, 0, 7, 0}, -1, 0, {0}, "before the start's week: none"},
+    {PREVIOUS, {8, 10, 0, 30, 0, 3652059, 0}, 0, 0, {3652048, 0}, "from past the end, kind 8"},
+    {VALUES, {8, 10, 0, 15, 0, 0}, 0, 0, {10, 0, 1}, "the start, kind 8"},
+    {VALUES, {8, 10, 0, 15, 0, 1}, 0, 0, {15, 0, 2}, "the last, kind 8"},
+    {VALUES, {8, 10, 0, 15, 0, 2}, -1, 0, {0, 0, 2}, "at the size, kind 8: none"},
     {SIZE, {1, 5, 0, 5, 0}, 0, 0, {1}, "one day"},
     {SIZE, {2, 1, 0, 60, 0}, 0, 0, {3}, "three months"},
     {SIZE, {3, 365, 0, 366, 0}, 0, 0, {2}, "two years"},
@@ -477,7 +552,7 @@ static const struct asking {
 
     /* 1 and 2: the kind. */
     {UNMAP | SIZE | BY_VALUE | BY_INDEX, {0, 1, 0, 2, 0, 1, 0}, 1, 0, {0}, "kind 0"},
-    {UNMAP | SIZE | BY_VALUE | BY_INDEX, {8, 1, 0, 2, 0, 1, 0}, 1, 0, {0}, "kind 8"},
+    {UNMAP | SIZE | BY_VALUE | BY_INDEX, {9, 1, 0, 2, 0, 1, 0}, 1, 0, {0}, "kind 9"},
     {UNMAP | SIZE | BY_VALUE | BY_INDEX, {4294967297, 1, 0, 2, 0, 1, 0}, 1, 0, {0}, "kind 1 in the low 32 bits"},
     {UNMAP | SIZE | BY_VALUE | BY_INDEX, {7, 1, 0, 2, 0, 1, 0}, 2, 0, {0}, "kind 7"},
     {SIZE | BY_VALUE | BY_INDEX, {4, 1, 0, 2, 0, 1, 0}, 2, 0, {0}, "kind 4"},
@@ -487,12 +562,16 @@ static const struct asking {
     {UNMAP | SIZE | BY_VALUE | BY_INDEX, {2, 1, 0, 3652060, 0, 1, 0}, 3, 0, {0}, "10000-01-01 as end"},
     {UNMAP | SIZE | BY_VALUE | BY_INDEX, {3, 1, 1, 2, 0, 1, 0}, 3, 0, {0}, "a date with a tail"},
     {UNMAP | SIZE | BY_VALUE | BY_INDEX, {6, 1, 0, 2, 86400000000000, 1, 0}, 3, 0, {0}, "24:00 as end"},
+    {UNMAP | SIZE | BY_VALUE | BY_INDEX, {8, 1, 0, 3652060, 0, 1, 0}, 3, 0, {0}, "10000-01-01 as end, kind 8"},
+    {UNMAP | SIZE | BY_VALUE | BY_INDEX, {8, 1, 1, 2, 0, 1, 0}, 3, 0, {0}, "a date with a tail, kind 8"},
     {UNMAP | SIZE | BY_VALUE | BY_INDEX, {1, 2, 0, 1, 0, 1, 0}, 4, 0, {0}, "start later"},
+    {UNMAP | SIZE | BY_VALUE | BY_INDEX, {8, 2, 0, 1, 0, 1, 0}, 4, 0, {0}, "start later in its week"},
     {UNMAP | SIZE | BY_VALUE | BY_INDEX, {5, 1, 1, 1, 0, 1, 0}, 4, 0, {0}, "start 1 ns later"},
 
     /* 7: limits and pixel. */
     {UNMAP, {1, 1, 0, 2, 0, 5, 5, 5}, 7, 0, {0}, "equal limits"},
     {UNMAP, {4, 1, 0, 2, 0, 5, 5, 5}, 7, 0, {0}, "equal limits, kind 4"},
+    {UNMAP, {8, 1, 0, 2, 0, 5, 5, 5}, 7, 0, {0}, "equal limits, kind 8"},
     {UNMAP, {1, 1, 0, 2, 0, -32768, 0, 0}, 7, 0, {0}, "low one less"},
     {UNMAP, {1, 1, 0, 2, 0, 0, 32768, 0}, 7, 0, {0}, "high one more"},
     {UNMAP, {1, 1, 0, 2, 0, 0, 1, 32768}, 7, 0, {0}, "the pixel one more"},
@@ -504,6 +583,10 @@ static const struct asking {
     {BY_VALUE, {1, 1, 0, 2, 0, 3652060, 0}, 8, 0, {0}, "10000-01-01"},
     {BY_VALUE, {2, 1, 0, 2, 0, 1, 1}, 8, 0, {0}, "a date with a tail"},
     {BY_VALUE, {5, 1, 0, 2, 0, 1, 86400000000000}, 8, 0, {0}, "24:00"},
+    {BY_VALUE, {8, 1, 0, 2, 0, 0, 0}, 8, 0, {0}, "day 0, kind 8"},
+    {BY_VALUE, {8, 1, 0, 2, 0, 1, 1}, 8, 0, {0}, "a date with a tail, kind 8"},
+    {BY_INDEX, {8, 1, 0, 2, 0, -1}, 8, 0, {0}, "-1, kind 8"},
+    {BY_INDEX, {8, 1, 0, 2, 0, 3652060}, 8, 0, {0}, "one more than the largest, kind 8"},
     {BY_INDEX, {1, 1, 0, 2, 0, -1}, 8, 0, {0}, "-1"},
     {BY_INDEX, {1, 1, 0, 2, 0, 3652060}, 8, 0, {0}, "one more than the largest"},
     {BY_INDEX, {1, 1, 0, 2, 0, 4294967296}, 8, 0, {0}, "0 in its low 32 bits"},
@@ -514,6 +597,11 @@ static const struct asking {
     {FROM_INDEX, {2, 3652059, 0, 3652059, 0, 1}, 10, 0, {0}, "10000-01"},
     {FROM_INDEX, {3, 3652059, 0, 3652059, 0, 1}, 10, 0, {0}, "the year 10000"},
     {FROM_INDEX, {3, 1, 0, 2, 0, 3652059}, 10, 0, {0}, "a year that chrono has not"},
+    {FROM_INDEX, {8, 1, 0, 2, 0, 521723}, 10, 0, {0}, "the Monday after the last"},
+    {FROM_INDEX, {8, 3652059, 0, 3652059, 0, 0}, 0, 0, {3652059, 0}, "the last day, a Friday"},
+    {FROM_INDEX, {8, 3652059, 0, 3652059, 0, 1}, 10, 0, {0}, "the Monday after it"},
+    {FROM_INDEX, {8, 1, 0, 2, 0, 3652059}, 10, 0, {0}, "the largest index, kind 8"},
+    {UNMAP, {8, 1, 0, 3652059, 0, 0, 1, 1}, 10, 0, {0}, "one past the last week"},
     {FROM_INDEX, {6, LAST_NOON, 0}, 10, 0, {0}, "the ceiling's year"},
     {BY_INDEX, {5, LAST_NOON, 0}, 10, 0, {0}, "the ceiling itself"},
     {NEXT, {5, LAST_NOON, 1, 0}, 10, 0, {0}, "10000-02-01"},
@@ -526,15 +614,15 @@ static const struct asking {
     {UNMAP, {4, 1, 0, 3652059, 0, 0, 1, 32767}, 10, 0, {0}, "days that chrono has not"},
 
     /* Two at once. */
-    {UNMAP | SIZE | BY_VALUE | BY_INDEX, {8, 0, 0, 2, 0, 1, 0}, 1, 3, {0}, "no kind, start day 0"},
-    {UNMAP | SIZE | BY_VALUE | BY_INDEX, {8, 2, 0, 1, 0, 1, 0}, 1, 4, {0}, "no kind, start later"},
-    {UNMAP, {8, 1, 0, 2, 0, 5, 5, 5}, 1, 7, {0}, "no kind, equal limits"},
-    {BY_VALUE, {8, 1, 0, 2, 0, 1, -1}, 1, 8, {0}, "no kind, a value of no kind"},
-    {BY_INDEX, {8, 1, 0, 2, 0, -1}, 1, 8, {0}, "no kind, index -1"},
-    {UNMAP, {8, LAST_NOON, 0, 12, 0}, 1, 10, {0}, "no kind, no date"},
-    {NEXT, {8, LAST_NOON, 1, 0}, 1, 10, {0}, "no kind, no date"},
-    {PREVIOUS, {8, LAST_NOON, 32, 0}, 1, 10, {0}, "no kind, no date"},
-    {BY_INDEX, {8, LAST_NOON, 0}, 1, 10, {0}, "no kind, no date"},
+    {UNMAP | SIZE | BY_VALUE | BY_INDEX, {9, 0, 0, 2, 0, 1, 0}, 1, 3, {0}, "no kind, start day 0"},
+    {UNMAP | SIZE | BY_VALUE | BY_INDEX, {9, 2, 0, 1, 0, 1, 0}, 1, 4, {0}, "no kind, start later"},
+    {UNMAP, {9, 1, 0, 2, 0, 5, 5, 5}, 1, 7, {0}, "no kind, equal limits"},
+    {BY_VALUE, {9, 1, 0, 2, 0, 1, -1}, 1, 8, {0}, "no kind, a value of no kind"},
+    {BY_INDEX, {9, 1, 0, 2, 0, -1}, 1, 8, {0}, "no kind, index -1"},
+    {UNMAP, {9, LAST_NOON, 0, 12, 0}, 1, 10, {0}, "no kind, no date"},
+    {NEXT, {9, LAST_NOON, 1, 0}, 1, 10, {0}, "no kind, no date"},
+    {PREVIOUS, {9, LAST_NOON, 32, 0}, 1, 10, {0}, "no kind, no date"},
+    {BY_INDEX, {9, LAST_NOON, 0}, 1, 10, {0}, "no kind, no date"},
     {UNMAP | SIZE | BY_VALUE | BY_INDEX, {7, 0, -1, 2, 0, 1, 0}, 2, 3, {0}, "kind 7, a tail below 0"},
     {UNMAP | SIZE | BY_VALUE | BY_INDEX, {7, 2, 0, 1, 0, 1, 0}, 2, 4, {0}, "kind 7, start later"},
     {UNMAP, {7, 1, 0, 2, 0, 5, 5, 5}, 2, 7, {0}, "kind 7, equal limits"},
@@ -585,6 +673,19 @@ static const struct asking {
     {SEGMENT_MAP, {2, 737425, 0, 737790, 0, 0, 120, 2, 737060, 0}, 0, 0, {-50}, "2019-01-01 on 2020: its follower 2020-02-01"},
     {SEGMENT_MAP, {5, LAST_NOON, 0, 100, 2, 3652059, 36000000000000}, 0, 0, {4}, "9999-12-31: index 11, no follower"},
     {SEGMENT_MAP, {5, LAST_NOON, 0, 100, 1, 3652059, 43200000000000}, 0, 0, {92}, "its end"},
+    {SEGMENT_MAP, {8, 1, 0, 15, 0, 0, 90, 1, 8, 0}, 0, 0, {30}, "three weeks: the margin is 30, the second's Monday"},
+    {SEGMENT_MAP, {8, 1, 0, 15, 0, 0, 90, 2, 8, 0}, 0, 0, {45}, "its centre"},
+    {SEGMENT_MAP, {8, 1, 0, 15, 0, 0, 90, 2, 10, 0}, 0, 0, {49}, "midway from its Wednesday to the next Monday"},
+    {SEGMENT_MAP, {8, 1, 0, 15, 0, 0, 90, 2, 15, 0}, 0, 0, {75}, "the centre of the third"},
+    {SEGMENT_MAP, {8, 1, 0, 15, 0, 0, 90, 3, 0, 0}, 0, 0, {90}, "the last, kind 8"},
+    {SEGMENT_SIZE, {8, 7, 0, 8, 0}, 0, 0, {3}, "two weeks and the last"},
+    {SEGMENT_INDEX_OF, {8, 10, 0, 30, 0, 2, 8, 0}, 0, 0, {0}, "the Monday before the start"},
+    {SEGMENT_INDEX_OF, {8, 10, 0, 30, 0, 1, 7, 0}, -1, 0, {0}, "the Sunday before that: none"},
+    {SEGMENT_INDEX_OF, {8, 10, 0, 30, 0, 3, 0, 0}, 0, 0, {4}, "the last: the size, kind 8"},
+    {SEGMENT_FROM_INDEX, {8, 10, 0, 30, 0, 0}, 0, 0, {1, 10, 0}, "the start, a Wednesday"},
+    {SEGMENT_FROM_INDEX, {8, 10, 0, 30, 0, 3}, 0, 0, {1, 29, 0}, "the last week"},
+    {SEGMENT_FROM_INDEX, {8, 10, 0, 30, 0, 4}, 0, 0, {3, 0, 0}, "at the size, kind 8: the last"},
+    {SEGMENT_FROM_INDEX, {8, 10, 0, 30, 0, 5}, -1, 0, {0}, "beyond it, kind 8: none"},
     {SEGMENT_SIZE, {1, 5, 0, 5, 0}, 0, 0, {2}, "one day and the last"},
     {SEGMENT_SIZE, {1, 1, 0, 3652059, 0}, 0, 0, {3652060}, "all days and the last"},
     {SEGMENT_SIZE, {5, 737880, 36000000000000, 737880, 43200000000000}, 0, 0, {1}, "size 0: the last only"},
@@ -607,7 +708,7 @@ static const struct asking {
 
     /* Segments, 1 to 4. */
     {SEGMENTS, {0, 1, 0, 2, 0, FOR_SEGMENTS}, 1, 0, {0}, "kind 0"},
-    {SEGMENTS, {8, 1, 0, 2, 0, FOR_SEGMENTS}, 1, 0, {0}, "kind 8"},
+    {SEGMENTS, {9, 1, 0, 2, 0, FOR_SEGMENTS}, 1, 0, {0}, "kind 9"},
     {SEGMENTS, {4294967297, 1, 0, 2, 0, FOR_SEGMENTS}, 1, 0, {0}, "kind 1 in the low 32 bits"},
     {SEGMENTS, {4, 1, 0, 2, 0, FOR_SEGMENTS}, 2, 0, {0}, "kind 4"},
     {SEGMENTS, {7, 1, 0, 2, 0, FOR_SEGMENTS}, 2, 0, {0}, "kind 7"},
@@ -615,7 +716,9 @@ static const struct asking {
     {SEGMENTS, {2, 1, 0, 3652060, 0, FOR_SEGMENTS}, 3, 0, {0}, "10000-01-01 as end"},
     {SEGMENTS, {3, 1, 1, 2, 0, FOR_SEGMENTS}, 3, 0, {0}, "a date with a tail"},
     {SEGMENTS, {6, 1, 0, 2, 86400000000000, FOR_SEGMENTS}, 3, 0, {0}, "24:00 as end"},
+    {SEGMENTS, {8, 1, 0, 2, 1, FOR_SEGMENTS}, 3, 0, {0}, "a date with a tail, kind 8"},
     {SEGMENTS, {1, 2, 0, 1, 0, FOR_SEGMENTS}, 4, 0, {0}, "start later"},
+    {SEGMENTS, {8, 2, 0, 1, 0, FOR_SEGMENTS}, 4, 0, {0}, "start later in its week"},
     {SEGMENTS, {5, 1, 1, 1, 0, FOR_SEGMENTS}, 4, 0, {0}, "start 1 ns later"},
 
     /* Segments, 7: the limits. */
@@ -633,6 +736,11 @@ static const struct asking {
     {SEGMENT_MAP, {1, 1, 0, 2, 0, 0, 100, 2, 3652060, 0}, 8, 0, {0}, "the centre of 10000-01-01"},
     {SEGMENT_MAP, {2, 1, 0, 2, 0, 0, 100, 2, 1, 1}, 8, 0, {0}, "a date with a tail"},
     {SEGMENT_MAP, {5, 1, 0, 2, 0, 0, 100, 1, 1, 86400000000000}, 8, 0, {0}, "24:00"},
+    {SEGMENT_MAP, {8, 1, 0, 2, 0, 0, 100, 2, 1, 1}, 8, 0, {0}, "a date with a tail, kind 8"},
+    {SEGMENT_MAP, {8, 5, 0, 5, 0, 0, 100, 1, 6, 0}, 9, 0, {0}, "empty, a day later in its week"},
+    {SEGMENT_MAP, {8, 7, 0, 8, 0, 1, 32767, 2, 3652059, 0}, 10, 0, {0}, "the cast saturates, low 1, kind 8"},
+    {SEGMENT_INDEX_OF, {8, 1, 0, 2, 0, 4, 1, 0}, 8, 0, {0}, "segment 4, kind 8"},
+    {SEGMENT_FROM_INDEX, {8, 1, 0, 2, 0, 3652060}, 8, 0, {0}, "one more than the largest, kind 8"},
     {SEGMENT_INDEX_OF, {1, 1, 0, 2, 0, 0, 1, 0}, 8, 0, {0}, "segment 0"},
     {SEGMENT_INDEX_OF, {1, 1, 0, 2, 0, 4, 1, 0}, 8, 0, {0}, "segment 4"},
     {SEGMENT_INDEX_OF, {1, 1, 0, 2, 0, INT64_MIN, 1, 0}, 8, 0, {0}, "the least number as segment"},
@@ -666,15 +774,15 @@ static const struct asking {
     {SEGMENT_FROM_INDEX, {5, LAST_NOON, 11}, 10, 0, {0}, "10000-12-01"},
 
     /* Segments, two at once. */
-    {SEGMENTS, {8, 0, 0, 2, 0, FOR_SEGMENTS}, 1, 3, {0}, "no kind, start day 0"},
-    {SEGMENTS, {8, 2, 0, 1, 0, FOR_SEGMENTS}, 1, 4, {0}, "no kind, start later"},
-    {SEGMENT_MAP, {8, 1, 0, 2, 0, 0, 32768, 1, 1, 0}, 1, 7, {0}, "no kind, high one more"},
-    {SEGMENT_MAP, {8, 1, 0, 2, 0, 0, 100, 4, 1, 0}, 1, 8, {0}, "no kind, segment 4"},
-    {SEGMENT_INDEX_OF, {8, 1, 0, 2, 0, 4, 1, 0}, 1, 8, {0}, "no kind, segment 4"},
-    {SEGMENT_FROM_INDEX, {8, 1, 0, 2, 0, -1}, 1, 8, {0}, "no kind, index -1"},
-    {SEGMENT_MAP, {8, 1, 0, 1, 0, 0, 100, 1, 2, 0}, 1, 9, {0}, "no kind, empty"},
-    {SEGMENT_MAP, {8, LAST_NOON, 0, 100, 2, 1, 0}, 1, 10, {0}, "no kind, no date if it were 5"},
-    {SEGMENT_FROM_INDEX, {8, LAST_NOON, 0}, 1, 10, {0}, "no kind, no date if it were 5"},
+    {SEGMENTS, {9, 0, 0, 2, 0, FOR_SEGMENTS}, 1, 3, {0}, "no kind, start day 0"},
+    {SEGMENTS, {9, 2, 0, 1, 0, FOR_SEGMENTS}, 1, 4, {0}, "no kind, start later"},
+    {SEGMENT_MAP, {9, 1, 0, 2, 0, 0, 32768, 1, 1, 0}, 1, 7, {0}, "no kind, high one more"},
+    {SEGMENT_MAP, {9, 1, 0, 2, 0, 0, 100, 4, 1, 0}, 1, 8, {0}, "no kind, segment 4"},
+    {SEGMENT_INDEX_OF, {9, 1, 0, 2, 0, 4, 1, 0}, 1, 8, {0}, "no kind, segment 4"},
+    {SEGMENT_FROM_INDEX, {9, 1, 0, 2, 0, -1}, 1, 8, {0}, "no kind, index -1"},
+    {SEGMENT_MAP, {9, 1, 0, 1, 0, 0, 100, 1, 2, 0}, 1, 9, {0}, "no kind, empty"},
+    {SEGMENT_MAP, {9, LAST_NOON, 0, 100, 2, 1, 0}, 1, 10, {0}, "no kind, no date if it were 5"},
+    {SEGMENT_FROM_INDEX, {9, LAST_NOON, 0}, 1, 10, {0}, "no kind, no date if it were 5"},
     {SEGMENTS, {4, 0, 0, 2, 0, FOR_SEGMENTS}, 2, 3, {0}, "kind 4, start day 0"},
     {SEGMENTS, {4, 2, 0, 1, 0, FOR_SEGMENTS}, 2, 4, {0}, "kind 4, start later"},
     {SEGMENT_MAP, {4, 1, 0, 2, 0, 0, 32768, 1, 1, 0}, 2, 7, {0}, "kind 4, high one more"},
@@ -743,6 +851,60 @@ static const struct dating {
     {1, 0, 1, 1, 1, "the first day"},
     {3652059, 0, 9999, 12, 31, "the last day"},
     {730179, 0, 2000, 2, 29, "a leap day"},
+    {0, 8, 0, 0, 0, "day 0"},
+    {-1, 8, 0, 0, 0, "day -1"},
+    {3652060, 8, 0, 0, 0, "10000-01-01"},
+    {4294967297, 8, 0, 0, 0, "day 1 in the low 32 bits"},
+    {INT64_MIN, 8, 0, 0, 0, "the least number"},
+    {INT64_MAX, 8, 0, 0, 0, "the largest number"},
+};
+
+/* Year, week and weekday. 13 is asked before 10. */
+static const struct week_numbering {
+    int64_t in[3], status, also, number;
+    const char *why;
+} week_numberings[] = {
+    {{1, 1, 1}, 0, 0, 1, "the first day"},
+    {{9999, 52, 5}, 0, 0, 3652059, "the last day"},
+    {{1976, 53, 6}, 0, 0, 721720, "1977-01-01"},
+    {{2009, 1, 1}, 0, 0, 733405, "2008-12-29"},
+    {{2009, 53, 7}, 0, 0, 733775, "2010-01-03"},
+    {{2020, 53, 4}, 0, 0, 737790, "2020-12-31"},
+    {{4, 53, 5}, 0, 0, 1461, "0004-12-31"},
+    {{0, 1, 1}, 13, 0, 0, "year 0"},
+    {{-1, 1, 1}, 13, 0, 0, "year -1"},
+    {{10000, 1, 1}, 13, 10, 0, "year 10000, a day that is none"},
+    {{4294967297, 1, 1}, 13, 0, 0, "year 1 in the low 32 bits"},
+    {{2021, 0, 1}, 13, 0, 0, "week 0"},
+    {{2021, 52, 7}, 0, 0, 738157, "2022-01-02"},
+    {{2021, 53, 1}, 13, 0, 0, "week 53 of a year that has 52"},
+    {{2020, 54, 1}, 13, 0, 0, "week 54"},
+    {{2021, 4294967297, 1}, 13, 0, 0, "week 1 in the low 32 bits"},
+    {{2021, 1, 0}, 13, 0, 0, "weekday 0"},
+    {{2021, 1, 7}, 0, 0, 737800, "weekday 7"},
+    {{2021, 1, 8}, 13, 0, 0, "weekday 8"},
+    {{2021, 1, 257}, 13, 0, 0, "weekday 1 in the low 8 bits"},
+    {{9999, 52, 6}, 10, 0, 0, "the day after the last"},
+    {{9999, 52, 7}, 10, 0, 0, "the day after that"},
+    {{9999, 52, 8}, 13, 10, 0, "weekday 8, a day that is none"},
+    {{9999, 53, 1}, 13, 10, 0, "week 53 of 9999, which has 52, a day that is none"},
+    {{9999, 53, 6}, 13, 10, 0, "the same, weekday 6"},
+    {{INT64_MIN, INT64_MIN, INT64_MIN}, 13, 0, 0, "the least numbers"},
+    {{INT64_MAX, INT64_MAX, INT64_MAX}, 13, 10, 0, "the largest numbers"},
+};
+
+static const struct week_dating {
+    int64_t number, status, year, week, weekday;
+    const char *why;
+} week_datings[] = {
+    {1, 0, 1, 1, 1, "the first day"},
+    {3652059, 0, 9999, 52, 5, "the last day"},
+    {365, 0, 2, 1, 1, "0001-12-31"},
+    {721720, 0, 1976, 53, 6, "1977-01-01"},
+    {733405, 0, 2009, 1, 1, "2008-12-29"},
+    {733775, 0, 2009, 53, 7, "2010-01-03"},
+    {737790, 0, 2020, 53, 4, "2020-12-31"},
+    {737794, 0, 2021, 1, 1, "2021-01-04"},
     {0, 8, 0, 0, 0, "day 0"},
     {-1, 8, 0, 0, 0, "day -1"},
     {3652060, 8, 0, 0, 0, "10000-01-01"},
@@ -945,8 +1107,23 @@ int main(void) {
         bool same = r.status == row->status && r.year == row->year && r.month == row->month && r.day == row->day;
         expect(same, "ordered_date_of", row->why);
     }
+    struct seen weeks = {0};
+    for (int i = 0; i < COUNT(week_numberings); i++) {
+        const struct week_numbering *row = &week_numberings[i];
+        ordered_number r = ordered_week_day_number(row->in[0], row->in[1], row->in[2]);
+        see(&weeks, row->status, row->also);
+        expect(r.status == row->status && r.value == row->number, "ordered_week_day_number", row->why);
+    }
+    expect_all_covered("ordered_week_day_number", &weeks, (const int[]){13, 10}, 2);
+    for (int i = 0; i < COUNT(week_datings); i++) {
+        const struct week_dating *row = &week_datings[i];
+        ordered_week_date r = ordered_week_date_of(row->number);
+        bool same = r.status == row->status && r.year == row->year && r.week == row->week && r.weekday == row->weekday;
+        expect(same, "ordered_week_date_of", row->why);
+    }
     printf("refusals: %d mappings, %d lists and their counts, %d lists of segments, %d periods, %d of unmapping, indices and "
-           "segments, %d dates, %d day numbers, %d differences\n", COUNT(mappings), COUNT(listings), COUNT(segment_listings),
-           COUNT(periods), index_calls, COUNT(numberings), COUNT(datings), differences);
+           "segments, %d dates, %d day numbers, %d week dates and their day numbers, %d differences\n", COUNT(mappings),
+           COUNT(listings), COUNT(segment_listings), COUNT(periods), index_calls, COUNT(numberings), COUNT(datings),
+           COUNT(week_numberings) + COUNT(week_datings), differences);
     return differences > 0;
 }

@@ -11,16 +11,17 @@
 #include "operations.h"
 
 /* BEHIND: the longest lent slice has that many numbers more than the list, and as many stand behind it, not lent. */
-enum { BEHIND = 7, KINDS = 8, QUESTIONS = 13, SHOWN = 5, SHOWN_NUMBERS = 12, SHOWN_BYTES = 160 };
+enum { BEHIND = 7, KINDS = 8, QUESTIONS = 14, SHOWN = 5, SHOWN_NUMBERS = 12, SHOWN_BYTES = 160 };
 
-static int64_t lines, equal, nones, refused[QUESTIONS], panics, beyond, differences, unread;
+static int64_t lines, equal, nones, refused[QUESTIONS], panics, beyond, left_out, differences, unread;
 static int64_t doubtful, apart; /* within the logarithm's rounding; of these, the Rust says otherwise */
 static int64_t lists, ticks, calls, short_calls; /* accepted lists; calls of list and count; those that 11 refuses */
 
 /* What a line comes to: equal, or a section of docs/DIFFERENCES.md, or no explanation; refusals of what the Rust cannot be
-   asked are compared with document 01 only. */
-enum outcome { EQUAL, NARROWER, PANIC, LOGARITHM, WRAPPED, UNEXPLAINED, UNASKED, OUTCOMES };
-static const char *const outcomes[] = {"equal", "narrower", "panic", "logarithm", "wrapped", "unexplained", "unasked"};
+   asked are compared with document 01 only, and what kind 8 answers, which the Rust lacks, is left out. */
+enum outcome { EQUAL, NARROWER, PANIC, LOGARITHM, WRAPPED, UNEXPLAINED, UNASKED, LEFT_OUT, OUTCOMES };
+static const char *const outcomes[] = {"equal",   "narrower",    "panic",   "logarithm",
+                                       "wrapped", "unexplained", "unasked", "left-out"};
 
 /* The lines by operation, kind (0: none of 1 to 7), outcome and the question that refused (0: none did). */
 static int64_t tally[ROWS][KINDS][OUTCOMES][QUESTIONS];
@@ -91,6 +92,11 @@ static bool replay(const char *request, const char *answer) {
 
     /* What the archive must say: document 01's refusal or its own answer, else what the oracle said. */
     int64_t number = row->refusal(in);
+    bool with_axis = row->arguments >= 5;
+    if (skip && !number && with_axis && in[0] == 8) {
+        tally[row - rows][0][LEFT_OUT][0]++, left_out++;
+        return true;
+    }
     int exact_count = !number && row->exact ? row->exact(in, exact) : 0;
     int count = row->call ? row->call(in, got) : number ? 2 : exact_count ? exact_count : told_count;
     bool known = true, unfit = !number && told_count && row->fits && !row->fits(in, told + 1);
@@ -122,7 +128,7 @@ static bool replay(const char *request, const char *answer) {
                            : rounded     ? LOGARITHM
                            : want[0] > 0 ? NARROWER
                                          : EQUAL;
-    bool on_axis = row->arguments >= 5 && in_range(1, in[0], 7);
+    bool on_axis = with_axis && in_range(1, in[0], 7);
     tally[row - rows][on_axis ? in[0] : 0][outcome][same && want[0] > 0 ? want[0] : 0]++;
     if (!same) {
         if (differences++ < SHOWN) {
@@ -246,6 +252,8 @@ int main(int argc, char **argv) {
             printf("%s%d: %" PRId64, shown++ ? ", " : " (", i, refused[i]);
     printf("%s, %" PRId64 " panics and %" PRId64 " far dates answered 10, %" PRId64 " differences\n", by_document ? ")" : "",
            panics, beyond, differences);
+    if (left_out)
+        printf("replay: left out, since the Rust lacks kind 8: %" PRId64 "\n", left_out);
     if (nones)
         printf("replay: of the equal ones, %" PRId64 " are none\n", nones);
     if (lists)

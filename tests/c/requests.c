@@ -1,6 +1,6 @@
-/* Prints requests for the oracle and the archive, one to a line: requests OPERATION SEED COUNT. As `requests operations`
-   it prints the operations' names. The same seed gives the same lines. Boundaries come often; about one request in ten is
-   one that must be refused. */
+/* Prints requests for the oracle and the archive, one to a line: requests OPERATION SEED COUNT [KIND]. As `requests operations`
+   it prints the operations' names, as `requests rust` those that the Rust has. The same seed gives the same lines. Boundaries
+   come often; about one request in ten is one that must be refused. */
 #include <inttypes.h>
 #include <stdbool.h>
 #include <stdio.h>
@@ -9,6 +9,13 @@
 
 #include "draw.h"
 #include "months.h"
+
+/* The one kind that is drawn; 0: all that the Rust has, 1 to 7. */
+static int64_t only;
+
+static int64_t kind_of(int64_t drawn) {
+    return only ? only : drawn;
+}
 
 /* Each part below is spoilt by its own chance, so that two questions say no at once now and then. */
 static void print_axis(axis a) {
@@ -22,7 +29,7 @@ static void print_axis(axis a) {
         start = spoilt(kind, start);
     if (chance(80))
         end = spoilt(kind, end);
-    if (chance(60)) /* question 1 */
+    if (chance(60)) /* question 1, but for 8, which the Rust lacks */
         kind = ONE_OF(0, -1, 8, 9, -7, kind + 8, kind + 256, kind + (INT64_C(1) << 32), INT64_MIN, INT64_MAX);
     printf(" %" PRId64 " %" PRId64 " %" PRId64 " %" PRId64 " %" PRId64, kind, start.head, start.tail, end.head,
            end.tail);
@@ -47,13 +54,13 @@ static axis whole_position(int64_t kind, int64_t *low, int64_t *high, wide *plac
     int64_t steps = ONE_OF(1, 1, 2, 3, 5, 9, 27, 45, 100, 135, from(1, 1000)), width = from(1, 65534 / steps) * steps;
     if (chance(8))
         steps = 1, width = ONE_OF(62021, 65534, 62021 / 2);
-    wide step = kind <= 3 ? DAY : ONE_OF(1, 1000, 1000000, SECOND, 60 * SECOND, HOUR, DAY);
-    wide most = kind <= 6 ? (wide)106753 * DAY : (wide)2 * NEAR;
+    wide step = of_dates(kind) ? DAY : ONE_OF(1, 1000, 1000000, SECOND, 60 * SECOND, HOUR, DAY);
+    wide most = kind != 7 ? (wide)106753 * DAY : (wide)2 * NEAR;
     step *= chance(4) ? 135 : 1 + any_size(most / step / steps);
     limits_with(width * ONE_OF(1, 1, -1), low, high);
     axis a = axis_with(kind, step * steps);
     *place = a.start + step * from(-1, steps + 1);
-    if (kind >= 4)
+    if (!of_dates(kind))
         *place += chance(2) ? 0 : ONE_OF(1, -1);
     return a;
 }
@@ -61,18 +68,18 @@ static axis whole_position(int64_t kind, int64_t *low, int64_t *high, wide *plac
 /* A pixel near an end of i32: around 2^31 without low, or with it. */
 static axis far_pixel(int64_t kind, int64_t *low, int64_t *high, wide *place) {
     wide days = (wide)from(1, chance(2) ? 3 : 60) * DAY, less = 1 + any_size(chance(4) ? (wide)10000 * DAY : HOUR);
-    axis a = axis_with(kind, kind <= 3 ? days : less);
-    int64_t width = from(kind <= 3 ? 32767 : 1, 65534);
+    axis a = axis_with(kind, of_dates(kind) ? days : less);
+    int64_t width = from(of_dates(kind) ? 32767 : 1, 65534);
     width *= chance(3) ? -1 : 1;
     limits_with(width, low, high);
     int64_t way = ONE_OF(1, -1), step = ONE_OF(0, 1, -1, 2, -2, 40000 * way);
     wide pixel = (INT64_C(1) << 31) * way - (chance(2) ? *low : 0) + step;
-    *place = a.start + pixel * (a.end - a.start) / width + (kind <= 3 ? DAY * ONE_OF(0, 1, -1) : ONE_OF(0, 1, -1));
+    *place = a.start + pixel * (a.end - a.start) / width + (of_dates(kind) ? DAY * ONE_OF(0, 1, -1) : ONE_OF(0, 1, -1));
     return a;
 }
 
 static void map(void) {
-    int64_t kind = from(1, 7), low = limit(), high = chance(30) ? low : limit();
+    int64_t kind = kind_of(from(1, 7)), low = limit(), high = chance(30) ? low : limit();
     wide place;
     axis a;
     switch (draw() % 16) {
@@ -212,9 +219,9 @@ static axis axis_of_days(int64_t n) {
 static axis axis_for(int64_t kind, int64_t listed, int64_t n) {
     axis a;
     uint64_t way = draw() % 8;
-    if (way == 0 || (listed == 1 && way == 1))
+    if (way == 0 || ((listed == 1 || listed == 8) && way == 1))
         a = axis_of(kind);
-    else if (listed == 1)
+    else if (listed == 1 || listed == 8)
         a = axis_with(kind, span_by_days(n));
     else if (listed == 4 && way == 1)
         a = axis_with(kind, span_by_days(n) + (int64_t)(n % 3) - 1);
@@ -255,19 +262,19 @@ static void print_bold(const char *name, int64_t kind) {
 }
 
 static void ticks_bold(void) {
-    print_bold("ticks_bold", from(1, 7));
+    print_bold("ticks_bold", kind_of(from(1, 7)));
 }
 
-/* The bold count is often half the size, of the kind or of the months below it, or one off. */
+/* The bold count is often half the size, of the kind or of the months below it, or one off. Weeks have no finer kind. */
 static void print_light(const char *name, int64_t kind) {
     int64_t n = hint_on(kind), bold = hint_on(1), listed = kind;
-    if (kind != 7)
+    if (kind <= 6)
         listed = ONE_OF(kind, kind <= 3 ? 1 : 4, kind <= 3 ? 1 : 4, kind <= 3 ? 2 : 5);
     axis a = past_the_bound(axis_for(kind, listed, n));
     value start = value_at(kind, a.start), end = value_at(kind, a.end);
     int64_t ends[] = {kind, start.head, start.tail, end.head, end.tail};
     if (kind != 1 && kind != 4 && kind != 7 && !chance(4)) {
-        int64_t size = size_of(chance(2) ? kind : kind <= 3 ? 2 : 5, ends);
+        int64_t size = size_of(kind == 8 || chance(2) ? kind : kind <= 3 ? 2 : 5, ends);
         bold = (int64_t)clamp(0, (size + from(-2, 3)) / 2, 4096);
     }
     printf("%s", name);
@@ -278,14 +285,14 @@ static void print_light(const char *name, int64_t kind) {
 }
 
 static void ticks_light(void) {
-    print_light("ticks_light", from(1, 7));
+    print_light("ticks_light", kind_of(from(1, 7)));
 }
 
 static void period(void) {
-    int64_t kind = chance(2) ? 4 : 7, n = hint_on(kind);
+    int64_t kind = kind_of(chance(2) ? 4 : 7), n = hint_on(kind);
     axis a = past_the_bound(axis_for(kind, kind, n));
     if (chance(40)) /* question 2 */
-        a = axis_of(from(1, 6));
+        a = axis_of(kind_of(from(1, 6)));
     printf("period");
     print_axis(a);
     print_hint(n);
@@ -294,10 +301,10 @@ static void period(void) {
 
 /* A kind with indices; now and then one without them, for question 2. */
 static int64_t index_kind(void) {
-    return chance(40) ? ONE_OF(4, 7) : ONE_OF(1, 2, 3, 5, 6);
+    return kind_of(chance(40) ? ONE_OF(4, 7) : ONE_OF(1, 2, 3, 5, 6));
 }
 
-/* An axis of days, months or years: ends around firsts of months, few days, or any. */
+/* An axis of days, weeks, months or years: ends around firsts of months, few days, or any. */
 static axis index_axis(int64_t kind) {
     axis a = kind == 4 || kind == 7 || chance(4) ? axis_of(kind)
              : chance(4)                         ? axis_with(kind, (wide)from(0, 40) * DAY)
@@ -322,7 +329,7 @@ static int64_t index_on(axis a) {
     switch (draw() % 8) {
     case 0: return from(0, 3);
     case 1: return size + step;
-    case 2: return (a.kind == 1 ? left : a.kind == 2 || a.kind == 5 ? left / 31 : left / 366) + step;
+    case 2: return (a.kind == 1 ? left : a.kind == 8 ? left / 7 : a.kind == 2 || a.kind == 5 ? left / 31 : left / 366) + step;
     case 3: return ONE_OF(3652058, 3652059, 3652060, LAST_DAY - 366);
     case 4: return (int64_t)any_size(LAST_DAY);
     case 5: return chance(8) ? ONE_OF(-1, 3652060, INT64_C(1) << 32, INT64_MAX, INT64_MIN) : from(0, 20);
@@ -369,7 +376,7 @@ static axis unmap_wrap(int64_t kind, int64_t *low, int64_t *high, int64_t *pixel
 }
 
 static void unmap(void) {
-    int64_t kind = chance(40) ? 7 : chance(4) ? 4 : from(1, 6), low = limit(), high = limit(), pixel = limit();
+    int64_t kind = kind_of(chance(40) ? 7 : chance(4) ? 4 : from(1, 6)), low = limit(), high = limit(), pixel = limit();
     axis a = kind == 4 || kind == 7 ? axis_for(kind, kind, from(1, 100)) : index_axis(kind);
     switch (draw() % 8) {
     case 0: pixel = ONE_OF(low, high, low - 1, high + 1, high - 1); break;
@@ -473,7 +480,7 @@ static void limits_by_halves(int64_t size, int64_t *low, int64_t *high) {
 
 /* A mapping near an end of i32, with low, half of the margin, or both added to it. */
 static axis far_segment(int64_t kind, int64_t *low, int64_t *high, wide *place) {
-    axis a = axis_with(kind, kind <= 3 ? (wide)from(1, 60) * DAY : 1 + any_size((wide)1000 * DAY));
+    axis a = axis_with(kind, of_dates(kind) ? (wide)from(1, 60) * DAY : 1 + any_size((wide)1000 * DAY));
     int64_t size = axis_size(a), width = ONE_OF(1, 1, -1), way = ONE_OF(1, -1), step = ONE_OF(0, 1, -1, 2, -2, 40000 * way);
     width *= from(1000, 65534);
     limits_with(width, low, high);
@@ -481,7 +488,7 @@ static axis far_segment(int64_t kind, int64_t *low, int64_t *high, wide *place) 
     margin *= width < 0 ? -1 : 1;
     wide pixel = (INT64_C(1) << 31) * way - ONE_OF(0, *low, margin / 2, *low + margin / 2) + step;
     *place = a.start + (width == margin ? pixel : pixel * (a.end - a.start) / (width - margin));
-    *place += kind <= 3 ? DAY * ONE_OF(0, 1, -1) : ONE_OF(0, 1, -1);
+    *place += of_dates(kind) ? DAY * ONE_OF(0, 1, -1) : ONE_OF(0, 1, -1);
     return a;
 }
 
@@ -580,6 +587,33 @@ static void date_of(void) {
     printf("date_of %" PRId64 "\n", number);
 }
 
+/* Any year, week and weekday: ends of years of 52 and 53 weeks, the last days, and beside them no week dates. */
+static void week_day_number(void) {
+    int64_t year = from(1, 9999), week = from(1, 53), weekday = from(1, 7);
+    if (chance(3))
+        week = ONE_OF(1, 1, 52, 53, 53);
+    if (chance(12)) /* question 10 */
+        year = 9999, week = ONE_OF(51, 52, 52, 52, 53), weekday = from(4, 8);
+    if (chance(40))
+        year = ONE_OF(1, 9999, 0, 10000, -1, -year, year + (INT64_C(1) << 32), INT64_MIN, INT64_MAX);
+    if (chance(60))
+        week = ONE_OF(0, -1, 54, week + 256, week + (INT64_C(1) << 32), INT64_MIN, INT64_MAX);
+    if (chance(60))
+        weekday = ONE_OF(0, -1, 8, weekday + 256, weekday + (INT64_C(1) << 32), INT64_MIN, INT64_MAX);
+    printf("week_day_number %" PRId64 " %" PRId64 " %" PRId64 "\n", year, week, weekday);
+}
+
+/* Any day: around New Year, the first Mondays and the ends of the days, and numbers outside them. */
+static void week_date_of(void) {
+    int64_t number = from(1, LAST_DAY), step = from(-8, 8);
+    if (chance(2))
+        number = new_year(from(1, 10000)) + step;
+    if (chance(20))
+        number = ONE_OF(0, 1, 2, -1, LAST_DAY - 1, LAST_DAY, LAST_DAY + 1, -number, number + LAST_DAY, INT32_MAX,
+                        number + (INT64_C(1) << 32), INT64_MIN, INT64_MAX);
+    printf("week_date_of %" PRId64 "\n", number);
+}
+
 /* A new operation is one function above and one row. */
 static const struct operation {
     const char *name;
@@ -604,23 +638,27 @@ static const struct operation {
     {"segment_size", segment_size},
     {"segment_index_of", segment_index_of},
     {"segment_from_index", segment_from_index},
+    {"week_day_number", week_day_number},
+    {"week_date_of", week_date_of},
 };
-enum { OPERATIONS = sizeof operations / sizeof operations[0] };
+enum { OPERATIONS = sizeof operations / sizeof operations[0], RUST = OPERATIONS - 2 }; /* the Rust lacks week dates */
 
 int main(int argc, char **argv) {
-    bool names = argc == 2 && !strcmp(argv[1], "operations");
-    for (int i = 0; i < OPERATIONS && names; i++)
+    bool all = argc == 2 && !strcmp(argv[1], "operations"), rust = argc == 2 && !strcmp(argv[1], "rust");
+    for (int i = 0; i < (all ? OPERATIONS : rust ? RUST : 0); i++)
         printf("%s\n", operations[i].name);
-    if (names)
+    if (all || rust)
         return fflush(stdout) != 0;
-    for (int i = 0; i < OPERATIONS && argc == 4; i++)
+    only = argc == 5 ? strtoll(argv[4], NULL, 10) : 0;
+    bool kind = argc == 4 || (argc == 5 && only >= 1 && only <= 8);
+    for (int i = 0; i < OPERATIONS && kind; i++)
         if (!strcmp(argv[1], operations[i].name)) {
             seed_with(strtoull(argv[2], NULL, 10));
             for (int64_t n = strtoll(argv[3], NULL, 10); n > 0 && !ferror(stdout); n--)
                 operations[i].print();
             return fflush(stdout) != 0;
         }
-    fprintf(stderr, "usage: requests OPERATION SEED COUNT, or requests operations; operations:");
+    fprintf(stderr, "usage: requests OPERATION SEED COUNT [KIND], or requests operations, or requests rust; operations:");
     for (int i = 0; i < OPERATIONS; i++)
         fprintf(stderr, " %s", operations[i].name);
     fprintf(stderr, "\n");

@@ -17,7 +17,7 @@ import termios
 import time
 import tty
 
-from reading import HEADING, KINDS, NAMES, SECOND, Reading, request_of, shown, value_of
+from reading import DATED, HEADING, KINDS, NAMES, SECOND, Reading, request_of, shown, value_of
 
 SHOWN = 3  # differences that a group shows
 PATIENCE = 60  # seconds for one run
@@ -54,6 +54,7 @@ GOOD = [
     b"span -315576000000 315576000000 3 -32767 32767",
     b"stamp 2021-03-01T23:59:59.25 2021-03-02T00:00:01.000000001 7 0 500",
     b"span -1.5 0.999999999 5 0 70",
+    b"week 2021-03-01 2021-06-30 6 0 100",
 ]
 LONGEST_READ = b"stampmonth 2021-03-01T00:00:00.000000000 2021-06-01T00:00:00.999999999"
 LONGEST_READ += b" -000000000003 -000000000007 -000000000070"
@@ -137,7 +138,7 @@ def shown_on(page):
 
 def example(plate, reading):
     group = Group("example")
-    for page, count in (("README.md", 1), ("docs/PLATE.md", 2)):
+    for page, count in (("README.md", 1), ("docs/PLATE.md", 3)):
         shown = list(shown_on(page))
         if len(shown) != count or shown[0] != (EXAMPLE, EXAMPLE_OUTPUT):
             group.difference(page, "another example, or not %d of them" % count)
@@ -179,7 +180,7 @@ def names(plate, reading):
 def broken_off(plate, reading):
     """Each beginning of an input, so each line without its LF."""
     group = Group("broken off")
-    whole = EXAMPLE + b"".join(GOOD[at] + b"\n" for at in (4, 8, 10, 11))
+    whole = EXAMPLE + b"".join(GOOD[at] + b"\n" for at in (4, 8, 10, 11, 12))
     for end in range(len(whole) + 1):
         group.same("%d bytes" % end, reading.expected(whole[:end]), plate.output(whole[:end]))
     group.done()
@@ -187,7 +188,7 @@ def broken_off(plate, reading):
 
 def pieces(plate, reading):
     group = Group("in pieces")
-    whole = EXAMPLE + b"x" * 300 + b"\n" + b"\n".join(GOOD[at] for at in (6, 4, 10, 11, 8))
+    whole = EXAMPLE + b"x" * 300 + b"\n" + b"\n".join(GOOD[at] for at in (6, 4, 10, 11, 12, 8))
     for size in (1, 2, 3, 7, 34, 120, 121):
         group.same("of %d bytes" % size, reading.expected(whole), plate.output_of_pieces(whole, size))
     group.done()
@@ -276,7 +277,7 @@ def random_value(draw, kind):
 
 
 def random_line(draw):
-    kind = draw.choice(["date", "month", "year", "stamp", "stampmonth", "stampyear", "span"])
+    kind = draw.choice(["date", "month", "year", "stamp", "stampmonth", "stampyear", "span", "week"])
     start, end = random_value(draw, kind), random_value(draw, kind)
     if draw.random() < 0.8 and (int(start) > int(end) if kind == "span" else start > end):
         start, end = end, start
@@ -386,6 +387,52 @@ BROKEN = [
     b"span -0.000000001 0.12345678 2 0 500",
     b"span -315576000000.0 315576000000.5 3 -32767 32767",
 ]
+# What week lines must print, written out by hand.
+WEEKS = {
+    b"week 2021-03-01 2021-06-30 6 0 100": [b"2021-03-01 0", b"2021-03-22 17", b"2021-04-12 34", b"2021-05-03 52",
+                                            b"2021-05-24 69", b"2021-06-14 86"],
+    # No Monday, no row, whatever the limits; a Monday at the start, at the end and alone.
+    b"week 2021-03-02 2021-03-07 3 0 70": [],
+    b"week 2021-03-02 2021-03-07 0 0 32768": [],
+    b"week 2021-03-02 2021-03-02 3 5 9": [],
+    b"week 2021-02-28 2021-02-28 3 5 9": [],
+    b"week 2021-03-01 2021-03-07 3 0 60": [b"2021-03-01 0"],
+    b"week 2021-02-23 2021-03-01 3 0 60": [b"2021-03-01 60"],
+    b"week 2021-03-01 2021-03-01 3 5 9": [b"2021-03-01 5"],
+    # N is 0; as many Mondays as N + 1, and one more; more than twice as many.
+    b"week 2021-02-28 2021-03-22 0 0 22": [b"2021-03-01 1"],
+    b"week 2021-03-01 2021-03-01 0 -7 70": [b"2021-03-01 -7"],
+    b"week 2021-03-01 2021-03-15 2 0 14": [b"2021-03-01 0", b"2021-03-08 7", b"2021-03-15 14"],
+    b"week 2021-03-01 2021-03-22 2 0 21": [b"2021-03-01 0", b"2021-03-15 14"],
+    b"week 2021-03-02 2021-04-19 2 0 48": [b"2021-03-08 6", b"2021-03-29 27", b"2021-04-19 48"],
+    b"week 2021-03-01 2021-03-08 4096 0 70": [b"2021-03-01 0", b"2021-03-08 70"],
+    # Into a year that a week 53 stands before; limits that are swapped; the first day and the last.
+    b"week 2020-12-21 2021-01-11 9 0 21": [b"2020-12-21 0", b"2020-12-28 7", b"2021-01-04 14", b"2021-01-11 21"],
+    b"week 2021-03-03 2021-03-24 3 210 0": [b"2021-03-08 160", b"2021-03-15 90", b"2021-03-22 20"],
+    b"week 0001-01-01 0001-01-14 1 0 13": [b"0001-01-01 0", b"0001-01-08 7"],
+    b"week 9999-12-20 9999-12-31 4 0 11": [b"9999-12-20 0", b"9999-12-27 7"],
+    b"week 9999-12-28 9999-12-31 4 0 11": [],
+    b"week 0001-01-01 9999-12-31 1 -32767 32767": [b"0001-01-01 -32767", b"5000-07-07 0"],
+    # Each refusal, and the first of several.
+    b"week 2021-03-08 2021-03-01 3 0 70": [b"- !4"],
+    b"week 2021-03-07 2021-03-02 3 0 70": [b"- !4"],
+    b"week 2021-03-01 2021-03-08 -1 0 70": [b"- !6"],
+    b"week 2021-03-02 2021-03-07 4097 0 70": [b"- !6"],
+    b"week 2021-03-01 2021-03-08 3 0 32768": [b"2021-03-01 !7", b"2021-03-08 !7"],
+    b"week 2021-03-01 2021-03-08 0 -32768 70": [b"2021-03-01 !7"],
+    b"week 2021-02-30 2021-02-29 5000 0 40000": [b"- !3"],
+    b"week 2021-03-08 2021-03-01 5000 0 40000": [b"- !4"],
+    b"week 2021-03-01 2021-03-08 5000 0 40000": [b"- !6"],
+}
+NO_WEEK = [b"weeks", b"weekk", b"wweek", b"Week", b"WEEK", b"weeK", b"wee", b"eek", b"wek", b"w", b"week8", b"week-date",
+           b"weekdate", b"weekly", b"isoweek", b"stampweek", b"8"]
+NO_WEEK_END = {
+    b"- !12": [b"2021-03-01T00:00:00", b"2021-03-01T00:00:00.5", b"2021-03-01T", b"2021-03-01.5", b"2021-03-01.0", b"2021-03-01.",
+               b"2021-W09", b"2021-W09-1", b"2021W091", b"2021-09-1", b"2021-060", b"20210301", b"2021-3-01", b"2021/03/01",
+               b"12021-03-01", b"-2021-03-01", b"737850", b"0"],
+    b"- !3": [b"2021-02-29", b"1900-02-29", b"2021-04-31", b"2021-00-10", b"2021-13-01", b"2021-01-00", b"2021-12-32",
+              b"0000-12-31", b"9999-99-99"],
+}
 
 
 def input_of(lines):
@@ -400,15 +447,55 @@ def by_hand(group, plate, reading, table):
     return list(table)
 
 
+def weeks_by_hand(plate, reading):
+    group, table = Group("weeks by hand"), dict(WEEKS)
+    for name in NO_WEEK:
+        table[name + b" 2021-03-01 2021-03-08 3 0 70"] = [b"- !12"]
+    for refusal, texts in NO_WEEK_END.items():
+        for text in texts:
+            table[b"week %s 2021-03-08 3 0 70" % text] = table[b"week 2021-03-01 %s 3 0 70" % text] = [refusal]
+    lines = by_hand(group, plate, reading, table)
+    group.done(", %d lines" % len(lines))
+
+
+def mondays(plate, reading):
+    """Week lines from each weekday, also at both ends of the calendar. The rows must be those of the date line that lists every
+    day of the span: its Mondays by Python's own weekday, of them every m-th, with the least m that leaves at most N + 1. And
+    each of these Mondays, typed as start and end, is its own tick."""
+    group, spans, table, listed = Group("Mondays"), {}, {}, set()
+    firsts = [datetime.date.fromordinal(day + i) for day in (1, 737776, LAST_DAY - 90, LAST_DAY - 6) for i in range(7)]
+    for first, days in itertools.product(firsts, [*range(64), 83, 84, 85, 90, 364, 365, 1000, 4096]):
+        if first.toordinal() + days <= LAST_DAY:
+            ends = "%s %s" % (first, first + datetime.timedelta(days))
+            limits = ("0 1000", "300 -300")[days % 2]
+            spans[ends, limits] = days, ("date %s 4096 %s" % (ends, limits)).encode()
+    reading.expected(input_of(line for _, line in spans.values()))
+    for (ends, limits), (days, line) in spans.items():
+        rows = reading.rows[line]
+        if len(rows) != days + 1:
+            group.difference("%r" % line, "lists %d of %d days" % (len(rows), days + 1))
+        found = [row for row in rows if datetime.date.fromisoformat(row[:10].decode()).weekday() == 0]
+        listed.update(row[:10] for row in found)
+        for hint in (0, 1, 2, 3, 5, 8, 4096):
+            step = next(m for m in itertools.count(1) if -(-len(found) // m) <= hint + 1)
+            table[("week %s %d %s" % (ends, hint, limits)).encode()] = found[::step]
+    for text in sorted(listed):
+        table[b"week %s %s 0 3 9" % (text, text)] = [text + b" 3"]
+    lines = by_hand(group, plate, reading, table)
+    empty = sum(not rows for rows in table.values())
+    group.done(", %d lines, %d of them without a Monday, %d Mondays put as starts" % (
+        len(lines) - len(listed), empty, len(listed)))
+
+
 def typed_fractions(plate, reading):
     """A point and nought to ten digits behind every field of every kind: a date-time or a span takes one to nine, nothing else
     takes any. What was read shows to the nanosecond, by the refusal of a later start and, where the kind lists it, as a tick."""
     group, table = Group("typed fractions"), {}
-    ends = [(kind, b"2021-03-04" if KINDS[kind] <= 3 else b"2021-03-04T05:06:07") for kind in KINDS if kind != b"span"]
+    ends = [(kind, b"2021-03-04" if KINDS[kind] in DATED else b"2021-03-04T05:06:07") for kind in KINDS if kind != b"span"]
     for kind, end in [*ends, (b"span", b"7"), (b"span", b"-7")]:
         for digits, count in itertools.product((b"1234567890", b"9876543210", b"0000000000"), range(11)):
             fraction = b"." + digits[:count]
-            read = KINDS[kind] > 3 and 1 <= count <= 9
+            read = KINDS[kind] not in DATED and 1 <= count <= 9
             for at in range(3 if read else 1, 6):
                 fields = [kind, end, end, b"3", b"0", b"70"]
                 fields[at] += fraction
@@ -620,7 +707,8 @@ def full_buffer(plate, reading):
     """Lists of thousands among short lines: their rows go beyond the buffer at many places."""
     group, draw = Group("more rows than the buffer holds"), random.Random(20261116)
     longs = [b"stamp 2021-03-01T00:00:00 2021-03-01T01:08:16 4096 0 8192", b"date 2001-01-01 2012-03-20 4096 -32767 32767",
-             b"stamp 2021-03-01T00:00:00 2021-03-01T00:00:01.02375 4096 -32767 32767", b"span -1.024 1.0235 4096 -32767 32767"]
+             b"stamp 2021-03-01T00:00:00 2021-03-01T00:00:01.02375 4096 -32767 32767", b"span -1.024 1.0235 4096 -32767 32767",
+             b"week 1942-05-04 2020-11-02 4096 -32767 32767"]
     for _ in range(4):
         lines = [draw.choice(longs) if draw.random() < 0.5 else draw.choice(GOOD) for _ in range(40)]
         data = START + b"\n".join(lines) + b"\n"
@@ -731,7 +819,8 @@ def arguments(plate, _):
             return got
 
         text = said("--help")
-        for word in (b"exit status 0\non standard error: \n", b"kind start end hint low high", b"YYYY-MM-DDThh:mm:ss", b"span"):
+        for word in (b"exit status 0\non standard error: \n", b"kind start end hint low high", b"YYYY-MM-DDThh:mm:ss", b"span",
+                     b"week"):
             if word not in text:
                 group.difference("--help", "has no %r" % word)
         if text.count(b"\n") != 3 + 10:
@@ -796,7 +885,7 @@ def many_lines(plate, reading, tools):
 def main(program, tools):
     plate, reading = Plate(program), Reading(os.path.join(tools, "answers"))
     for check in (example, names, broken_off, pieces, damaged, line_ends, lengths, long_lines, random_lines, random_bytes,
-                  full_buffer, failing_reads, failing_writes, arguments, single_writes):
+                  weeks_by_hand, mondays, full_buffer, failing_reads, failing_writes, arguments, single_writes):
         check(plate, reading)
     lines = []
     for check in (typed_fractions, fractions_by_hand, signs, around_zero, mixed_lists, damaged_fractions, random_fractions):

@@ -1,5 +1,5 @@
-"""What plate must print for an input, read a second time from document 01 (section plate), and from its change for ticks closer
-than a second.
+"""What plate must print for an input, read a second time from document 01 (section plate), and from its changes for ticks closer
+than a second and for weeks.
 
 Lines, fields, forms, real dates, refusals and the shown text are worked out here, the calendar by Python's own datetime.
 Ticks and pixels are the archive's, asked through the program answers.
@@ -13,7 +13,8 @@ import sys
 
 NAMES = b"kind start end hint low high"
 HEADING = b"line tick pixel\n"
-KINDS = {b"date": 1, b"month": 2, b"year": 3, b"stamp": 4, b"stampmonth": 5, b"stampyear": 6, b"span": 7}
+KINDS = {b"date": 1, b"month": 2, b"year": 3, b"stamp": 4, b"stampmonth": 5, b"stampyear": 6, b"span": 7, b"week": 8}
+DATED = (1, 2, 3, 8)  # the kinds whose values are dates
 LONGEST = 120  # bytes before the LF
 
 NUMBER = re.compile(rb"-?[0-9]{1,12}")
@@ -29,7 +30,7 @@ class NotReal(Exception):
 
 
 def form_of(kind):
-    return DATE if kind <= 3 else STAMP if kind <= 6 else SPAN
+    return DATE if kind in DATED else SPAN if kind == 7 else STAMP
 
 
 def nanoseconds(seconds, fraction):
@@ -44,7 +45,7 @@ def value_of(kind, field):
         sign, seconds, fraction = parts
         away = nanoseconds(int(seconds), fraction)  # from zero
         return divmod(-away if sign else away, SECOND)
-    *numbers, fraction = parts if kind > 3 else (*parts, 0, 0, 0, None)
+    *numbers, fraction = (*parts, 0, 0, 0, None) if kind in DATED else parts
     year, month, day, hour, minute, second = map(int, numbers)
     try:
         datetime.time(hour, minute, second)
@@ -76,7 +77,7 @@ def shown(kind, head, tail, broken):
     else:
         text = datetime.date.fromordinal(head).isoformat()
         seconds, fraction = divmod(tail, SECOND)
-        if kind > 3:
+        if kind not in DATED:
             text += "T%02d:%02d:%02d" % (seconds // 3600, seconds // 60 % 60, seconds % 60)
     return text + ".%09d" % fraction if broken else text
 

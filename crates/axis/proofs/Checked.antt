@@ -2,24 +2,15 @@
 use mathlib.Core.Path.{_≡_, refl, sym, _∙_, ap}
 use mathlib.Core.Bool.{Bool, true, false, cond}
 use mathlib.Core.List.{List}
-use Prim.Native.Nat.{ℕ, zero, suc, _≤_, _<_}
+use Prim.Native.Nat.{ℕ, zero, suc}
 use native.Mathlib.Omega.{arith}
-use lib.IntN.{pos}
 use Rattle.laws.specs.Asking.{Question, ask, firstNo, unless}
 use Rattle.laws.proofs.Asked.{fewer, refused-before, last-asked}
-use Rattle.calendar.specs.Questions.{lastDay, isDay}
+use Rattle.calendar.specs.Questions.{isDay}
 use Rattle.values.specs.declared.Value.{Value}
-use Rattle.values.proofs.Numbers.{is-le, is-gt}
 use Rattle.axis.specs.declared.ValueAnswer.{ValueAnswer}
 use Rattle.axis.specs.declared.ValueAnswer.the-variants.{Refused, None, At}
 use Rattle.axis.specs.Questions.{inCalendar, checked, answered}
-
--- ---- a day number
-pub day-in : (n : ℕ) → 1 ≤ n → n ≤ lastDay → isDay (pos n) ≡ true
-day-in n h l = rw (is-le (pos 1) (pos n) (omega arith), is-le (pos n) (pos lastDay) (omega arith))
-
-pub day-beyond : (n : ℕ) → lastDay < n → isDay (pos n) ≡ false
-day-beyond n h = rw (is-le (pos 1) (pos n) (omega arith), is-gt (pos n) (pos lastDay) (omega arith))
 
 -- ---- question 10 alone
 pub no-value : None ≡ checked None

@@ -12,7 +12,7 @@ use Rattle.laws.proofs.Tests.{both-true, either-false}
 use Rattle.values.specs.declared.Value.{Value}
 use Rattle.values.specs.Values.{isDuration, isValue}
 use Rattle.values.specs.Differences.{nanoseconds, fitsI64, nanosecondsOf}
-use Rattle.values.proofs.Numbers.{is-le, is-gt, within-true, not-below, bounded, either-true, not-both, agree, or-false}
+use Rattle.values.proofs.Numbers.{is-le, is-gt, within-true, not-below, bounded, either-true, not-both, agree, or-true, or-false}
 use Rattle.values.proofs.Fits.{fits-range}
 use Rattle.values.proofs.Values.{DurationValue, duration-value}
 use Rattle.values.proofs.Joining.{joint}
@@ -77,10 +77,6 @@ long d z = rw (is-le (negsuc 9223372036854775807) d (omega arith)) (go (leZ d (p
     go true e = sym (is-ge (pos 9223372036854775807) d (omega (arith, le-true d (pos 9223372036854775807) e)))
     go false e = sym (is-lt (pos 9223372036854775807) d (omega (arith, le-false d (pos 9223372036854775807) e)))
 
-or-true : (b : Bool) → true ≡ b || true
-or-true true = refl
-or-true false = refl
-
 module _ (a : Axis) where
   pub other-kind : isDuration (a .kind) ≡ false → true ≡ nearOrLong a
   unfolding nearOrLong
@@ -88,7 +84,7 @@ module _ (a : Axis) where
 
   pub near-ends : nearZero (start a) && nearZero (end a) ≡ true → true ≡ nearOrLong a
   unfolding nearOrLong
-  near-ends e = rw e (or-true (not (isDuration (a .kind))))
+  near-ends e = rw e (sym (or-true (not (isDuration (a .kind)))))
 
   pub far-ends : isDuration (a .kind) ≡ true → nearZero (start a) && nearZero (end a) ≡ false → ends a ≡ true →
       inOrder a ≡ true → not (nanosecondsOf (spanOf a) .fits) ≡ nearOrLong a

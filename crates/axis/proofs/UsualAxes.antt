@@ -2,7 +2,7 @@
 use mathlib.Core.Path.{_≡_, sym, _∙_}
 use mathlib.Core.Logic.{inl, inr}
 use mathlib.Core.Bool.{Bool, true, false, _&&_}
-use Prim.Native.Nat.{ℕ, _+_, _≤_}
+use Prim.Native.Nat.{_+_, _≤_}
 use native.Mathlib.Omega.{arith}
 use lib.IntN.{ℤ, pos, negsuc}
 use lib.Signed.{ltZ, leZ}
@@ -11,9 +11,9 @@ use Rattle.laws.specs.Numbers.{within, posPart, negPart}
 use Rattle.laws.proofs.Signed.{lt-true, le-true, is-lt, is-ge}
 use Rattle.laws.proofs.Tests.{both-true, and-false}
 use Rattle.values.specs.declared.Value.{Value}
-use Rattle.values.specs.Values.{isDuration, aDate, aDateTime, aDuration, isValue, earlier}
+use Rattle.values.specs.Values.{isDuration, isValue, earlier}
 use Rattle.values.proofs.Numbers.{is-le, is-gt, within-true, either-true}
-use Rattle.values.proofs.Values.{of-durations}
+use Rattle.values.proofs.Values.{dates-range, of-durations, by-form}
 use Rattle.axis.specs.declared.Axis.{Axis}
 use Rattle.axis.specs.Axes.{start, end}
 use Rattle.axis.specs.Questions.{known, ends, inOrder, nearZero, nearOrLong, axisQuestions}
@@ -21,21 +21,18 @@ use Rattle.axis.proofs.Axes.{both-ends}
 use Rattle.axis.proofs.Questions.{near-by-seconds, near-ends, other-kind, of-seven}
 
 -- a kind that has values is known
-among : (k : ℤ) (l h : ℕ) → 1 ≤ l → h ≤ 7 → within (pos l) k (pos h) ≡ true → within (pos 1) k (pos 7) ≡ true
-among k l h p q e =
-    let (x, y) = within-true (pos l) k (pos h) e in rw (is-le (pos 1) k (omega arith), is-le k (pos 7) (omega arith))
+among : (k : ℤ) → 1 + negPart k ≤ posPart k → posPart k ≤ 8 + negPart k → within (pos 1) k (pos 8) ≡ true
+among k l h = rw (is-le (pos 1) k (omega arith), is-le k (pos 8) (omega arith))
 
 known-by : (a : Axis) (v : Value) → isValue (a .kind) v ≡ true → known a ≡ true
-unfolding isValue known
+unfolding known
 known-by a v e =
     let k = a .kind in
-    elim (either-true (within (pos 1) k (pos 3) && aDate v) _ e) [
-      | inl x ↦ among k 1 3 (omega arith) (omega arith) (both-true (within (pos 1) k (pos 3)) (aDate v) x .0)
-      | inr f ↦ elim (either-true (within (pos 4) k (pos 6) && aDateTime v) _ f) [
-        | inl x ↦ among k 4 6 (omega arith) (omega arith) (both-true (within (pos 4) k (pos 6)) (aDateTime v) x .0)
-        | inr x ↦ among k 7 7 (omega arith) (omega arith) (both-true (isDuration k) (aDuration v) x .0)
-      ]
-    ]
+    by-form k v e
+    (λ x _. let (z, l, h) = dates-range k x in
+    elim h [ inl m ↦ among k (omega arith) (omega arith) | inr m ↦ among k (omega arith) (omega arith) ])
+    (λ x _. let (l, h) = within-true (pos 4) k (pos 6) x in among k (omega arith) (omega arith))
+    (λ x _. let (l, h) = within-true (pos 7) k (pos 7) x in among k (omega arith) (omega arith))
 
 -- of two values one is before the other, and not after it
 module _ (v w : Value) (o : earlier v w ≡ true) where
@@ -60,13 +57,9 @@ module _ (v w : Value) (o : earlier v w ≡ true) where
 near-value : (kind : ℤ) (v : Value) → isDuration kind ≡ true → negPart (v .head) ≤ 4000000000 + posPart (v .head) →
     posPart (v .head) ≤ 4000000000 + negPart (v .head) → within (pos 0) (v .tail) (pos 999999999) ≡ true → isValue kind v ≡ true
 near-value kind v d l m t =
-    let (x, y) = within-true (pos 7) kind (pos 7) d in
-    let e : leZ kind (pos 3) ≡ false = is-gt kind (pos 3) (omega arith) in
-    let f : leZ kind (pos 6) ≡ false = is-gt kind (pos 6) (omega arith) in
-    let k : leZ kind (pos 7) ≡ true = is-le kind (pos 7) (omega arith) in
     let p : leZ (negsuc 315575999999) (v .head) ≡ true = is-le (negsuc 315575999999) (v .head) (omega arith) in
     let q : leZ (v .head) (pos 315576000000) ≡ true = is-le (v .head) (pos 315576000000) (omega arith) in
-    of-durations kind v e f ∙ rw (k, p, q, t)
+    of-durations kind v d ∙ rw (p, q, t)
 
 module _ (a : Axis) (o : earlier (start a) (end a) ≡ true) where
   none : ends a ≡ true → nearOrLong a ≡ true → firstNo (axisQuestions true a) ≡ 0

@@ -25,21 +25,22 @@ use Rattle.axis.specs.Axes.{start, end, spanOf}
 abbrev pub isKind : ℕ → Axis → Bool
 isKind k a = isNumber (a .kind) k
 
--- 1. Is the kind 1 to 7?
+-- 1. Is the kind 1 to 8?
 unfoldable pub known : Axis → Bool
-known a = within (pos 1) (a .kind) (pos 7)
+known a = within (pos 1) (a .kind) (pos 8)
 
 -- 2. Does the kind have this operation? All kinds map and list ticks. All but 7 unmap.
 unfoldable pub hasUnmap : Axis → Bool
-hasUnmap a = within (pos 1) (a .kind) (pos 6)
+hasUnmap a = not (isDuration (a .kind))
 
--- indices, size, next, previous, values and segments
-unfoldable pub hasIndex : Axis → Bool
-hasIndex a = within (pos 1) (a .kind) (pos 3) || within (pos 5) (a .kind) (pos 6)
-
--- a period in nanoseconds
+-- kinds 4 and 7 have a period in nanoseconds
 unfoldable pub hasPeriod : Axis → Bool
 hasPeriod a = isKind 4 a || isKind 7 a
+
+-- all others have indices, size, next, previous, values and segments
+unfoldable pub hasIndex : Axis → Bool
+unfolding hasPeriod
+hasIndex a = not (hasPeriod a)
 
 -- 3. Are start and end values of the kind?
 unfoldable pub ends : Axis → Bool

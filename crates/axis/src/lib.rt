@@ -10,7 +10,7 @@ ghost use Rattle.laws.specs.Asking.{thenAsk, firstNo};
 ghost use Rattle.values.specs.Values.{isValue};
 ghost use Rattle.values.specs.Differences.{nanosecondsOf, wholeDays};
 ghost use Rattle.axis.specs.Axes.{axisOf, start, end, spanOf, offsetOf};
-ghost use Rattle.axis.specs.Questions.{known, hasUnmap, hasIndex, hasPeriod, ends, inOrder, nearZero, nearOrLong};
+ghost use Rattle.axis.specs.Questions.{known, hasUnmap, hasPeriod, hasIndex, ends, inOrder, nearZero, nearOrLong};
 ghost use Rattle.axis.specs.Questions.{boldHint, lightHint, hintOn, isPixel, pixels, differ, unmapPixels};
 ghost use Rattle.axis.specs.Questions.{valueOn, isIndex, mappable, fitsI32, plainQuestions, axisQuestions};
 
@@ -99,21 +99,14 @@ pub fn then_ask(q: u8, number: u8, yes: bool) -> u8
 pub fn known(a: Axis) -> bool
     ensures { λ r. ⌜ r ≡ known a ⌝ }
 {
-    (1 <= a.kind) & (a.kind <= 7)
+    (1 <= a.kind) & (a.kind <= 8)
 }
 
 // Question 2 of unmapping.
 pub fn has_unmap(a: Axis) -> bool
     ensures { λ r. ⌜ r ≡ hasUnmap a ⌝ }
 {
-    (1 <= a.kind) & (a.kind <= 6)
-}
-
-// Question 2 of indices, size, next, previous, values and segments.
-pub fn has_index(a: Axis) -> bool
-    ensures { λ r. ⌜ r ≡ hasIndex a ⌝ }
-{
-    ((1 <= a.kind) & (a.kind <= 3)) | ((5 <= a.kind) & (a.kind <= 6))
+    !values::is_duration(a.kind)
 }
 
 // Question 2 of the period.
@@ -121,6 +114,13 @@ pub fn has_period(a: Axis) -> bool
     ensures { λ r. ⌜ r ≡ hasPeriod a ⌝ }
 {
     ((4 <= a.kind) & (a.kind <= 4)) | ((7 <= a.kind) & (a.kind <= 7))
+}
+
+// Question 2 of indices, size, next, previous, values and segments.
+pub fn has_index(a: Axis) -> bool
+    ensures { λ r. ⌜ r ≡ hasIndex a ⌝ }
+{
+    !has_period(a)
 }
 
 // Question 3.

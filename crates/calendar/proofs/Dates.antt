@@ -93,8 +93,11 @@ one-date y m d y' m' d' r r' e =
 last-day : years 9999 ≡ 3652059
 last-day = omega (arith, years-closed 24 399 (omega arith))
 
+pub years-most : (y : ℕ) → y ≤ 9999 → years y ≤ 3652059
+years-most y h = omega (arith, mono years years-up y 9999 h, last-day)
+
 pub number-most : (y m d : ℕ) → Real y m d → y ≤ 9999 → dayNumber y m d ≤ 3652059
-number-most y m d r h = omega (arith, in-year y m d r, mono years years-up y 9999 h, last-day)
+number-most y m d r h = omega (arith, in-year y m d r, years-most y h)
 
 pub year-most : (y m d : ℕ) → Real y m d → dayNumber y m d ≤ 3652059 → y ≤ 9999
 year-most y m d r h =
@@ -175,3 +178,16 @@ date-follows (suc k) h =
     let after : suc k + 1 - 1 ≡ suc k = omega arith in
     let before : suc k - 1 ≡ k = omega arith in
     ap daysLater after ∙ ap (λ (x : ℕ). nextDay (daysLater x)) (sym before)
+
+-- the year of a day number is the one that has it among its days, and no other
+pub year-has : (n : ℕ) → 1 ≤ n → let y = dateOf n .year in (1 ≤ y) × ((years (y - 1) < n) × (n ≤ years y))
+year-has n h =
+    let (r, e) = date-number n h in
+    let t = dateOf n in
+    let (low, high) = in-year (t .year) (t .month) (t .day) r in
+    (r .year, (omega (arith, e, low), omega (arith, e, high)))
+
+pub year-is-that : (n y : ℕ) → 1 ≤ n → years (y - 1) < n → n ≤ years y → dateOf n .year ≡ y
+year-is-that n y h low high =
+    let (f, (l, u)) = year-has n h in
+    same-step years years-up n (dateOf n .year) y l u low high

@@ -62,7 +62,7 @@ leap-again y =
     let by400 : (y + 400) % 400 ≡ y % 400 = omega arith in
     rw (by4, by100, by400)
 
-yearLength-is : (y : ℕ) → yearLength y ≡ 365 + leapDay y
+pub yearLength-is : (y : ℕ) → yearLength y ≡ 365 + leapDay y
 unfolding yearLength
 yearLength-is y = omega arith
 
@@ -326,7 +326,7 @@ year-at n = 2939745 * quarters n / 4294967296
 abbrev pub day-at : ℕ → ℕ
 day-at n = 2939745 * quarters n % 4294967296 / 11758980
 
-product-law : (u : ℕ) → u < 14700000 → (2939745 * u / 4294967296 ≡ u / 1461)
+pub product-law : (u : ℕ) → u < 14700000 → (2939745 * u / 4294967296 ≡ u / 1461)
     × (2939745 * u % 4294967296 / 11758980 ≡ u % 1461 / 4)
 product-law u h = go (u / 1461) (u % 1461) (omega arith) (omega arith) (omega arith)
   where

@@ -2,14 +2,18 @@
 -- And the ranges of the answers. Assumes nothing.
 use mathlib.Core.Path.{_≡_, refl, sym, _∙_, ap, subst}
 use mathlib.Core.Bool.{Bool, true, false, cond, not, _&&_, _||_}
-use Prim.Native.Nat.{ℕ, _≤_}
+use Prim.Native.Nat.{ℕ, zero, suc, _≤_, _<_}
 use native.Mathlib.Omega.{arith}
 use lib.IntN.{ℤ, pos, negsuc}
 use lib.Dec.{eqb, leb}
-use borrow.Author.Tests.{leb-true, le-leb, not-true}
+use borrow.Author.Tests.{leb-true, le-leb, lt-leb, not-true}
 use lib.Signed.{ltZ, leZ}
-use Rattle.laws.specs.Asking.{unless}
+use mir.Syntax.{w64}
+use mir.Val.{SFits, toZ, ofZ}
+use mir.Facts.{toZ-ofZ}
+use Rattle.laws.specs.Asking.{firstNo, unless}
 use Rattle.laws.specs.Numbers.{within, posPart}
+use Rattle.laws.proofs.Asked.{told}
 use Rattle.laws.proofs.Tests.{both-true}
 use Rattle.laws.proofs.Signed.{le-true, is-ge}
 use Rattle.calendar.specs.declared.Ymd.{Ymd}
@@ -17,18 +21,25 @@ use Rattle.calendar.specs.declared.Date.{Date}
 use Rattle.calendar.specs.declared.DayAnswer.the-variants as day
 use Rattle.calendar.specs.declared.DateAnswer.the-variants as date
 use Rattle.calendar.specs.Gregorian.{monthLength, dayNumber, dateOf, Real}
-use Rattle.calendar.specs.Questions.{isDate, isDay, inRanges, numberOf, dateAt}
+use Rattle.calendar.specs.Questions.{isDate, lastDay, isDay, inRanges, dateQuestions, numberOf, dateAt}
 use Rattle.calendar.proofs.Formulas.{monthLength-range, monthLength-long}
 use Rattle.calendar.proofs.Dates.{number-most, year-most, date-number}
 
 -- ---- a number that is at least 1
-least : (z : ℤ) → leZ (pos 1) z ≡ true → (ltZ z (pos 0) ≡ false) × ((pos (posPart z) ≡ z) × (1 ≤ posPart z))
+pub least : (z : ℤ) → leZ (pos 1) z ≡ true → (ltZ z (pos 0) ≡ false) × ((pos (posPart z) ≡ z) × (1 ≤ posPart z))
 least (pos n) e = (is-ge (pos n) (pos 0) (omega arith), (refl, omega (arith, le-true (pos 1) (pos n) e)))
 least (negsuc n) e = absurd (let w : ⊥ = omega (arith, le-true (pos 1) (negsuc n) e) in w)
 
-most : (z : ℤ) (n : ℕ) → leZ (pos 1) z ≡ true → leZ z (pos n) ≡ true → posPart z ≤ n
+pub most : (z : ℤ) (n : ℕ) → leZ (pos 1) z ≡ true → leZ z (pos n) ≡ true → posPart z ≤ n
 most (pos k) n p q = omega (arith, le-true (pos k) (pos n) q)
 most (negsuc k) n p q = omega arith
+
+-- read back from its bits it is no less than 0, and its count is the number that it was made of
+pub counts-from-0 : (z : ℤ) → SFits w64 z → ltZ z (pos 0) ≡ false → ltZ (toZ w64 (ofZ w64 z)) (pos 0) ≡ false
+counts-from-0 z f e = rw (toZ-ofZ f) e
+
+pub same-count : (z : ℤ) (n : ℕ) → SFits w64 z → pos (posPart z) ≡ z → n ≡ posPart (toZ w64 (ofZ w64 z)) → pos n ≡ z
+same-count z n f e p = ap pos (p ∙ ap posPart (toZ-ofZ f)) ∙ e
 
 -- a day number that question 8 lets pass
 pub day-count : (n : ℤ) → isDay n ≡ true → ltZ n (pos 0) ≡ false
@@ -36,6 +47,15 @@ day-count n e = least n (both-true (leZ (pos 1) n) (leZ n (pos 3652059)) e .0) .
 
 pub day-range : (n : ℤ) → isDay n ≡ true → (1 ≤ posPart n) × (posPart n ≤ 3652059)
 day-range n e = let (p, q) = both-true (leZ (pos 1) n) (leZ n (pos 3652059)) e in (least n p .1 .1, most n 3652059 p q)
+
+pub day-same : (n : ℤ) → isDay n ≡ true → pos (posPart n) ≡ n
+day-same n e = least n (both-true (leZ (pos 1) n) (leZ n (pos 3652059)) e .0) .1 .0
+
+pub day-in : (n : ℕ) → 1 ≤ n → n ≤ lastDay → isDay (pos n) ≡ true
+day-in n h l = rw (le-leb 1 n h, le-leb n lastDay l)
+
+pub day-beyond : (n : ℕ) → lastDay < n → isDay (pos n) ≡ false
+day-beyond n h = rw (le-leb 1 n (omega arith), lt-leb n lastDay h)
 
 -- ---- three numbers in their ranges
 pub out-of-ranges : (t : Ymd) → inRanges t ≡ false → isDate (t .year) (t .month) (t .day) ≡ false
@@ -133,10 +153,10 @@ module _ (y m d : ℕ) where
   early-day h e = sym (le-leb d (monthLength y m) (early-most h e))
 
 -- ---- what an answer holds
-answered : (b : Bool) (k n : ℕ) → (b ≡ true → k ≤ 3652059) → unless (cond b 0 8) day.Refused (day.Answered k) ≡ day.Answered n
-    → n ≤ 3652059
-answered true k n h e = let same : k ≡ n = cc in omega (arith, h refl)
-answered false k n h e = let z : _≡_ {A = ℕ} 0 1 = cc in absurd (let w : ⊥ = omega arith in w)
+-- a day that was answered was not refused, and is that day
+pub day-answered : (q k n : ℕ) → unless q day.Refused (day.Answered k) ≡ day.Answered n → (q ≡ 0) × (k ≡ n)
+day-answered zero k n e = (refl, cc)
+day-answered (suc q) k n e = let z : _≡_ {A = ℕ} 0 1 = cc in absurd (let w : ⊥ = omega arith in w)
 
 date-most : (t : Ymd) → isDate (t .year) (t .month) (t .day) ≡ true → dayNumber (posPart (t .year)) (posPart (t .month))
     (posPart (t .day))
@@ -152,9 +172,10 @@ date-most t f = go (inRanges t) refl
 
 pub number-range : (t : Ymd) (n : ℕ) → numberOf t ≡ day.Answered n → n ≤ 3652059
 unfolding numberOf
-number-range t n e = answered (isDate (t .year) (t .month) (t .day)) (dayNumber (posPart (t .year)) (posPart (t .month))
-    (posPart (t .day)))
-    n (date-most t) e
+number-range t n e =
+    let row = dateQuestions (t .year) (t .month) (t .day) in
+    let (z, same) = day-answered (firstNo row) _ n e in
+    omega (arith, date-most t (told 8 row tt z))
 
 pub record InRange (t : Date) : Type 0 where
   pub year : t .year ≤ 9999

@@ -47,7 +47,7 @@ pub const LAST_COUNT: u64 = 3652059;
 
 const LENGTHS: [u8; 12] = [31, 28, 31, 30, 31, 30, 31, 31, 30, 31, 30, 31];
 
-fn leap_day(y: u64) -> u64
+pub fn leap_day(y: u64) -> u64
     ensures { λ r. ⌜ r ≡ leapDay y ⌝ }
 {
     if y % 4 != 0 {
@@ -140,7 +140,7 @@ fn has_day(y: u64, m: u64, d: u64) -> bool
 }
 
 // Question 8 of a day number.
-fn is_day(n: i64) -> bool
+pub fn is_day(n: i64) -> bool
     ensures { λ r. ⌜ r ≡ isDay n ⌝ }
 {
     (1 <= n) & (n <= LAST_DAY)

@@ -1,30 +1,33 @@
 -- What an axis over dates or date-times tells of its ends and of a value on it, in numbers that `omega` reads.
 -- Assumes nothing.
-use mathlib.Core.Path.{_≡_, refl, ap}
+use mathlib.Core.Path.{_≡_, refl, ap, _∙_}
 use mathlib.Core.Logic.{inl, inr}
 use mathlib.Core.Bool.{Bool, true, false, cond, _&&_, _||_}
 use Prim.Native.Nat.{ℕ, _+_, _-_, _*_, _/_, _≤_, _<_}
 use native.Mathlib.Decide.{decLe}
 use native.Mathlib.Omega.{arith}
 use lib.Dec.{ltb}
-use borrow.Author.Tests.{ltb-false}
+use borrow.Author.Tests.{ltb-false, not-true}
 use lib.IntN.{ℤ, pos}
 use lib.Signed.{ltZ, leZ}
 use Rattle.laws.specs.Numbers.{within, posPart, negPart}
 use Rattle.laws.proofs.Signed.{le-true, is-ge}
-use Rattle.laws.proofs.Tests.{both-true, bit}
+use Rattle.laws.proofs.Tests.{both-true, either-false, bit}
 use Rattle.calendar.specs.declared.Date.{Date}
 use Rattle.calendar.specs.Gregorian.{dateOf}
 use Rattle.calendar.specs.Questions.{isDay}
 use Rattle.values.specs.declared.Value.{Value}
-use Rattle.values.specs.Values.{isDuration}
-use Rattle.values.proofs.Numbers.{is-le, is-gt, either-true}
-use Rattle.values.proofs.Values.{DayValue, day-value}
+use Rattle.weeks.specs.Weeks.{mondaysTo}
+use Rattle.weeks.proofs.Mondays.{mondays-to}
+use Rattle.values.specs.Values.{overDates, isDuration}
+use Rattle.values.proofs.Numbers.{is-le, is-gt, either-true, or-true}
+use Rattle.values.proofs.Values.{dates-no-duration, DayValue, date-value, day-value}
 use Rattle.axis.specs.declared.Axis.{Axis}
 use Rattle.axis.specs.Axes.{start, end}
-use Rattle.axis.specs.Questions.{isKind, hasIndex, hasUnmap, ends, valueOn}
+use Rattle.axis.specs.Questions.{isKind, known, hasPeriod, hasIndex, hasUnmap, ends, valueOn}
 use Rattle.axis.proofs.Axes.{both-ends}
-use Rattle.counting.specs.Counting.{Dated, monthly, yearly, fromDay, toDay, firstDate, dateOn, origin, position, sizeOf}
+use Rattle.counting.specs.Counting.{Dated, monthly, yearly, weekly, fromDay, toDay, firstDate, dateOn, origin, position}
+use Rattle.counting.specs.Counting.{sizeOf}
 use Rattle.counting.proofs.Sizes.{size-is}
 use Rattle.counting.proofs.Dates.{ranges, year-9999, year-onward}
 
@@ -35,8 +38,12 @@ below-seven a m h e =
     let l = le-true (a .kind) (pos m) e in
     ap (λ (b : Bool). b && leZ (a .kind) (pos 7)) (is-gt (pos 7) (a .kind) (omega arith))
 
-pub one-dated : (a : Axis) → leZ (a .kind) (pos 1) ≡ true → isDuration (a .kind) ≡ false
-one-dated a e = below-seven a 1 (omega arith) e
+-- kind 1
+pub one-dates : (a : Axis) → known a ≡ true → leZ (a .kind) (pos 1) ≡ true → overDates (a .kind) ≡ true
+unfolding known overDates
+one-dates a k e =
+    let l = both-true (leZ (pos 1) (a .kind)) (leZ (a .kind) (pos 8)) k .0 in
+    rw (l, is-le (a .kind) (pos 3) (omega (arith, le-true (a .kind) (pos 1) e)))
 
 either-kind : (a : Axis) (m n : ℕ) → m ≤ 6 → n ≤ 6 → isKind m a || isKind n a ≡ true → isDuration (a .kind) ≡ false
 either-kind a m n p q e =
@@ -53,17 +60,20 @@ pub yearly-dated : (a : Axis) → yearly a ≡ true → isDuration (a .kind) ≡
 unfolding yearly
 yearly-dated a e = either-kind a 3 6 (omega arith) (omega arith) e
 
+pub weekly-dates : (a : Axis) → weekly a ≡ true → overDates (a .kind) ≡ true
+unfolding weekly overDates
+weekly-dates a e = ap (λ (b : Bool). within (pos 1) (a .kind) (pos 3) || b) e ∙ or-true (within (pos 1) (a .kind) (pos 3))
+
+pub weekly-dated : (a : Axis) → weekly a ≡ true → isDuration (a .kind) ≡ false
+weekly-dated a e = dates-no-duration (a .kind) (weekly-dates a e)
+
 pub unmap-dated : (a : Axis) → hasUnmap a ≡ true → isDuration (a .kind) ≡ false
 unfolding hasUnmap
-unmap-dated a e = below-seven a 6 (omega arith) (both-true (leZ (pos 1) (a .kind)) (leZ (a .kind) (pos 6)) e .1)
+unmap-dated a e = not-true _ e
 
 index-dated : (a : Axis) → hasIndex a ≡ true → isDuration (a .kind) ≡ false
-unfolding hasIndex
-index-dated a e =
-    elim (either-true (within (pos 1) (a .kind) (pos 3)) (within (pos 5) (a .kind) (pos 6)) e) [
-      | inl x ↦ below-seven a 3 (omega arith) (both-true (leZ (pos 1) (a .kind)) (leZ (a .kind) (pos 3)) x .1)
-      | inr x ↦ below-seven a 6 (omega arith) (both-true (leZ (pos 5) (a .kind)) (leZ (a .kind) (pos 6)) x .1)
-    ]
+unfolding hasIndex hasPeriod
+index-dated a e = either-false (isKind 4 a) (isDuration (a .kind)) (not-true _ e) .1
 
 -- questions 2 and 3 of indices
 pub dated : (a : Axis) → hasIndex a ≡ true → ends a ≡ true → Dated a
@@ -128,6 +138,10 @@ module _ (a : Axis) where
   unfolding fromDay
   from-date e = rw e (omega arith)
 
+  -- on an axis over dates it is the start's
+  pub date-from : ends a ≡ true → overDates (a .kind) ≡ true → fromDay a ≡ posPart (a .«start_head»)
+  date-from r d = from-date (ap posPart (date-value (a .kind) (start a) (both-ends a r .first) d .no-tail))
+
   pub to-is : toDay a ≡ posPart (a .«end_head»)
   unfolding toDay
   to-is = refl
@@ -142,9 +156,13 @@ module _ (a : Axis) where
   unfolding origin
   origin-years m y = rw (m, y)
 
-  pub origin-days : monthly a ≡ false → yearly a ≡ false → origin a ≡ posPart (a .«start_head»)
+  pub origin-weeks : monthly a ≡ false → yearly a ≡ false → weekly a ≡ true → origin a ≡ mondaysTo (posPart (a .«start_head»))
   unfolding origin
-  origin-days m y = rw (m, y)
+  origin-weeks m y w = rw (m, y, w)
+
+  pub origin-days : monthly a ≡ false → yearly a ≡ false → weekly a ≡ false → origin a ≡ posPart (a .«start_head»)
+  unfolding origin
+  origin-days m y w = rw (m, y, w)
 
   pub position-months : (v : Value) → monthly a ≡ true →
       position a v ≡ 12 * (dateOn v .year - firstDate a .year) + dateOn v .month
@@ -155,9 +173,14 @@ module _ (a : Axis) where
   unfolding position
   position-years v m y = rw (m, y)
 
-  pub position-days : (v : Value) → monthly a ≡ false → yearly a ≡ false → position a v ≡ posPart (v .head)
+  pub position-weeks : (v : Value) → monthly a ≡ false → yearly a ≡ false → weekly a ≡ true →
+      position a v ≡ mondaysTo (posPart (v .head))
   unfolding position
-  position-days v m y = rw (m, y)
+  position-weeks v m y w = rw (m, y, w)
+
+  pub position-days : (v : Value) → monthly a ≡ false → yearly a ≡ false → weekly a ≡ false → position a v ≡ posPart (v .head)
+  unfolding position
+  position-days v m y w = rw (m, y, w)
 
 -- ---- an axis of which question 3 is answered
 module _ (a : Axis) (d : Dated a) where
@@ -195,22 +218,25 @@ module _ (a : Axis) (d : Dated a) where
   -- ---- where the count begins, and where a value stands
   pub origin-least : 1 ≤ origin a
   unfolding origin
-  origin-least = go (monthly a) (yearly a)
+  origin-least = go (monthly a) (yearly a) (weekly a)
     where
-      go : (m y : Bool) → 1 ≤ cond m (firstDate a .month) (cond y (firstDate a .year) (posPart (a .«start_head»)))
-      go true y = first-near .month-least
-      go false true = first-near .year-least
-      go false false = starts .head-least
+      go : (m y w : Bool) → 1 ≤ cond m (firstDate a .month)
+          (cond y (firstDate a .year) (cond w (mondaysTo (posPart (a .«start_head»))) (posPart (a .«start_head»))))
+      go true y w = first-near .month-least
+      go false true w = first-near .year-least
+      go false false true = omega (arith, mondays-to (posPart (a .«start_head»)), starts .head-least)
+      go false false false = starts .head-least
 
   pub position-most : (v : Value) → valueOn a v ≡ true → position a v ≤ 3652059
   unfolding position
-  position-most v e = go (monthly a) (yearly a)
+  position-most v e = go (monthly a) (yearly a) (weekly a)
     where
-      go : (m y : Bool) → cond m (12 * (dateOn v .year - firstDate a .year) + dateOn v .month)
-          (cond y (dateOn v .year) (posPart (v .head))) ≤ 3652059
-      go true y = let n = on-near v e in omega arith
-      go false true = let n = on-near v e in omega arith
-      go false false = on-day v e .head-most
+      go : (m y w : Bool) → cond m (12 * (dateOn v .year - firstDate a .year) + dateOn v .month)
+          (cond y (dateOn v .year) (cond w (mondaysTo (posPart (v .head))) (posPart (v .head)))) ≤ 3652059
+      go true y w = let n = on-near v e in omega arith
+      go false true w = let n = on-near v e in omega arith
+      go false false true = omega (arith, mondays-to (posPart (v .head)), on-day v e .head-most)
+      go false false false = on-day v e .head-most
 
   pub size-most : sizeOf a ≤ 3652059
   size-most = omega (arith, size-is a, position-most (end a) end-on, origin-least)

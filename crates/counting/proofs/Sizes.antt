@@ -11,7 +11,9 @@ use Rattle.values.proofs.Numbers.{not-below, not-above}
 use Rattle.calendar.specs.declared.Date.{Date}
 use Rattle.axis.specs.declared.Axis.{Axis}
 use Rattle.axis.specs.Axes.{end}
-use Rattle.counting.specs.Counting.{monthly, yearly, firstDate, dateOn, origin, position, larger, sizeFrom, monthSize}
+use Rattle.weeks.specs.Weeks.{mondaysTo}
+use Rattle.counting.specs.Counting.{monthly, yearly, weekly, firstDate, dateOn, origin, position, larger, sizeFrom}
+use Rattle.counting.specs.Counting.{monthSize}
 use Rattle.counting.specs.Counting.{sizeOf}
 
 -- the larger of two, by its test
@@ -71,15 +73,18 @@ months-from s e =
 -- ---- the law
 pub size-is : (a : Axis) → sizeOf a ≡ position a (end a) + 1 - origin a
 unfolding sizeOf position origin
-size-is a = go (monthly a) (yearly a)
+size-is a = go (monthly a) (yearly a) (weekly a)
   where
-    go : (m y : Bool) → cond m (monthSize (firstDate a) (dateOn (end a)))
+    go : (m y w : Bool) → cond m (monthSize (firstDate a) (dateOn (end a)))
         (cond y (sizeFrom (firstDate a .year) (dateOn (end a) .year))
-        (sizeFrom (posPart (a .«start_head»)) (posPart (a .«end_head»))))
+        (cond w (sizeFrom (mondaysTo (posPart (a .«start_head»))) (mondaysTo (posPart (a .«end_head»))))
+        (sizeFrom (posPart (a .«start_head»)) (posPart (a .«end_head»)))))
         ≡ cond m (12 * (dateOn (end a) .year - firstDate a .year) + dateOn (end a) .month)
-        (cond y (dateOn (end a) .year) (posPart (a .«end_head»)))
+        (cond y (dateOn (end a) .year) (cond w (mondaysTo (posPart (a .«end_head»))) (posPart (a .«end_head»))))
         + 1
-        - cond m (firstDate a .month) (cond y (firstDate a .year) (posPart (a .«start_head»)))
-    go true y = months-from (firstDate a) (dateOn (end a))
-    go false true = from-to (firstDate a .year) (dateOn (end a) .year)
-    go false false = from-to (posPart (a .«start_head»)) (posPart (a .«end_head»))
+        - cond m (firstDate a .month)
+        (cond y (firstDate a .year) (cond w (mondaysTo (posPart (a .«start_head»))) (posPart (a .«start_head»))))
+    go true y w = months-from (firstDate a) (dateOn (end a))
+    go false true w = from-to (firstDate a .year) (dateOn (end a) .year)
+    go false false true = from-to (mondaysTo (posPart (a .«start_head»))) (mondaysTo (posPart (a .«end_head»)))
+    go false false false = from-to (posPart (a .«start_head»)) (posPart (a .«end_head»))

@@ -1,5 +1,5 @@
--- How an axis counts: days on kind 1, months on 2 and 5, years on 3 and 6. Its first and its last day, where a value
--- stands, and how many indices it has. Definitions only.
+-- How an axis counts: days on kind 1, months on 2 and 5, years on 3 and 6, Mondays on 8. Its first and its last day,
+-- where a value stands, and how many indices it has. Definitions only.
 -- A difference of counts is 0 where the Rust takes the larger of it and 0.
 use mathlib.Core.Path.{_≡_}
 use mathlib.Core.Bool.{Bool, true, false, cond, _||_}
@@ -11,6 +11,7 @@ use Rattle.calendar.specs.declared.Date.{Date}
 use Rattle.calendar.specs.declared.DateTime.{DateTime}
 use Rattle.calendar.specs.Gregorian.{dateOf}
 use Rattle.calendar.specs.DateTimes.{dateFloor, dateCeil}
+use Rattle.weeks.specs.Weeks.{mondaysTo}
 use Rattle.values.specs.declared.Value.{Value}
 use Rattle.values.specs.Values.{isDuration}
 use Rattle.axis.specs.declared.Axis.{Axis}
@@ -29,6 +30,10 @@ monthly a = isKind 2 a || isKind 5 a
 -- years are counted
 unfoldable pub yearly : Axis → Bool
 yearly a = isKind 3 a || isKind 6 a
+
+-- weeks are counted, by their Mondays
+unfoldable pub weekly : Axis → Bool
+weekly a = isKind 8 a
 
 -- a date is the midnight of its day
 abbrev pub dateTime : Value → DateTime
@@ -52,21 +57,27 @@ dateOn v = dateOf (dateFloor (dateTime v))
 
 -- where the count begins
 unfoldable pub origin : Axis → ℕ
-origin a = cond (monthly a) (firstDate a .month) (cond (yearly a) (firstDate a .year) (posPart (a .«start_head»)))
+origin a =
+    cond (monthly a) (firstDate a .month)
+    (cond (yearly a) (firstDate a .year)
+    (cond (weekly a) (mondaysTo (posPart (a .«start_head»)))
+    (posPart (a .«start_head»))))
 
--- where a value stands. Months count from the first date's year on, and an earlier year counts as that year
+-- where a value stands. Months count from the first date's year on, and an earlier year counts as that year. A week is
+-- counted by the Monday on or before a date
 unfoldable pub position : Axis → Value → ℕ
 position a v =
     cond (monthly a) (12 * (dateOn v .year - firstDate a .year) + dateOn v .month)
     (cond (yearly a) (dateOn v .year)
-    (posPart (v .head)))
+    (cond (weekly a) (mondaysTo (posPart (v .head)))
+    (posPart (v .head))))
 
 -- ---- size(), as the Rust has it; where the first date lies behind the end, it may be 0
 -- x.max(y)
 abbrev pub larger : ℤ → ℤ → ℤ
 larger x y = cond (leZ x y) y x
 
--- RangedDate, and Yearly by years: ((end - start).max(-1) + 1) as usize
+-- RangedDate, Yearly by years, and weeks by Mondays: ((end - start).max(-1) + 1) as usize
 abbrev pub sizeFrom : ℕ → ℕ → ℕ
 sizeFrom from to = asU64 (larger (pos to -ℤ pos from) (minus 1) +ℤ pos 1)
 
@@ -76,9 +87,10 @@ monthSize s e =
     let years = larger (pos (e .year) -ℤ pos (s .year)) (pos 0) in
     asU64 (larger (years *ℤ pos 12 +ℤ (pos 1 -ℤ pos (s .month)) +ℤ (pos (e .month) -ℤ pos 1) +ℤ pos 1) (pos 0))
 
--- by days, months or years
+-- by days, months, years or weeks
 unfoldable pub sizeOf : Axis → ℕ
 sizeOf a =
     cond (monthly a) (monthSize (firstDate a) (dateOn (end a)))
     (cond (yearly a) (sizeFrom (firstDate a .year) (dateOn (end a) .year))
-    (sizeFrom (posPart (a .«start_head»)) (posPart (a .«end_head»))))
+    (cond (weekly a) (sizeFrom (mondaysTo (posPart (a .«start_head»))) (mondaysTo (posPart (a .«end_head»))))
+    (sizeFrom (posPart (a .«start_head»)) (posPart (a .«end_head»)))))

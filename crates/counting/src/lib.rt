@@ -1,5 +1,5 @@
 // How an axis counts, as plotters' DiscreteRanged of each kind: its first and last day, where a value stands, in days,
-// months or years, and its size. Lists, light hints and indices all count with these.
+// months, years or weeks, and its size. Lists, light hints and indices all count with these.
 use axis::Axis;
 use calendar::Date;
 use calendar::DateTime;
@@ -10,10 +10,10 @@ ghost use Prim.Native.Nat.{_+_, _*_, _-_, _≤_};
 ghost use Rattle.laws.specs.Numbers.{posPart};
 ghost use Rattle.calendar.specs.Questions.{isDay};
 ghost use Rattle.axis.specs.Questions.{valueOn};
-ghost use Rattle.counting.specs.Counting.{Dated, monthly, yearly, fromDay, toDay, firstDate, dateOn};
+ghost use Rattle.counting.specs.Counting.{Dated, monthly, yearly, weekly, fromDay, toDay, firstDate, dateOn};
 ghost use Rattle.counting.specs.Counting.{origin, position, sizeOf};
 
-// Where an axis begins and where a value stands, in days, months or years.
+// Where an axis begins and where a value stands, in days, months, years or weeks.
 pub struct Position {
     pub from: u64,
     pub at: u64,
@@ -31,6 +31,13 @@ pub fn yearly(a: Axis) -> bool
     ensures { λ r. ⌜ r ≡ yearly a ⌝ }
 {
     ((3 <= a.kind) & (a.kind <= 3)) | ((6 <= a.kind) & (a.kind <= 6))
+}
+
+// Kind 8.
+pub fn weekly(a: Axis) -> bool
+    ensures { λ r. ⌜ r ≡ weekly a ⌝ }
+{
+    (8 <= a.kind) & (a.kind <= 8)
 }
 
 // date_ceil of the start.
@@ -113,9 +120,17 @@ pub fn position_of(a: Axis, v: Value) -> Position
             at: date.year,
         };
     }
+    let start = day_on(axis::start(a));
+    let day = day_on(v);
+    if weekly(a) {
+        return Position {
+            from: weeks::mondays_to(start),
+            at: weeks::mondays_to(day),
+        };
+    }
     Position {
-        from: day_on(axis::start(a)),
-        at: day_on(v),
+        from: start,
+        at: day,
     }
 }
 

@@ -7,32 +7,31 @@ use Prim.Native.Nat.{ℕ, zero, suc, _+_, _-_, _*_, _/_, _%_, _≤_, _<_}
 use native.Mathlib.Decide.{decLe}
 use native.Mathlib.Omega.{arith}
 use lib.IntN.{pos}
-use lib.Signed.{leZ}
 use Rattle.laws.specs.Numbers.{posPart}
-use Rattle.laws.proofs.Signed.{le-true, le-false}
-use Rattle.laws.proofs.Tests.{both-true}
 use Rattle.calendar.specs.declared.Date.{Date}
 use Rattle.calendar.specs.Gregorian.{dayNumber, date, dateOf}
+use Rattle.weeks.specs.Weeks.{monday, mondaysTo}
+use Rattle.weeks.proofs.Mondays.{mondays-to, monday-is}
 use Rattle.values.specs.declared.Value.{Value}
-use Rattle.values.specs.Values.{isDuration, aDate, aDuration, isValue, midnight}
+use Rattle.values.specs.Values.{overDates, isValue, midnight}
 use Rattle.calendar.specs.Questions.{isDay}
-use Rattle.values.proofs.Numbers.{is-le}
-use Rattle.values.proofs.Values.{date-value, of-dates, of-date-times, of-durations}
+use Rattle.values.proofs.Values.{of-dates, of-date-times, by-form}
 use Rattle.axis.specs.declared.Axis.{Axis}
 use Rattle.axis.specs.Axes.{start, end}
 use Rattle.axis.specs.Questions.{valueOn}
 use Rattle.axis.proofs.Axes.{both-ends}
-use Rattle.counting.specs.Counting.{Dated, monthly, yearly, fromDay, firstDate, dateOn, origin, position, sizeOf}
-use Rattle.discrete.specs.Indices.{monthAt, yearAt, valueAt}
+use Rattle.counting.specs.Counting.{Dated, monthly, yearly, weekly, fromDay, firstDate, dateOn, origin, position, sizeOf}
+use Rattle.discrete.specs.Indices.{monthAt, yearAt, weekAt, valueAt}
 use Rattle.discrete.specs.Walking.{Inside}
 use Rattle.counting.proofs.Dates.{years-grow, year-9999, first-least, first-date-is, first-most, begun}
 use Rattle.counting.proofs.Sizes.{size-is}
-use Rattle.counting.proofs.Counting.{from-start, from-next, starts, end-on, on-near, on-day, from-range, first-near, is-day}
-use Rattle.discrete.proofs.Indices.{value-months, value-years, value-days}
-use Rattle.counting.proofs.Counting.{origin-months, origin-years, origin-days, position-months}
-use Rattle.counting.proofs.Counting.{position-years, position-days}
-use Rattle.discrete.proofs.Indices.{month-first, month-later, year-start, year-later}
-use Rattle.axis.proofs.Checked.{day-in}
+use Rattle.counting.proofs.Counting.{from-start, from-next, date-from, starts, end-on, on-near, on-day, from-range}
+use Rattle.counting.proofs.Counting.{first-near, is-day}
+use Rattle.discrete.proofs.Indices.{value-months, value-years, value-weeks, value-days}
+use Rattle.counting.proofs.Counting.{origin-months, origin-years, origin-weeks, origin-days, position-months}
+use Rattle.counting.proofs.Counting.{position-years, position-weeks, position-days}
+use Rattle.discrete.proofs.Indices.{month-first, month-later, year-start, year-later, week-first, week-later}
+use Rattle.calendar.proofs.Questions.{day-in}
 
 on-midnight : (d : ℕ) → dateOn (midnight (pos d)) ≡ dateOf d
 unfolding dateOn
@@ -95,49 +94,46 @@ module _ (a : Axis) (c : Dated a) where
         ∙ ap (λ (k : ℕ). k + i) (sym (origin-years a m y)))
   ]
 
-  day-index : (i : ℕ) → monthly a ≡ false → yearly a ≡ false → position a (midnight (pos (posPart (a .«start_head») + i)))
-      ≡ origin a + i
-  day-index i m y = position-days a (midnight (pos (posPart (a .«start_head») + i))) m y ∙ ap (λ (k : ℕ). k + i)
-      (sym (origin-days a m y))
+  week-index : (i : ℕ) → monthly a ≡ false → yearly a ≡ false → weekly a ≡ true → position a (weekAt a i) ≡ origin a + i
+  week-index zero m y w =
+      ap (position a) (week-first a zero refl)
+      ∙ position-weeks a (start a) m y w
+      ∙ (let e : mondaysTo (posPart (a .«start_head»)) ≡ origin a + 0 = omega (arith, origin-weeks a m y w) in e)
+  week-index (suc n) m y w =
+      let s = posPart (a .«start_head») in
+      let t = monday s + 7 * suc n in
+      let h = starts a c .head-least in
+      ap (position a) (week-later a (suc n) (λ z. omega arith))
+      ∙ position-weeks a (midnight (pos t)) m y w
+      ∙ (let e : mondaysTo t ≡ origin a + suc n =
+      omega (arith, origin-weeks a m y w, mondays-to s, mondays-to t, monday-is s h) in e)
+
+  day-index : (i : ℕ) → monthly a ≡ false → yearly a ≡ false → weekly a ≡ false →
+      position a (midnight (pos (posPart (a .«start_head») + i))) ≡ origin a + i
+  day-index i m y w = position-days a (midnight (pos (posPart (a .«start_head») + i))) m y w ∙ ap (λ (k : ℕ). k + i)
+      (sym (origin-days a m y w))
 
   -- THE LAW: a value stands at its index
   pub at-index : (i : ℕ) → position a (valueAt a i) ≡ origin a + i
-  at-index i = go (monthly a) (yearly a) refl refl
+  at-index i = go (monthly a) (yearly a) (weekly a) refl refl refl
     where
-      go : (m y : Bool) → monthly a ≡ m → yearly a ≡ y → position a (valueAt a i) ≡ origin a + i
-      go true y e f = ap (position a) (value-months a i e) ∙ month-index i e
-      go false true e f = ap (position a) (value-years a i e f) ∙ year-index i e f
-      go false false e f = ap (position a) (value-days a i e f) ∙ day-index i e f
+      go : (m y w : Bool) → monthly a ≡ m → yearly a ≡ y → weekly a ≡ w → position a (valueAt a i) ≡ origin a + i
+      go true y w e f g = ap (position a) (value-months a i e) ∙ month-index i e
+      go false true w e f g = ap (position a) (value-years a i e f) ∙ year-index i e f
+      go false false true e f g = ap (position a) (value-weeks a i e f g) ∙ week-index i e f g
+      go false false false e f g = ap (position a) (value-days a i e f g) ∙ day-index i e f g
 
   -- ---- it is a value of the kind
   start-is : isValue (a .kind) (start a) ≡ true
   start-is = both-ends a (c .real) .first
 
-  starts-from : leZ (a .kind) (pos 3) ≡ true → leZ (pos 1) (a .kind) ≡ true
-  starts-from e = both-true (leZ (pos 1) (a .kind)) (aDate (start a)) (sym (of-dates (a .kind) (start a) e) ∙ start-is) .0
-
-  most-six : leZ (a .kind) (pos 6) ≡ true
-  most-six = go (leZ (a .kind) (pos 3)) (leZ (a .kind) (pos 6)) refl refl
-    where
-      go : (p q : Bool) → leZ (a .kind) (pos 3) ≡ p → leZ (a .kind) (pos 6) ≡ q → leZ (a .kind) (pos 6) ≡ true
-      go p true e f = f
-      go true false e f = absurd (let w : ⊥ = omega (arith, le-true (a .kind) (pos 3) e, le-false (a .kind) (pos 6) f) in w)
-      go false false e f =
-          let (x, y) = both-true (leZ (a .kind) (pos 7)) (aDuration (start a)) (sym (of-durations (a .kind) (start a) e f)
-          ∙ start-is) in
-          let z : leZ (pos 7) (a .kind) ≡ true = is-le (pos 7) (a .kind) (omega (arith, le-false (a .kind) (pos 6) f)) in
-          let w : isDuration (a .kind) ≡ true = rw (z, x) in
-          absurd (true≢false (sym w ∙ c .dates))
-
   no-time : (v : Value) → v .tail ≡ pos 0 → isDay (v .head) ≡ true → isValue (a .kind) v ≡ true
-  no-time v t d = go (leZ (a .kind) (pos 3)) refl
-    where
-      go : (b : Bool) → leZ (a .kind) (pos 3) ≡ b → isValue (a .kind) v ≡ true
-      go true e = of-dates (a .kind) v e ∙ simp (starts-from e, d, t)
-      go false e = of-date-times (a .kind) v e most-six ∙ simp (d, t)
+  no-time v t d =
+      by-form (a .kind) (start a) start-is (λ e _. of-dates (a .kind) v e ∙ simp (d, t))
+      (λ e _. of-date-times (a .kind) v e ∙ simp (d, t)) (λ e _. absurd (true≢false (sym e ∙ c .dates)))
 
   form : (i : ℕ) → (valueAt a i ≡ start a) ⊎ (valueAt a i .tail ≡ pos 0)
-  form i = go (monthly a) (yearly a) refl refl
+  form i = go (monthly a) (yearly a) (weekly a) refl refl refl
     where
       months : (i : ℕ) → monthAt a i .tail ≡ pos 0
       months zero = ap (λ (v : Value). v .tail) (month-first a zero refl)
@@ -149,10 +145,16 @@ module _ (a : Axis) (c : Dated a) where
         | no h ↦ inr (ap (λ (v : Value). v .tail) (year-later a i (omega arith)))
       ]
 
-      go : (m y : Bool) → monthly a ≡ m → yearly a ≡ y → (valueAt a i ≡ start a) ⊎ (valueAt a i .tail ≡ pos 0)
-      go true y e f = rw (value-months a i e) (inr (months i))
-      go false true e f = rw (value-years a i e f) years
-      go false false e f = inr (ap (λ (v : Value). v .tail) (value-days a i e f))
+      weeks : (i : ℕ) → (weekAt a i ≡ start a) ⊎ (weekAt a i .tail ≡ pos 0)
+      weeks zero = inl (week-first a zero refl)
+      weeks (suc n) = inr (ap (λ (v : Value). v .tail) (week-later a (suc n) (λ z. omega arith)))
+
+      go : (m y w : Bool) → monthly a ≡ m → yearly a ≡ y → weekly a ≡ w →
+          (valueAt a i ≡ start a) ⊎ (valueAt a i .tail ≡ pos 0)
+      go true y w e f g = rw (value-months a i e) (inr (months i))
+      go false true w e f g = rw (value-years a i e f) years
+      go false false true e f g = rw (value-weeks a i e f g) (weeks i)
+      go false false false e f g = inr (ap (λ (v : Value). v .tail) (value-days a i e f g))
 
   pub of-kind : (i : ℕ) → isDay (valueAt a i .head) ≡ true → valueOn a (valueAt a i) ≡ true
   unfolding valueOn
@@ -162,12 +164,9 @@ module _ (a : Axis) (c : Dated a) where
   ]
 
   -- ---- below the size
-  -- kinds 1 to 3
-  pub dates-inside : leZ (a .kind) (pos 3) ≡ true → fromDay a ≤ 3652059
-  unfolding fromDay
-  dates-inside e =
-      let d = date-value (a .kind) (start a) (both-ends a (c .real) .first) e in
-      rw (d .no-tail) (omega (arith, d .head-most))
+  -- kinds 1 to 3 and 8
+  pub dates-inside : overDates (a .kind) ≡ true → fromDay a ≤ 3652059
+  dates-inside e = omega (arith, date-from a (c .real) e, starts a c .head-most)
 
   first-year : fromDay a ≤ 3652059 → firstDate a .year ≤ 9999
   unfolding firstDate
@@ -202,18 +201,33 @@ module _ (a : Axis) (c : Dated a) where
         (omega arith)) (first-most (firstDate a .year + i) 1 (omega arith) (omega arith) (omega arith) (omega arith))))
   ]
 
-  day-below : (i : ℕ) → monthly a ≡ false → yearly a ≡ false → i < sizeOf a → isDay (pos (posPart (a .«start_head») + i)) ≡ true
-  day-below i m y h =
+  week-below : (i : ℕ) → monthly a ≡ false → yearly a ≡ false → weekly a ≡ true → i < sizeOf a → isDay (weekAt a i .head) ≡ true
+  week-below zero m y w h = rw (week-first a zero refl) (is-day (start a) (starts a c))
+  week-below (suc n) m y w l =
+      let s = posPart (a .«start_head») in
+      let e = on-day a c (end a) (end-on a c) in
+      let size : suc n < mondaysTo (posPart (a .«end_head»)) + 1 - mondaysTo s =
+      rw (size-is a, position-weeks a (end a) m y w, origin-weeks a m y w) at l in
+      let h = starts a c .head-least in
+      let is = monday-is s h in
+      let from = mondays-to s in
+      let to = mondays-to (posPart (a .«end_head»)) in
+      rw (week-later a (suc n) (λ z. omega arith)) (day-in (monday s + 7 * suc n) (omega arith) (omega arith))
+
+  day-below : (i : ℕ) → monthly a ≡ false → yearly a ≡ false → weekly a ≡ false → i < sizeOf a →
+      isDay (pos (posPart (a .«start_head») + i)) ≡ true
+  day-below i m y w h =
       let s = starts a c in
       let e = on-day a c (end a) (end-on a c) in
       let size : i < posPart (a .«end_head») + 1 - posPart (a .«start_head») =
-      rw (size-is a, position-days a (end a) m y, origin-days a m y) at h in
+      rw (size-is a, position-days a (end a) m y w, origin-days a m y w) at h in
       day-in (posPart (a .«start_head») + i) (omega arith) (omega arith)
 
   pub below-size : Inside a → (i : ℕ) → i < sizeOf a → isDay (valueAt a i .head) ≡ true
-  below-size l i h = go (monthly a) (yearly a) refl refl
+  below-size l i h = go (monthly a) (yearly a) (weekly a) refl refl refl
     where
-      go : (m y : Bool) → monthly a ≡ m → yearly a ≡ y → isDay (valueAt a i .head) ≡ true
-      go true y e f = rw (value-months a i e) (month-below i e (l e) h)
-      go false true e f = rw (value-years a i e f) (year-below i e f h)
-      go false false e f = rw (value-days a i e f) (day-below i e f h)
+      go : (m y w : Bool) → monthly a ≡ m → yearly a ≡ y → weekly a ≡ w → isDay (valueAt a i .head) ≡ true
+      go true y w e f g = rw (value-months a i e) (month-below i e (l e) h)
+      go false true w e f g = rw (value-years a i e f) (year-below i e f h)
+      go false false true e f g = rw (value-weeks a i e f g) (week-below i e f g h)
+      go false false false e f g = rw (value-days a i e f g) (day-below i e f g h)

@@ -8,33 +8,36 @@ use native.Mathlib.Omega.{arith}
 use lib.Dec.{ltb, leb}
 use lib.IntN.{ℤ, pos}
 use lib.ListN.{length, getD}
-use lib.Signed.{leZ}
 use borrow.Author.Tests.{ltb-true, leb-true}
 use Rattle.laws.specs.Asking.{ask, thenAsk, firstNo, unless}
 use Rattle.laws.specs.Numbers.{posPart}
 use Rattle.laws.proofs.Signed.{same}
+use Rattle.weeks.specs.Weeks.{weekday, monday}
+use Rattle.weeks.proofs.Mondays.{same-week, weeks-on}
 use Rattle.values.specs.declared.Value.{Value}
 use Rattle.calendar.specs.Questions.{isDay}
 use Rattle.values.proofs.Numbers.{is-le}
 use Rattle.values.proofs.Values.{date-value}
 use Rattle.axis.specs.declared.Axis.{Axis}
+use Rattle.axis.specs.Axes.{start}
 use Rattle.axis.specs.Questions.{isIndex, valueOn, checked}
 use Rattle.axis.proofs.Questions.{index-range}
 use Rattle.discrete.specs.declared.NumberAnswer.the-variants as number
 use Rattle.axis.specs.declared.ValueAnswer.the-variants as value
 use Rattle.discrete.specs.declared.StepAnswer.the-variants as step
-use Rattle.counting.specs.Counting.{Dated, monthly, yearly, fromDay, origin, position, sizeOf}
+use Rattle.counting.specs.Counting.{Dated, monthly, yearly, weekly, fromDay, origin, position, sizeOf}
 use Rattle.discrete.specs.Indices.{isIndexed, indexOf, valueAt}
-use Rattle.values.specs.Values.{midnight}
+use Rattle.values.specs.Values.{overDates, midnight}
 use Rattle.discrete.specs.Answers.{sizeQuestions, valueQuestions, indexQuestions}
 use Rattle.discrete.specs.Answers.{indexIn, nextIn, previousIn, valueIn, stepped, sizeAnswer, indexAnswer}
 use Rattle.discrete.specs.Answers.{fromIndexAnswer, nextAnswer, previousAnswer, valuesAnswer}
 use Rattle.discrete.specs.Walking.{cursorAt, onward, walk, valuesFrom, Inside}
-use Rattle.counting.proofs.Counting.{size-most, origin-days, position-days, on-day, is-day}
+use Rattle.counting.proofs.Counting.{size-most, origin-days, position-days, position-weeks, starts, on-day, is-day}
 use Rattle.discrete.proofs.Indices as indices
-use Rattle.discrete.proofs.Indices.{value-months, value-days, month-first}
+use Rattle.discrete.proofs.Indices.{value-months, value-weeks, value-days, month-first, week-first, week-later}
 use Rattle.laws.proofs.Asked.{more, fewer}
-use Rattle.axis.proofs.Checked.{passed, answered-at, in-range, out-of-range, day-beyond, no-value}
+use Rattle.calendar.proofs.Questions.{day-beyond}
+use Rattle.axis.proofs.Checked.{passed, answered-at, in-range, out-of-range, no-value}
 use Rattle.discrete.proofs.Answers.{counted-as, counted, index-is, next-is, previous-is, value-is, value-none}
 use Rattle.discrete.proofs.AtIndex.{at-index, of-kind, dates-inside, below-size}
 
@@ -238,8 +241,8 @@ pub previous-undone : (a : Axis) (i n : ℕ) (v w : Value) → sizeAnswer a ≡ 
     ≡ value.At v → previousAnswer a v ≡ value.At w → nextAnswer a w ≡ value.At v
 previous-undone a i n v w s h e p = previous-index a v i (index-of-from-index a (pos i) v e) w p .back n s h ∙ e
 
--- ---- THE WALK. Its axis: kinds 1, 2 and 3; kind 6; and kind 5 where the first day is one of question 3.
-pub dates-walk : (a : Axis) (n : ℕ) → sizeAnswer a ≡ number.Is n → leZ (a .kind) (pos 3) ≡ true → Inside a
+-- ---- THE WALK. Its axis: kinds 1, 2, 3 and 8; kind 6; and kind 5 where the first day is one of question 3.
+pub dates-walk : (a : Axis) (n : ℕ) → sizeAnswer a ≡ number.Is n → overDates (a .kind) ≡ true → Inside a
 dates-walk a n size k m = dates-inside a (counted a (sized a n size .0)) k
 
 pub years-walk : (a : Axis) → monthly a ≡ false → Inside a
@@ -312,24 +315,59 @@ the-value a i (suc n) (suc j) d h =
     the-value a (i + 1) n j d (omega arith) ∙ ap (valueAt a) e
 
 -- ---- on kind 1 every value from the start on is the value of its index, so that these laws hold of it too
-days-only : (a : Axis) → a .kind ≡ pos 1 → (monthly a ≡ false) × (yearly a ≡ false)
-unfolding monthly yearly
-days-only a k = rw k (refl, refl)
+days-only : (a : Axis) → a .kind ≡ pos 1 → (monthly a ≡ false) × (yearly a ≡ false) × (weekly a ≡ false)
+unfolding monthly yearly weekly
+days-only a k = rw k (refl, refl, refl)
 
 no-tail : (a : Axis) (v : Value) → a .kind ≡ pos 1 → valueOn a v ≡ true → v .tail ≡ pos 0
-unfolding valueOn
+unfolding valueOn overDates
 no-tail a v k o = date-value (a .kind) v o (rw k) .no-tail
 
 pub from-index-of : (a : Axis) (v : Value) (i : ℕ) → a .kind ≡ pos 1 → indexAnswer a v ≡ number.Is i →
     fromIndexAnswer a (pos i) ≡ value.At v
 from-index-of a v i k has =
     let x = indexed a v i has in
-    let (m, y) = days-only a k in
+    let (m, y, u) = days-only a k in
     let c = counted a (x .row) in
     let d = on-day a c v (x .on) in
     let here : posPart (a .«start_head») + i ≡ posPart (v .head) =
-    omega (arith, x .at, x .from, origin-days a m y, position-days a v m y) in
+    omega (arith, x .at, x .from, origin-days a m y u, position-days a v m y u) in
     let same-day : pos (posPart (a .«start_head») + i) ≡ v .head =
     same (pos (posPart (a .«start_head») + i)) (v .head) (omega arith) in
-    let e : valueAt a i ≡ v = value-days a i m y ∙ (λ j. record { head = same-day j; tail = sym (no-tail a v k (x .on)) j }) in
+    let e : valueAt a i ≡ v = value-days a i m y u ∙ (λ j. record { head = same-day j; tail = sym (no-tail a v k (x .on)) j }) in
     from-place a i (x .row) (omega (arith, x .most)) ∙ ap (λ (w : Value). checked (value.At w)) e ∙ sym (in-range v (is-day v d))
+
+-- ---- on kind 8 the value of a date's index is in the date's week, and that is all: from day 3 to 10 the index of day 2 is
+-- 0 and gives day 3, the start, which is no Monday, and the index of day 10 is 1 and gives day 8
+weeks-only : (a : Axis) → a .kind ≡ pos 8 → (monthly a ≡ false) × (yearly a ≡ false) × (weekly a ≡ true)
+unfolding monthly yearly weekly
+weeks-only a k = rw k (refl, refl, refl)
+
+pub week-of-index : (a : Axis) (v w : Value) (i : ℕ) → a .kind ≡ pos 8 → indexAnswer a v ≡ number.Is i →
+    fromIndexAnswer a (pos i) ≡ value.At w → monday (posPart (w .head)) ≡ monday (posPart (v .head))
+week-of-index a v w i k has e =
+    let (m, y, u) = weeks-only a k in
+    let x = indexed a v i has in
+    let z = indexed a w i (index-of-from-index a (pos i) w e) in
+    let c = counted a (x .row) in
+    same-week (posPart (w .head)) (posPart (v .head)) (on-day a c w (z .on) .head-least) (on-day a c v (x .on) .head-least)
+    (omega (arith, x .at, x .from, z .at, z .from, position-weeks a v m y u, position-weeks a w m y u))
+
+-- index 0 gives the start, and every other one a Monday
+pub first-of-weeks : (a : Axis) (n : ℕ) → a .kind ≡ pos 8 → sizeAnswer a ≡ number.Is n →
+    fromIndexAnswer a (pos 0) ≡ value.At (start a)
+first-of-weeks a n k size =
+    let (m, y, u) = weeks-only a k in
+    let s = sized a n size .0 in
+    from-place a 0 s (omega arith)
+    ∙ ap (λ (v : Value). checked (value.At v)) (value-weeks a 0 m y u ∙ week-first a 0 refl)
+    ∙ sym (in-range (start a) (is-day (start a) (starts a (counted a s))))
+
+pub others-are-mondays : (a : Axis) (i : ℕ) (w : Value) → a .kind ≡ pos 8 → fromIndexAnswer a (pos (suc i)) ≡ value.At w →
+    weekday (posPart (w .head)) ≡ 1
+others-are-mondays a i w k e =
+    let (m, y, u) = weeks-only a k in
+    let l = listed a (pos (suc i)) w e in
+    let s = posPart (a .«start_head») in
+    let here = sym (l .is) ∙ value-weeks a (suc i) m y u ∙ week-later a (suc i) (λ z. omega arith) in
+    rw here (weeks-on s (suc i) (starts a (counted a (l .row)) .head-least))

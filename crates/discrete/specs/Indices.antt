@@ -1,18 +1,19 @@
 -- Indices: which value has one, the value of an index, and the index under a pixel. Definitions only.
 use mathlib.Core.Bool.{Bool, cond}
-use Prim.Native.Nat.{ℕ, _+_, _-_, _/_, _%_}
+use Prim.Native.Nat.{ℕ, _+_, _-_, _*_, _/_, _%_}
 use lib.Dec.{eqb, leb}
 use lib.IntN.{ℤ, pos, _-ℤ_}
 use lib.Ieee.{binary64, ofInt, mul, div, toUnsigned}
 use Rattle.laws.specs.Numbers.{posPart}
 use Rattle.calendar.specs.Gregorian.{dayNumber}
+use Rattle.weeks.specs.Weeks.{monday}
 use Rattle.floats.specs.Rounding.{floorF}
 use Rattle.values.specs.declared.Value.{Value}
 use Rattle.values.specs.Values.{midnight}
 use Rattle.axis.specs.declared.Axis.{Axis}
 use Rattle.axis.specs.declared.Limits.{Limits}
 use Rattle.axis.specs.Axes.{start}
-use Rattle.counting.specs.Counting.{monthly, yearly, fromDay, firstDate, origin, position, sizeOf}
+use Rattle.counting.specs.Counting.{monthly, yearly, weekly, fromDay, firstDate, origin, position, sizeOf}
 
 -- a value that stands before the start has no index
 unfoldable pub isIndexed : Axis → Value → Bool
@@ -37,12 +38,17 @@ january a year =
 abbrev pub yearAt : Axis → ℕ → Value
 yearAt a i = january a (firstDate a .year + i)
 
+-- the Monday of a week after the start's; but index 0 is the start itself
+unfoldable pub weekAt : Axis → ℕ → Value
+weekAt a i = cond (eqb i 0) (start a) (midnight (pos (monday (posPart (a .«start_head»)) + 7 * i)))
+
 -- the value of an index
 unfoldable pub valueAt : Axis → ℕ → Value
 valueAt a i =
     cond (monthly a) (monthAt a i)
     (cond (yearly a) (yearAt a i)
-    (midnight (pos (posPart (a .«start_head») + i))))
+    (cond (weekly a) (weekAt a i)
+    (midnight (pos (posPart (a .«start_head») + i)))))
 
 -- (offset as f64 * size as f64 / width as f64).floor() as usize
 unfoldable pub indexAt : ℤ → ℕ → ℤ → ℕ

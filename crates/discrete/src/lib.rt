@@ -1,4 +1,4 @@
-// Indices of the kinds that count days, months or years, as plotters' DiscreteRanged: size, index_of, from_index, next,
+// Indices of the kinds that count days, months, years or weeks, as plotters' DiscreteRanged: size, index_of, from_index, next,
 // previous, the values cursor, and the value under a pixel. Whole-number work, with no float.
 use axis::Axis;
 use axis::Limits;
@@ -14,8 +14,8 @@ ghost use Rattle.calendar.specs.Gregorian.{dayNumber};
 ghost use Rattle.calendar.specs.Questions.{lastDay};
 ghost use Rattle.values.specs.Values.{midnight};
 ghost use Rattle.axis.specs.Questions.{valueOn, isIndex, unmapPixels, checked};
-ghost use Rattle.counting.specs.Counting.{Dated, monthly, yearly};
-ghost use Rattle.discrete.specs.Indices.{monthAt, january, yearAt, valueAt, indexAt, indexUnder};
+ghost use Rattle.counting.specs.Counting.{Dated, monthly, yearly, weekly};
+ghost use Rattle.discrete.specs.Indices.{monthAt, january, yearAt, weekAt, valueAt, indexAt, indexUnder};
 ghost use Rattle.discrete.specs.Answers.{sizeQuestions, valueQuestions, indexQuestions, IndexAsked, unmapQuestions};
 ghost use Rattle.discrete.specs.Answers.{indexIn, nextIn, previousIn, valueIn, sizeAnswer, indexAnswer};
 ghost use Rattle.discrete.specs.Answers.{fromIndexAnswer, nextAnswer, previousAnswer, stepped, valuesAnswer, unmapAnswer};
@@ -117,6 +117,18 @@ fn year_at(a: Axis, i: u64) -> ValueAnswer
     january(a, first.year + i)
 }
 
+// The start itself, and then Mondays.
+fn week_at(a: Axis, i: u64) -> ValueAnswer
+    requires { ⌜ Dated a × (i ≤ lastDay) ⌝ }
+    ensures { λ r. ⌜ r ≡ checked (ValueAnswer.At (weekAt a i)) ⌝ }
+{
+    let start = axis::start(a);
+    if i == 0 {
+        return ValueAnswer::At(start);
+    }
+    at_midnight(weeks::monday(counting::day_on(start)) + 7 * i)
+}
+
 // The value of an index, and question 10 of it.
 pub fn value_at(a: Axis, i: u64) -> ValueAnswer
     requires { ⌜ Dated a × (i ≤ lastDay) ⌝ }
@@ -127,6 +139,9 @@ pub fn value_at(a: Axis, i: u64) -> ValueAnswer
     }
     if counting::yearly(a) {
         return year_at(a, i);
+    }
+    if counting::weekly(a) {
+        return week_at(a, i);
     }
     at_midnight(counting::day_on(axis::start(a)) + i)
 }
@@ -164,9 +179,26 @@ fn next_year(a: Axis, v: Value) -> ValueAnswer
     january(a, date.year + 1)
 }
 
+// The next Monday, up to the end.
+fn next_week(a: Axis, v: Value) -> ValueAnswer
+    requires { ⌜ Dated a × (valueOn a v ≡ true)
+        × (monthly a ≡ false) × (yearly a ≡ false) × (weekly a ≡ true) ⌝ }
+    ensures { λ r. ⌜ r ≡ checked (nextIn a v) ⌝ }
+{
+    let at = weeks::mondays_to(counting::day_on(v));
+    if at < weeks::mondays_to(counting::day_on(axis::start(a))) {
+        return ValueAnswer::None;
+    }
+    if weeks::mondays_to(counting::day_on(axis::end(a))) <= at {
+        return ValueAnswer::None;
+    }
+    at_midnight(7 * at + 1)
+}
+
 // The next day, up to the end.
 fn next_day(a: Axis, v: Value) -> ValueAnswer
-    requires { ⌜ Dated a × (valueOn a v ≡ true) × (monthly a ≡ false) × (yearly a ≡ false) ⌝ }
+    requires { ⌜ Dated a × (valueOn a v ≡ true)
+        × (monthly a ≡ false) × (yearly a ≡ false) × (weekly a ≡ false) ⌝ }
     ensures { λ r. ⌜ r ≡ checked (nextIn a v) ⌝ }
 {
     let at = counting::day_on(v);
@@ -189,6 +221,9 @@ pub fn next_in(a: Axis, v: Value) -> ValueAnswer
     }
     if counting::yearly(a) {
         return next_year(a, v);
+    }
+    if counting::weekly(a) {
+        return next_week(a, v);
     }
     next_day(a, v)
 }

@@ -26,7 +26,7 @@ use Rattle.keypoints.specs.Dates.{everyFew, datesFrom, dateKeyPoints}
 use Rattle.keypoints.proofs.Loops.{values-same, for-is}
 
 -- the date with a day number
-abbrev on : ℕ → Value
+abbrev pub on : ℕ → Value
 on day = midnight (pos day)
 
 -- days k apart, of which the last is no more than d after the first

@@ -18,8 +18,8 @@ use Rattle.values.proofs.Fits.{fits-range}
 use Rattle.axis.specs.declared.Axis.{Axis}
 use Rattle.axis.specs.Axes.{spanOf}
 use Rattle.axis.proofs.Axes.{span-from-0}
-use Rattle.counting.specs.Counting.{Dated, monthly, yearly}
-use Rattle.counting.proofs.Counting.{monthly-dated, yearly-dated}
+use Rattle.counting.specs.Counting.{Dated, monthly, yearly, weekly}
+use Rattle.counting.proofs.Counting.{one-dates, monthly-dated, yearly-dated, weekly-dated}
 use Rattle.period.specs.Periods.{periodOf}
 use Rattle.steps.specs.declared.Steps.{Steps}
 use Rattle.steps.specs.Progression.{ticks}
@@ -35,6 +35,7 @@ use Rattle.keypoints.specs.Times.{periodOn, ifSome, dateTimesBy, dateTim
 use Rattle.keypoints.specs.KeyPoints.{keyPoints}
 use Rattle.keypoints.proofs.Dates.{dates-same}
 use Rattle.keypoints.proofs.Months.{months-same, years-same}
+use Rattle.keypoints.proofs.Weeks.{weeks-same}
 use Rattle.keypoints.proofs.Periods.{optional, period-same}
 use Rattle.keypoints.proofs.Times.{date-times-same, durations-same}
 use Rattle.keypoints.proofs.Spans.{whole-days-same}
@@ -86,8 +87,9 @@ module _ (turns n : ℕ) (a : Axis) (q : Accepted a n) (t : n + 30 ≤ turns) wh
   pub key-points-same : keyPoints turns a n ≡ ticks (planOf a n)
   unfolding keyPoints planOf
   key-points-same =
-      both _ _ (leZ (a .kind) (pos 1)) (λ o. dates-same a n (date-order a n q o))
+      both _ _ (leZ (a .kind) (pos 1)) (λ o. dates-same a n (date-order a n q (one-dates a (q .kind) o)))
       (λ o. both _ _ (monthly a)
       (λ m. months-same a (dated (monthly-dated a m)) n turns (q .order) (omega arith) (q .most))
       (λ m. both _ _ (yearly a) (λ y. years-same a (dated (yearly-dated a y)) n turns (q .order) (omega arith))
-      (λ y. four (q .some (four-or-seven a (q .kind) o m y)))))
+      (λ y. both _ _ (weekly a) (λ w. weeks-same a n (dated (weekly-dated a w)))
+      (λ w. four (q .some (four-or-seven a (q .kind) o m y w))))))

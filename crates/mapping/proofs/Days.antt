@@ -1,24 +1,24 @@
 -- Two different days of a date axis with more pixels than days have different pixels, as mapping answers them.
 -- Assumes nothing.
 use mathlib.Core.Path.{_≡_, sym, _∙_, ap}
-use mathlib.Core.Bool.{Bool, true, false, _&&_}
+use mathlib.Core.Bool.{true, false}
 use Prim.Native.Nat.{ℕ, suc, _+_, _-_, _*_, _≤_, _<_}
 use native.Mathlib.Decide.{decLe}
 use native.Mathlib.Omega.{arith}
 use lib.IntN.{ℤ, pos, negsuc, natAbs, _+ℤ_, _-ℤ_, _*ℤ_}
-use lib.Signed.{leZ, ltZ, _<ℤ_}
-use Rattle.laws.specs.Numbers.{within, posPart, negPart}
+use lib.Signed.{ltZ, _<ℤ_}
+use Rattle.laws.specs.Numbers.{posPart, negPart}
 use Rattle.laws.proofs.Signed.{add, sub, mul-up, mul-dn, same, lt-true}
 use Rattle.laws.proofs.Asked.{told}
-use Rattle.laws.proofs.Tests.{both-true, holds}
+use Rattle.laws.proofs.Tests.{holds}
 use Rattle.floats.specs.Rounding.{quotientOf}
 use Rattle.floats.proofs.Quotients.{cutQuotient}
 use Rattle.floats.proofs.Growth.{pixels-grow, pixels-fall}
 use Rattle.values.specs.declared.Value.{Value}
-use Rattle.values.specs.Values.{midnight, isDuration}
+use Rattle.values.specs.Values.{overDates, midnight, isDuration}
 use Rattle.values.specs.Differences.{nanoseconds, difference, fitsI64, nanosecondsOf}
-use Rattle.values.proofs.Numbers.{is-gt, within-true, not-below}
-use Rattle.values.proofs.Values.{DateValue, date-value}
+use Rattle.values.proofs.Numbers.{within-true, not-below}
+use Rattle.values.proofs.Values.{dates-no-duration, DateValue, date-value}
 use Rattle.values.proofs.Fits.{fits-yes}
 use Rattle.axis.specs.declared.Axis.{Axis}
 use Rattle.axis.specs.declared.Limits.{Limits}
@@ -30,10 +30,6 @@ use Rattle.mapping.specs.Mapping.{scaleOf, mapCoord, placedBy, placed, m
 use Rattle.mapping.specs.Days.{DayOf, MorePixels}
 use Rattle.axis.proofs.PixelRanges.{limits-are, between-few}
 use Rattle.mapping.proofs.Answers.{accepted}
-
--- ---- dates are no durations
-no-duration : (k : ℤ) → within (pos 1) k (pos 3) ≡ true → isDuration k ≡ false
-no-duration k e = ap (λ (b : Bool). b && leZ k (pos 7)) (is-gt (pos 7) k (omega (arith, within-true (pos 1) k (pos 3) e .1)))
 
 -- ---- differences in whole days
 days-between : (k h s : ℤ) (n : ℕ) → isDuration k ≡ false → posPart h + negPart s ≡ n + (posPart s + negPart h) →
@@ -81,7 +77,7 @@ size-of : (z : ℤ) (p n : ℕ) → posPart z + n ≡ p + negPart z → n ≤ p 
 size-of (pos k) p n e l = omega arith
 size-of (negsuc k) p n e l = absurd (let w : ⊥ = omega arith in w)
 
-module _ (a : Axis) (l : Limits) (w : MorePixels a l) (dates : within (pos 1) (a .kind) (pos 3) ≡ true)
+module _ (a : Axis) (l : Limits) (w : MorePixels a l) (dates : overDates (a .kind) ≡ true)
     (first : DateValue (start a)) (last : DateValue (end a)) (page : pixels l ≡ true) where
   width-few : natAbs (l .high -ℤ l .low) ≤ 65534
   width-few = let (low, high) = limits-are l page in between-few (l .high) (l .low) high low
@@ -96,7 +92,7 @@ module _ (a : Axis) (l : Limits) (w : MorePixels a l) (dates : within (pos 1) (a
       let x = within-true s i t (I .inside) in
       let y = within-true s j t (J .inside) in
       let d = posPart t - posPart s in
-      let no = no-duration (a .kind) dates in
+      let no = dates-no-duration (a .kind) dates in
       let D : d < natAbs (l .high -ℤ l .low) =
       omega (arith, size-of (t -ℤ s) (posPart t) (posPart s) (omega (arith, sub t s)) (omega arith)) in
       let f : offsetOf a (midnight i) ≡ pos ((posPart i - posPart s) * 86400000000000) =
@@ -120,9 +116,8 @@ days-differ a l i j p q w I J ne ei ej e =
     let (ny, y) = accepted a l (midnight j) q ej in
     let row = mapQuestions a l (midnight i) in
     let both = both-ends a (told 3 row tt nx) in
-    let dates = both-true (leZ (pos 1) (a .kind)) (leZ (a .kind) (pos 3)) (I .dates) .1 in
-    let first = date-value (a .kind) (start a) (both .first) dates in
-    let last = date-value (a .kind) (end a) (both .second) dates in
+    let first = date-value (a .kind) (start a) (both .first) (I .dates) in
+    let last = date-value (a .kind) (end a) (both .second) (I .dates) in
     let page = told 7 row tt nx in
     let zi : negPart i ≡ 0 = not-below i (omega (arith, within-true (a .«start_head») i (a .«end_head») (I .inside))) in
     let zj : negPart j ≡ 0 = not-below j (omega (arith, within-true (a .«start_head») j (a .«end_head») (J .inside))) in

@@ -3,14 +3,15 @@
 use mathlib.Core.Path.{_≡_}
 use mathlib.Core.Bool.{true}
 use Prim.Native.Nat.{_<_}
-use lib.IntN.{ℤ, pos, natAbs, _-ℤ_}
+use lib.IntN.{ℤ, natAbs, _-ℤ_}
 use Rattle.laws.specs.Numbers.{within}
+use Rattle.values.specs.Values.{overDates}
 use Rattle.axis.specs.declared.Axis.{Axis}
 use Rattle.axis.specs.declared.Limits.{Limits}
 
 -- "the days of a date axis", that is, one over dates, "are those from start to end, both included"
 pub record DayOf (a : Axis) (i : ℤ) : Type 0 where
-  pub dates : within (pos 1) (a .kind) (pos 3) ≡ true
+  pub dates : overDates (a .kind) ≡ true
   pub inside : within (a .«start_head») i (a .«end_head») ≡ true
 
 -- "more pixels than days": |W| counts the pixels between the limits, end minus start the days between the ends

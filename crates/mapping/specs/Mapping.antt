@@ -1,4 +1,4 @@
--- The pixel of a value on an axis between two limits: map_coord of the kinds 1 to 6, the duration's own map, and what
+-- The pixel of a value on an axis between two limits: map_coord of all kinds but 7, the duration's own map, and what
 -- mapping answers, refused calls too. Definitions only.
 use mathlib.Core.Path.{_≡_}
 use mathlib.Core.Bool.{true, cond, _&&_}
@@ -37,7 +37,7 @@ scaleOf a l =
 pub record LowOnPage (s : Scale) : Type 0 where
   pub on-page : isPixel (s .low) ≡ true
 
--- kinds 1 to 6: nanoseconds if the span and the offset fit, else whole days
+-- all kinds but 7: nanoseconds if the span and the offset fit, else whole days
 unfoldable pub mapCoord : Scale → ℤ → ℤ
 unfolding quotientOf
 mapCoord s offset =

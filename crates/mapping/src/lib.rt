@@ -80,7 +80,7 @@ fn from_low(s: Scale, x: f64) -> i64
     s.low + floats::to_i32(x) as i64
 }
 
-// Kinds 1 to 6, as TimeValue::map_coord: nanoseconds if the span and the offset fit, else whole days.
+// All kinds but 7, as TimeValue::map_coord: nanoseconds if the span and the offset fit, else whole days.
 pub fn map_coord(s: Scale, a: Axis, v: Value) -> i64
     requires { ⌜ LowOnPage s × (ends a ≡ true) × (valueOn a v ≡ true) ⌝ }
     ensures { λ r. ⌜ r ≡ mapCoord s (offsetOf a v) ⌝ }

@@ -10,6 +10,8 @@ use mathlib.Core.Option.{Option}
 use borrow.Author.Tests.{leb-true}
 use Rattle.laws.specs.Asking.{firstNo, unless}
 use Rattle.laws.specs.Numbers.{posPart}
+use Rattle.calendar.specs.declared.DayAnswer.{DayAnswer}
+use Rattle.calendar.specs.declared.DayAnswer.the-variants as day
 use Rattle.axis.specs.declared.Axis.{Axis}
 use Rattle.axis.specs.declared.BoldPoints.{BoldPoints}
 use Rattle.plans.specs.Times.{periodIn}
@@ -24,7 +26,7 @@ use Rattle.discrete.proofs.Laws.{size-range, index-most}
 use Rattle.segmented.specs.declared.Segment.{Segment}
 use Rattle.segmented.specs.Answers.{segmentKindQuestions, segmentTicksAnswer, segmentSizeAnswer, segmentIndexAnswer}
 use Rattle.segmented.proofs.Answers.{segment-size-range, segment-index-range}
-use Rattle.ordered.specs.Replies.{numberIn}
+use Rattle.ordered.specs.Replies.{dayIn, numberIn}
 use Rattle.axis.specs.declared.Hint.{Hint}
 use Rattle.keypoints.specs.Hints.{keyPointsFor}
 use Rattle.keypoints.proofs.Periods.{optional}
@@ -72,6 +74,11 @@ period-most a h k = go (firstNo (periodQuestions a h)) (period-is a h) small
         unless q period.Refused (aPeriod x) ≡ period.Is k → k < 2 ^ 63
     go zero f l e = is-most p k (l refl) (sym (ap aPeriod (f refl)) ∙ e)
     go (suc q) f l e = let z : _≡_ {A = ℕ} 0 1 = cc in absurd (let w : ⊥ = omega arith in w)
+
+-- ---- a day number
+pub day-fits : (x : DayAnswer) → ((n : ℕ) → x ≡ day.Answered n → n ≤ 3652059) → dayIn x < 2 ^ 63
+day-fits (day.Answered n) h = omega (arith, h n refl)
+day-fits (day.Refused q) h = omega arith
 
 -- ---- a size, an index
 number-fits : (x : NumberAnswer) → ((n : ℕ) → x ≡ number.Is n → n ≤ 3652060) → numberIn x < 2 ^ 63

@@ -7,6 +7,8 @@ use Rattle.calendar.specs.declared.DayAnswer.{DayAnswer}
 use Rattle.calendar.specs.declared.DayAnswer.the-variants as day
 use Rattle.calendar.specs.declared.DateAnswer.{DateAnswer}
 use Rattle.calendar.specs.declared.DateAnswer.the-variants as dated
+use Rattle.weeks.specs.declared.WeekAnswer.{WeekAnswer}
+use Rattle.weeks.specs.declared.WeekAnswer.the-variants as week
 use Rattle.mapping.specs.declared.Pixel.{Pixel}
 use Rattle.mapping.specs.declared.Pixel.the-variants as pixel
 use Rattle.steps.specs.declared.Listed.{Listed}
@@ -29,6 +31,12 @@ use Rattle.ordered.specs.declared.OrderedPeriod.{OrderedPeriod}
 use Rattle.ordered.specs.declared.OrderedPixel.{OrderedPixel}
 use Rattle.ordered.specs.declared.OrderedNumber.{OrderedNumber}
 use Rattle.ordered.specs.declared.OrderedDate.{OrderedDate}
+use Rattle.ordered.specs.declared.OrderedWeekDate.{OrderedWeekDate}
+
+-- the day number of an answer, 0 if it was refused
+abbrev pub dayIn : DayAnswer → ℕ
+dayIn (day.Answered n) = n
+dayIn (day.Refused q) = 0
 
 -- a day number
 abbrev pub dayReply : DayAnswer → OrderedNumber
@@ -39,6 +47,11 @@ dayReply (day.Refused q) = record { status = pos q; value = pos 0 }
 abbrev pub dateReply : DateAnswer → OrderedDate
 dateReply (dated.Answered t) = record { status = pos 0; year = pos (t .year); month = pos (t .month); day = pos (t .day) }
 dateReply (dated.Refused q) = record { status = pos q; year = pos 0; month = pos 0; day = pos 0 }
+
+-- a week date
+abbrev pub weekReply : WeekAnswer → OrderedWeekDate
+weekReply (week.Answered t) = record { status = pos 0; year = pos (t .year); week = pos (t .week); weekday = pos (t .weekday) }
+weekReply (week.Refused q) = record { status = pos q; year = pos 0; week = pos 0; weekday = pos 0 }
 
 -- a pixel
 abbrev pub pixelReply : Pixel → OrderedPixel

@@ -19,8 +19,11 @@ use segmented::SegmentValue;
 use steps::Listed;
 use ticks::PeriodAnswer;
 use values::Value;
+use weeks::WeekAnswer;
+use weeks::Ywd;
 ghost use mathlib.Core.Path.{_≡_};
 ghost use Rattle.calendar.specs.Questions.{numberOf, dateAt};
+ghost use Rattle.weeks.specs.Questions.{weekDayNumber, weekDateAt};
 ghost use Rattle.axis.specs.Axes.{axisOf};
 ghost use Prim.Native.Nat.{_^_, _<_};
 ghost use lib.ListN.{length};
@@ -32,7 +35,8 @@ ghost use Rattle.segmented.specs.Answers.{segmentMapAnswer, segmentTicksAnswer,
 ghost use Rattle.segmented.specs.Answers.{segmentSizeAnswer, segmentIndexAnswer, segmentFromAnswer};
 ghost use Rattle.steps.specs.Listing.{countOf};
 ghost use Rattle.ticks.specs.Answers.{ticksAnswer, ticksWritten, periodAnswer};
-ghost use Rattle.ordered.specs.Replies.{dayReply, dateReply, pixelReply, countReply, periodReply, numberIn};
+ghost use Rattle.ordered.specs.Replies.{dayIn, dayReply, dateReply, weekReply, pixelReply, countReply, periodReply};
+ghost use Rattle.ordered.specs.Replies.{numberIn};
 ghost use Rattle.ordered.specs.Replies.{numberReply, valueReply, stepReply, segmentReply};
 
 // A day number, count, size or index.
@@ -87,16 +91,19 @@ pub struct OrderedDate {
     pub day: i64,
 }
 
-#[no_mangle]
-pub extern "C" fn ordered_day_number(year: i64, month: i64, day: i64) -> OrderedNumber
-    ensures { λ r. ⌜ r ≡ dayReply (numberOf (record { year = year; month = month; day = day })) ⌝ }
+#[repr(C)]
+pub struct OrderedWeekDate {
+    pub status: i64,
+    pub year: i64,
+    pub week: i64,
+    pub weekday: i64,
+}
+
+fn day_reply(a: DayAnswer) -> OrderedNumber
+    requires { ⌜ dayIn a < 2 ^ 63 ⌝ }
+    ensures { λ r. ⌜ r ≡ dayReply a ⌝ }
 {
-    let t = Ymd {
-        year: year,
-        month: month,
-        day: day,
-    };
-    match calendar::number_of(t) {
+    match a {
         DayAnswer::Answered(n) => OrderedNumber {
             status: 0,
             value: n as i64,
@@ -106,6 +113,18 @@ pub extern "C" fn ordered_day_number(year: i64, month: i64, day: i64) -> Ordered
             value: 0,
         },
     }
+}
+
+#[no_mangle]
+pub extern "C" fn ordered_day_number(year: i64, month: i64, day: i64) -> OrderedNumber
+    ensures { λ r. ⌜ r ≡ dayReply (numberOf (record { year = year; month = month; day = day })) ⌝ }
+{
+    let t = Ymd {
+        year: year,
+        month: month,
+        day: day,
+    };
+    day_reply(calendar::number_of(t))
 }
 
 #[no_mangle]
@@ -124,6 +143,38 @@ pub extern "C" fn ordered_date_of(day_number: i64) -> OrderedDate
             year: 0,
             month: 0,
             day: 0,
+        },
+    }
+}
+
+#[no_mangle]
+pub extern "C" fn ordered_week_day_number(year: i64, week: i64, weekday: i64) -> OrderedNumber
+    ensures { λ r. ⌜ r ≡ dayReply (weekDayNumber (record { year = year; week = week; weekday = weekday })) ⌝ }
+{
+    let t = Ywd {
+        year: year,
+        week: week,
+        weekday: weekday,
+    };
+    day_reply(weeks::week_day_number(t))
+}
+
+#[no_mangle]
+pub extern "C" fn ordered_week_date_of(day_number: i64) -> OrderedWeekDate
+    ensures { λ r. ⌜ r ≡ weekReply (weekDateAt «day_number») ⌝ }
+{
+    match weeks::week_date_at(day_number) {
+        WeekAnswer::Answered(t) => OrderedWeekDate {
+            status: 0,
+            year: t.year as i64,
+            week: t.week as i64,
+            weekday: t.weekday as i64,
+        },
+        WeekAnswer::Refused(q) => OrderedWeekDate {
+            status: q as i64,
+            year: 0,
+            week: 0,
+            weekday: 0,
         },
     }
 }

@@ -1,6 +1,7 @@
 -- Laws of the plans: what the code works out, and what demand 3 asks of each; their ticks are values.
 pub mod Cases
 pub mod Days
+pub mod Weeks
 pub mod Months
 pub mod Times
 pub mod Spans

@@ -5,6 +5,7 @@ use mathlib.Core.Bool.{true, false, not, _&&_, true≢false}
 use Prim.Native.Nat.{ℕ, _+_, _-_, _*_, _/_, _%_, _^_, _≤_, _<_}
 use native.Mathlib.Nat.{div-one, mod-one, zero-mul, div-eq-of-lt, mod-eq-of-lt, mul-add-div-right}
 use native.Mathlib.Nat.{mul-add-mod-self-right, div-lt-iff-lt-mul}
+use native.Mathlib.Decide.{decLe}
 use native.Mathlib.Omega.{arith}
 use lib.Dec.{ltb}
 use lib.IntN.{ℤ, pos, negsuc, _+ℤ_, _-ℤ_, _*ℤ_, +ℤ-idr}
@@ -12,13 +13,13 @@ use lib.Signed.{mag, ltZ, leZ}
 use borrow.Author.Tests.{ltb-true, ltb-false, not-true}
 use Rattle.laws.specs.Numbers.{posPart, negPart}
 use Rattle.laws.specs.Units.{perSecond, perDay, secondsPerDay}
-use Rattle.laws.proofs.Signed.{add, sub, same, lt-false, le-true, pos-up}
+use Rattle.laws.proofs.Signed.{add, sub, same, lt-false, pos-up}
 use Rattle.laws.proofs.Tests.{either-false}
 use Rattle.values.specs.declared.Value.{Value}
-use Rattle.values.specs.Values.{isDuration, earlier, midnight}
+use Rattle.values.specs.Values.{overDates, isDuration, earlier, midnight}
 use Rattle.values.specs.Differences.{unit, fitsI64, daysIn}
-use Rattle.values.proofs.Numbers.{not-below, bounded, is-le}
-use Rattle.values.proofs.Values.{date-value}
+use Rattle.values.proofs.Numbers.{not-below, bounded}
+use Rattle.values.proofs.Values.{dates-no-duration, date-value}
 use Rattle.values.proofs.Joining.{joint}
 use Rattle.values.proofs.Fits.{fits-range}
 use Rattle.values.proofs.Differences.{days-apart, durations-apart}
@@ -26,9 +27,10 @@ use Rattle.axis.specs.declared.Axis.{Axis}
 use Rattle.axis.specs.Axes.{start, end, spanOf}
 use Rattle.axis.specs.Questions.{ends, inOrder}
 use Rattle.axis.proofs.Axes.{both-ends, span-from-0}
-use Rattle.counting.specs.Counting.{Dated, monthly, yearly, fromDay, toDay}
-use Rattle.counting.proofs.Counting.{one-dated, monthly-dated, yearly-dated, starts, end-value, from-range, to-range}
-use Rattle.counting.proofs.Counting.{from-start, from-next, from-date, to-is}
+use Rattle.counting.specs.Counting.{Dated, monthly, yearly, weekly, fromDay, toDay}
+use Rattle.counting.proofs.Counting.{one-dates, monthly-dated, yearly-dated, weekly-dated, starts, end-value, from-range}
+use Rattle.counting.proofs.Counting.{to-range, from-start, from-next, date-from, to-is}
+use Rattle.weeks.proofs.Mondays.{first-monday}
 use Rattle.period.specs.Ladders.{firstFit}
 use Rattle.period.specs.Periods.{periodOf}
 use Rattle.period.proofs.Fits.{fit-above, fit-most, fit-room}
@@ -40,14 +42,16 @@ use Rattle.steps.specs.Listing.{numbers}
 use Rattle.steps.specs.Promise.{Later, by-head, by-tail, wholeSecond, Fine}
 use Rattle.steps.proofs.Fitting.{few-steps}
 use Rattle.steps.proofs.Order.{is-smaller, not-earlier, not-before-second}
-use Rattle.steps.proofs.Demand.{Kept, steps-fine, kept-sound}
+use Rattle.steps.proofs.Demand.{Kept, steps-fine, none-fine, kept-sound}
 use Rattle.plans.specs.Days.{evenly, dateStep, daysBy, dayPlan}
+use Rattle.plans.specs.Weeks.{weeksBy, weekPlan}
 use Rattle.plans.specs.Months.{fromMonth, toMonth, yearStep, monthStep, monthsBy, monthPlan, yearPlan}
 use Rattle.plans.specs.Times.{periodIn, shift, timePlan, Timed, firstSecond, secondsLeft}
 use Rattle.plans.specs.Times.{spanDaysPlan, Long}
 use Rattle.plans.specs.Plans.{Accepted, periodPlan, planOf}
 use Rattle.plans.proofs.Cases.{choose, by-test}
 use Rattle.plans.proofs.Days.{step-wide, days-kept}
+use Rattle.plans.proofs.Weeks.{week-wide, weeks-kept}
 use Rattle.plans.proofs.Months.{Wide, last-month, first-month, last-most, first-most, year-wide, month-wide, months-kept}
 use Rattle.plans.proofs.Plans.{four-or-seven}
 use Rattle.plans.proofs.Spans.{start-duration, end-duration, shift-small, some-period, timed, long}
@@ -115,6 +119,40 @@ module _ (a : Axis) (n : ℕ) (r : Dated a) where
   day-good : fromDay a ≤ toDay a → Good a n (dayPlan a n)
   unfolding dayPlan
   day-good h = days-good (toDay a - fromDay a) (omega arith)
+
+  -- ---- Mondays, from the first, f, to the day e; the first may lie behind it
+  weeks-good : (f e : ℕ) → fromDay a ≤ f → f ≤ 3652064 → e ≡ toDay a → Good a n (weeksBy f e n)
+  weeks-good f e after small to =
+      let s = weeksBy f e n in
+      let room : ℕ = e + 1 - f in
+      let t = to-range a r in
+      let v = starts a r in
+      let w = end-value a r in
+      let (p, q) = from-start a in
+      let z : room - 0 ≡ room = omega arith in
+      let k : Kept (s .step) (s .count) n room = rw z (weeks-kept f e n) in
+      let x : f + 0 ≡ f = omega arith in
+      record {
+        sound = kept-sound s n room k (omega arith) (omega arith) (mag-of (pos f) (2 ^ 60) (omega arith) (omega arith))
+            (rw (div-one (s .step)) (omega (arith, week-wide f e n)))
+            (rw (div-one (0 + room)) (omega arith)) no-months;
+        fine = elim (decLe f e) [
+          | yes l ↦
+              let y : f + (e - f) ≡ toDay a = omega arith in
+              steps-fine s n room (e - f) (start a) (end a) (omega arith) k (λ h. omega arith)
+              (rw (heads-tick s 0 refl refl, x) (day-from (start a) f (v .head-dn) (omega arith) (λ i. q (omega arith))))
+              (rw (heads-tick s (e - f) refl refl, y) (day-to (end a) (toDay a) (w .head-dn) (w .tail-dn)
+              (omega (arith, to-is a))))
+          | no l ↦ let none : e + 1 - f ≡ 0 = omega arith in rw none (none-fine n (start a) (end a))
+        ];
+      }
+
+  week-good : Good a n (weekPlan a n)
+  unfolding weekPlan
+  week-good =
+      let d = from-range a r in
+      let m = first-monday (fromDay a) (d .0) in
+      weeks-good _ (toDay a) (omega arith) (omega arith) refl
 
   -- ---- months
   months-good : (k : ℕ) → Wide (toMonth a - fromMonth a) n k → Good a n (monthsBy (fromMonth a) (toMonth a) k)
@@ -350,12 +388,11 @@ module _ (a : Axis) (n : ℕ) (l : Long a) where
       }
 
 -- ---- the days of an axis are in order
-pub date-order : (a : Axis) (n : ℕ) → Accepted a n → leZ (a .kind) (pos 1) ≡ true → fromDay a ≤ toDay a
-date-order a n q o =
-    let three : leZ (a .kind) (pos 3) ≡ true = is-le (a .kind) (pos 3) (omega (arith, le-true (a .kind) (pos 1) o)) in
-    let v = date-value (a .kind) (start a) (both-ends a (q .real) .first) three in
-    let w = date-value (a .kind) (end a) (both-ends a (q .real) .second) three in
-    omega (arith, from-date a (ap posPart (v .no-tail)), to-is a, heads-in-order a (q .order))
+pub date-order : (a : Axis) (n : ℕ) → Accepted a n → overDates (a .kind) ≡ true → fromDay a ≤ toDay a
+date-order a n q d =
+    let v = date-value (a .kind) (start a) (both-ends a (q .real) .first) d in
+    let w = date-value (a .kind) (end a) (both-ends a (q .real) .second) d in
+    omega (arith, date-from a (q .real) d, to-is a, heads-in-order a (q .order))
 
 -- where date-times have no period, the span is a day at least
 module _ (a : Axis) (n : ℕ) (q : Accepted a n) (some : 1 ≤ n) (d : isDuration (a .kind) ≡ false) (h : periodIn a n ≤ 0) where
@@ -396,7 +433,9 @@ module _ (a : Axis) (n : ℕ) (q : Accepted a n) where
   pub plan-good : Good a n (planOf a n)
   unfolding planOf
   plan-good =
-      choose (Good a n) (leZ (a .kind) (pos 1)) (λ o. day-good a n (dated (one-dated a o)) (date-order a n q o))
+      choose (Good a n) (leZ (a .kind) (pos 1))
+      (λ o. let d = one-dates a (q .kind) o in day-good a n (dated (dates-no-duration (a .kind) d)) (date-order a n q d))
       (λ o. choose (Good a n) (monthly a) (λ m. month-good a n (dated (monthly-dated a m)))
       (λ m. choose (Good a n) (yearly a) (λ y. year-good a n (dated (yearly-dated a y)))
-      (λ y. period-good (q .some (four-or-seven a (q .kind) o m y)))))
+      (λ y. choose (Good a n) (weekly a) (λ w. week-good a n (dated (weekly-dated a w)))
+      (λ w. period-good (q .some (four-or-seven a (q .kind) o m y w))))))

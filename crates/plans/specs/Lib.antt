@@ -1,5 +1,6 @@
 -- What the crate's contracts cite.
 pub mod Days
+pub mod Weeks
 pub mod Months
 pub mod Times
 pub mod Plans

@@ -9,9 +9,10 @@ use Rattle.laws.specs.Numbers.{within}
 use Rattle.values.specs.Values.{isDuration}
 use Rattle.axis.specs.declared.Axis.{Axis}
 use Rattle.axis.specs.Questions.{known, ends, inOrder, nearOrLong}
-use Rattle.counting.specs.Counting.{monthly, yearly}
+use Rattle.counting.specs.Counting.{monthly, yearly, weekly}
 use Rattle.steps.specs.declared.Steps.{Steps}
 use Rattle.plans.specs.Days.{dayPlan}
+use Rattle.plans.specs.Weeks.{weekPlan}
 use Rattle.plans.specs.Months.{monthPlan, yearPlan}
 use Rattle.plans.specs.Times.{periodIn, timePlan, spanDaysPlan}
 
@@ -32,10 +33,11 @@ periodPlan a n =
     (cond (isDuration (a .kind)) (spanDaysPlan a n)
     (dayPlan a n))
 
--- kinds 1, 2 and 5, 3 and 6, and the others
+-- kinds 1, 2 and 5, 3 and 6, 8, and the others
 unfoldable pub planOf : Axis → ℕ → Steps
 planOf a n =
     cond (leZ (a .kind) (pos 1)) (dayPlan a n)
     (cond (monthly a) (monthPlan a n)
     (cond (yearly a) (yearPlan a n)
-    (periodPlan a n)))
+    (cond (weekly a) (weekPlan a n)
+    (periodPlan a n))))

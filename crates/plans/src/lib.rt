@@ -1,5 +1,5 @@
-// The tick list of each kind, as plotters' key_points: a plan, which is a progression. Days, months and years; date-times
-// and durations a period apart; whole days of a long duration.
+// The tick list of each kind, as plotters' key_points: a plan, which is a progression. Days, months, years and weeks;
+// date-times and durations a period apart; whole days of a long duration.
 use axis::Axis;
 use steps::Steps;
 use values::Nanoseconds;
@@ -11,8 +11,10 @@ ghost use lib.IntN.{pos};
 ghost use Rattle.values.specs.Values.{isValue};
 ghost use Rattle.values.specs.Differences.{unit, daysIn};
 ghost use Rattle.axis.specs.Axes.{start};
-ghost use Rattle.counting.specs.Counting.{Dated};
+ghost use Rattle.counting.specs.Counting.{Dated, fromDay};
+ghost use Rattle.calendar.specs.Questions.{lastDay};
 ghost use Rattle.plans.specs.Days.{evenly, dateStep, dayPlan};
+ghost use Rattle.plans.specs.Weeks.{weekStep, weekPlan};
 ghost use Rattle.floats.specs.Rounding.{ceilOf};
 ghost use Rattle.plans.specs.Months.{fromMonth, toMonth, yearStep, monthStep, monthsBy, monthPlan, yearPlan};
 ghost use Rattle.plans.specs.Times.{periodIn, shiftUp, shiftOf, shift, timePlan, Timed};
@@ -92,6 +94,31 @@ fn day_plan(a: Axis, n: u64) -> Steps
         first: 0,
         end: d + 1,
         step: date_step(d, n),
+    })
+}
+
+// The weeks of a step, where there are c Mondays.
+fn week_step(c: u64, n: u64) -> u64
+    requires { ⌜ (c < 4000000) × (n ≤ 4096) ⌝ }
+    ensures { λ r. ⌜ r ≡ weekStep c n ⌝ }
+{
+    counting::less(c, 1) / (n + 1) + 1
+}
+
+// From the first Monday on, which may lie behind the last day.
+fn week_plan(a: Axis, n: u64) -> Steps
+    requires { ⌜ Dated a × (fromDay a ≤ lastDay) × (n ≤ 4096) ⌝ }
+    ensures { λ r. ⌜ r ≡ weekPlan a n ⌝ }
+{
+    let first = weeks::first_monday(counting::from_day(a));
+    let last = counting::to_day(a);
+    let base = first as i64;
+    even_plan(Even {
+        per: 1,
+        base: base,
+        first: 0,
+        end: counting::less(last + 1, first),
+        step: 7 * week_step(counting::less(last + 7, first) / 7, n),
     })
 }
 
@@ -329,6 +356,9 @@ pub fn plan_of(a: Axis, n: u64) -> Steps
     }
     if counting::yearly(a) {
         return year_plan(a, n);
+    }
+    if counting::weekly(a) {
+        return week_plan(a, n);
     }
     period_plan(a, n)
 }

@@ -113,7 +113,7 @@ fn help() {
         b"plate reads axes from standard input, a line for each, and prints their ticks and pixels: plate <INPUT >OUTPUT
 first line    kind start end hint low high
 other lines   a value of each, with one space between; LF at the end, at most 120 bytes before it
-date, month, year                start and end YYYY-MM-DD
+date, month, year, week          start and end YYYY-MM-DD
 stamp, stampmonth, stampyear     start and end YYYY-MM-DDThh:mm:ss, with a fraction or without, as 00:00:00.5
 span                             start and end in seconds, with a fraction or without, as -90 or -0.5
 hint          the number of ticks wished for, 0 to 4096

@@ -7,7 +7,7 @@ use Rattle.calendar.specs.Gregorian.{leap, leapDay, monthLength, months, yearLe
 use Rattle.calendar.specs.Questions.{isDate, inRanges, numberOf}
 use Rattle.floats.specs.Rounding as rounding
 use Rattle.values.specs.Differences.{nanoseconds, difference, nanosecondsOf}
-use Rattle.values.specs.Values.{isValue, earlier}
+use Rattle.values.specs.Values.{overDates, isValue, earlier}
 use Rattle.axis.specs.Axes.{spanOf, offsetOf}
 use Rattle.axis.specs.Questions as asks
 use Rattle.mapping.specs.Mapping as mapping
@@ -46,26 +46,27 @@ no-whole-month = λ i.
 
 -- ---- the others
 negative-start : Holds rows.negative-start
-unfolding isValue earlier spanOf difference nanoseconds nanosecondsOf asks.known asks.ends asks.inOrder asks.nearZero
-    asks.nearOrLong asks.boldHint count.monthly count.yearly while periods.exponentFrom periods.determineActualNsPerPoint
-    periods.periodFrom periods.computePeriodPerPoint times.plus times.periodOn times.aligned times.durationOf
-    times.durationsBy times.durationKeyPoints keyPoints keyPointsFor ticks.ticksAnswer ticks.ticksWritten
+unfolding overDates isValue earlier spanOf difference nanoseconds nanosecondsOf asks.known asks.ends asks.inOrder
+    asks.nearZero asks.nearOrLong asks.boldHint count.monthly count.yearly count.weekly while periods.exponentFrom
+    periods.determineActualNsPerPoint periods.periodFrom periods.computePeriodPerPoint times.plus times.periodOn times.aligned
+    times.durationOf times.durationsBy times.durationKeyPoints keyPoints keyPointsFor ticks.ticksAnswer ticks.ticksWritten
 negative-start = refl
 
 high-limit : Holds rows.high-limit
 unfolding ieee.span ieee.climb ieee.size ieee.odd ieee.units ieee.round ieee.mul ieee.div ieee.ofInt ieee.toUnsigned
-    rounding.floorF isValue earlier asks.known asks.hasUnmap asks.ends asks.inOrder asks.pixels asks.differ asks.unmapPixels
-    asks.checked asks.answered count.monthly count.yearly count.fromDay count.sizeOf index.valueAt index.indexAt
-    index.indexUnder discrete.valueUnder discrete.unmapAnswer
+    rounding.floorF overDates isValue earlier asks.known asks.hasUnmap asks.ends asks.inOrder asks.pixels asks.differ
+    asks.unmapPixels asks.checked asks.answered count.monthly count.yearly count.weekly count.fromDay count.sizeOf
+    index.valueAt index.indexAt index.indexUnder discrete.valueUnder discrete.unmapAnswer
 high-limit = refl
 
 first-centre : Holds rows.first-centre
 unfolding ieee.span ieee.climb ieee.size ieee.odd ieee.units ieee.round ieee.mul ieee.div ieee.ofInt ieee.toUnsigned
-    ieee.toSigned rounding.floorF rounding.roundF rounding.quotientOf nanoseconds difference nanosecondsOf isValue earlier
-    spanOf offsetOf asks.known asks.hasIndex asks.ends asks.inOrder asks.pixels asks.valueOn asks.mappable asks.checked
-    mapping.scaleOf mapping.mapCoord mapping.placedBy mapping.placed count.monthly count.yearly count.origin count.position
-    count.sizeOf index.isIndexed index.indexOf index.valueAt discrete.nextIn segments.segmentOn segments.segmentOf
-    segments.segmentMappable segments.marginOf segments.inner segments.segmentWorked segmentMapAnswer
+    ieee.toSigned rounding.floorF rounding.roundF rounding.quotientOf nanoseconds difference nanosecondsOf overDates isValue
+    earlier spanOf offsetOf asks.known asks.hasPeriod asks.hasIndex asks.ends asks.inOrder asks.pixels asks.valueOn
+    asks.mappable asks.checked mapping.scaleOf mapping.mapCoord mapping.placedBy mapping.placed count.monthly count.yearly
+    count.weekly count.origin count.position count.sizeOf index.isIndexed index.indexOf index.valueAt discrete.nextIn
+    segments.segmentOn segments.segmentOf segments.segmentMappable segments.marginOf segments.inner segments.segmentWorked
+    segmentMapAnswer
 first-centre = refl
 
 later : AllHold (rows.high-limit ∷ (rows.earlier-year ∷ (rows.no-whole-month ∷ (rows.first-centre ∷ []))))

@@ -3,5 +3,6 @@ pub mod Demand
 pub mod DayNumbers
 pub mod OpenRows
 pub mod Misreadings
+pub mod Weeks
 pub mod Examples
 pub mod WrongAnswers

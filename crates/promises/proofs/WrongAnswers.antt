@@ -12,9 +12,11 @@ use lib.Ieee as ieee
 use Rattle.laws.proofs.Tests.{both-true, is-true}
 use Rattle.calendar.specs.Gregorian as calendar
 use Rattle.calendar.specs.Questions.{isDate, inRanges, numberOf, dateAt}
+use Rattle.weeks.specs.Weeks as weeks
+use Rattle.weeks.specs.Questions.{isWeekDate, weekDayNumber, weekDateAt}
 use Rattle.floats.specs.Rounding as rounding
 use Rattle.values.specs.Differences.{nanoseconds, difference, nanosecondsOf}
-use Rattle.values.specs.Values.{isValue, earlier}
+use Rattle.values.specs.Values.{overDates, isValue, earlier}
 use Rattle.axis.specs.Axes.{spanOf, offsetOf}
 use Rattle.axis.specs.Questions as asks
 use Rattle.mapping.specs.Mapping as mapping
@@ -23,6 +25,7 @@ use Rattle.floats.specs.Rounding.{ceilOf}
 use Rattle.keypoints.specs.Loops.{while}
 use Rattle.keypoints.specs.Dates as dates
 use Rattle.keypoints.specs.Months as months
+use Rattle.keypoints.specs.Weeks as mondays
 use Rattle.keypoints.specs.Periods as periods
 use Rattle.keypoints.specs.Times as times
 use Rattle.keypoints.specs.KeyPoints.{keyPoints}
@@ -80,21 +83,24 @@ ruled (r ∷ rs) e =
 -- THE THEOREM, of all exports
 pub ruled-out : AllRuledOut wrongTable
 unfolding calendar.leap calendar.leapDay calendar.monthLength calendar.months calendar.yearLength calendar.years
-    calendar.dayNumber calendar.nextDay calendar.daysLater calendar.dateOf isDate inRanges numberOf dateAt ieee.span
-    ieee.climb ieee.size ieee.odd ieee.units ieee.round ieee.mul ieee.div ieee.ofInt ieee.toUnsigned ieee.toSigned
-    rounding.floorF rounding.ceilF rounding.ceilOf rounding.roundF rounding.quotientOf nanoseconds difference nanosecondsOf
-    isValue earlier spanOf offsetOf asks.known asks.hasUnmap asks.hasIndex asks.hasPeriod asks.ends asks.inOrder
-    asks.nearOrLong asks.boldHint asks.lightHint asks.pixels asks.differ asks.unmapPixels asks.valueOn asks.mappable
-    asks.checked asks.answered mapping.scaleOf mapping.mapCoord mapping.placedBy mapping.placed mapping.mapped count.monthly
-    count.yearly count.fromDay count.toDay count.firstDate count.dateOn count.origin count.position count.sizeOf while
+    calendar.dayNumber calendar.nextDay calendar.daysLater calendar.dateOf isDate inRanges numberOf dateAt weeks.weekday
+    weeks.monday weeks.thursday weeks.counted weeks.dayFrom weeks.weekYear weeks.thursdays weeks.weekNumber weeks.weekDateOf
+    weeks.weeksOf weeks.firstThursday weeks.weekDay isWeekDate weekDayNumber weekDateAt weeks.mondaysTo ieee.span ieee.climb
+    ieee.size ieee.odd ieee.units ieee.round ieee.mul ieee.div ieee.ofInt ieee.toUnsigned ieee.toSigned rounding.floorF
+    rounding.ceilF rounding.ceilOf rounding.roundF rounding.quotientOf nanoseconds difference nanosecondsOf overDates isValue
+    earlier spanOf offsetOf asks.known asks.hasUnmap asks.hasIndex asks.hasPeriod asks.ends asks.inOrder asks.nearOrLong
+    asks.boldHint asks.lightHint asks.pixels asks.differ asks.unmapPixels asks.valueOn asks.mappable asks.checked
+    asks.answered mapping.scaleOf mapping.mapCoord mapping.placedBy mapping.placed mapping.mapped count.monthly count.yearly
+    count.weekly count.fromDay count.toDay count.firstDate count.dateOn count.origin count.position count.sizeOf while
+    mondays.mondaysFrom mondays.everyAfter mondays.leastFrom mondays.weeksPerPoint mondays.mondaysOn mondays.weekKeyPoints
     dates.datesFrom dates.dateKeyPoints months.startOf months.carried months.generateKeyPoints months.lastYear
     months.exp10From months.tryFreq months.freqOf months.generateYearlyKeypoints months.totalMonth months.monthsFrom
     months.monthKeyPoints periods.exponentFrom periods.determineActualNsPerPoint periods.daysFrom periods.periodFrom
     periods.computePeriodPerPoint times.plus times.periodOn times.alignedUp times.dateTimesBy times.dateTimeKeyPoints
     times.aligned times.durationOf times.durationsBy times.durationKeyPoints keyPoints monthlyLight lightKeyPoints
     keyPointsFor ticks.ticksAnswer ticks.ticksWritten ticks.periodAnswer index.isIndexed index.indexOf index.monthAt
-    index.january index.valueAt index.indexAt index.indexUnder discrete.indexIn discrete.nextIn discrete.previousIn
-    discrete.valueIn discrete.sizeAnswer discrete.indexAnswer discrete.fromIndexAnswer discrete.nextAnswer
+    index.january index.weekAt index.valueAt index.indexAt index.indexUnder discrete.indexIn discrete.nextIn
+    discrete.previousIn discrete.valueIn discrete.sizeAnswer discrete.indexAnswer discrete.fromIndexAnswer discrete.nextAnswer
     discrete.previousAnswer discrete.valuesAnswer discrete.valueUnder discrete.unmapAnswer segments.segmentOn
     segments.segmentOf segments.segmentMappable segments.marginOf segments.inner segments.segmentWorked
     segmented.segmentMapAnswer segmented.segmentSizeAnswer segmented.segmentIndexIn segmented.segmentIndexAnswer

@@ -3,4 +3,5 @@ pub mod Demand
 pub mod Examples
 pub mod OpenRows
 pub mod Misreadings
+pub mod Weeks
 pub mod WrongAnswers

@@ -1,5 +1,5 @@
--- For each exported operation two wrong answers to one request. An export's statement says that it answers what its
--- definition does, so an answer that the definition does not give is ruled out. Definitions only.
+-- For each exported operation two wrong answers to one request, and for three of them two of weeks. An export's statement says
+-- that it answers what its definition does, so an answer that the definition does not give is ruled out. Definitions only.
 use mathlib.Core.Path.{_≡_}
 use mathlib.Core.List.{List, [], _∷_, _++_}
 use Prim.Native.Nat.{ℕ}
@@ -24,6 +24,7 @@ use Rattle.ordered.specs.Replies.{dayReply, dateReply, pixelReply, countReply, 
 use Rattle.ordered.specs.Replies.{stepReply, segmentReply}
 use Rattle.promises.specs.Examples.{countNumbers, pixelNumbers, periodNumbers, valueNumbers, ymd, atNano}
 use Rattle.promises.specs.Examples.{axisFrom, boldOf, limitsOf, centreAt, listedInto, sevens}
+use Rattle.promises.specs.Weeks.{dayOfWeekDate, weekDateOfDay, weekNumbers}
 
 -- the numbers of a date
 abbrev pub dateNumbers : OrderedDate → List ℤ
@@ -67,6 +68,24 @@ ordered-date-of =
       answer = dateNumbers (dateReply (dateAt (pos 60)));
       wrong = pos 0 ∷ (pos 1 ∷ (pos 2 ∷ (pos 29 ∷ [])));
       other = pos 0 ∷ (pos 1 ∷ (pos 1 ∷ (pos 3 ∷ [])));
+    }
+
+-- ordered_week_day_number, week 53 of the year 1, which has 52: its Monday as if every year had 53; 10
+abbrev pub ordered-week-day-number : Row
+ordered-week-day-number =
+    record {
+      answer = countNumbers (dayOfWeekDate (pos 1) (pos 53) (pos 1));
+      wrong = pos 0 ∷ (pos 365 ∷ []);
+      other = pos 10 ∷ (pos 0 ∷ []);
+    }
+
+-- ordered_week_date_of, day 7, the Sunday of 0001-W01: the first day of W02, as if weeks began on Sunday; the next week's
+abbrev pub ordered-week-date-of : Row
+ordered-week-date-of =
+    record {
+      answer = weekNumbers (weekDateOfDay (pos 7));
+      wrong = pos 0 ∷ (pos 1 ∷ (pos 2 ∷ (pos 1 ∷ [])));
+      other = pos 0 ∷ (pos 1 ∷ (pos 2 ∷ (pos 7 ∷ [])));
     }
 
 -- ordered_map, days 1 to 3 between 0 and 100, day 2: one pixel less; the low limit
@@ -255,11 +274,45 @@ ordered-segment-from-index =
       other = minus 1 ∷ (pos 0 ∷ (pos 0 ∷ (pos 0 ∷ [])));
     }
 
+-- ---- of weeks
+-- an axis of weeks between two days
+abbrev pub weeksFrom : ℕ → ℕ → Axis
+weeksFrom s e = axisFrom (pos 8) (midnight (pos s)) (midnight (pos e))
+
+-- ordered_ticks_bold, days 1 to 15, N 2, three Mondays: every second one, though all three are not too many; Sundays
+abbrev pub ticks-of-weeks : Row
+ticks-of-weeks =
+    record {
+      answer = listedInto (weeksFrom 1 15) (boldOf 2) sevens;
+      wrong = pos 0 ∷ (pos 2 ∷ (pos 1 ∷ (pos 0 ∷ (pos 15 ∷ (pos 0 ∷ (pos 7 ∷ (pos 7 ∷ [])))))));
+      other = pos 0 ∷ (pos 2 ∷ (pos 7 ∷ (pos 0 ∷ (pos 14 ∷ (pos 0 ∷ (pos 7 ∷ (pos 7 ∷ [])))))));
+    }
+
+-- ordered_index_of, days 10 to 20, day 7, the Sunday before the start's Monday: 0, as of the start's week; refused as a value
+abbrev pub index-of-weeks : Row
+index-of-weeks =
+    record {
+      answer = countNumbers (numberReply (indexAnswer (weeksFrom 10 20) (midnight (pos 7))));
+      wrong = pos 0 ∷ (pos 0 ∷ []);
+      other = pos 8 ∷ (pos 0 ∷ []);
+    }
+
+-- ordered_from_index, days 10 to 20, index 0: the Monday of the start's week; the first Monday from the start on
+abbrev pub value-of-weeks : Row
+value-of-weeks =
+    record {
+      answer = valueNumbers (valueReply (fromIndexAnswer (weeksFrom 10 20) (pos 0)));
+      wrong = pos 0 ∷ (pos 8 ∷ (pos 0 ∷ []));
+      other = pos 0 ∷ (pos 15 ∷ (pos 0 ∷ []));
+    }
+
 -- ---- the wrongTable, and what is claimed of it: no row answers a wrong answer
 abbrev pub wrongTable : List Row
 wrongTable =
     ordered-day-number
     ∷ (ordered-date-of
+    ∷ (ordered-week-day-number
+    ∷ (ordered-week-date-of
     ∷ (ordered-map
     ∷ (ordered-ticks-bold
     ∷ (ordered-ticks-light
@@ -279,7 +332,10 @@ wrongTable =
     ∷ (ordered-segment-size
     ∷ (ordered-segment-index-of
     ∷ (ordered-segment-from-index
-    ∷ []))))))))))))))))))))
+    ∷ (ticks-of-weeks
+    ∷ (index-of-weeks
+    ∷ (value-of-weeks
+    ∷ [])))))))))))))))))))))))))
 
 -- the answer is neither of the two
 abbrev pub RuledOut : Row → Type 0

@@ -9,14 +9,16 @@ use lib.Dec.{eqb}
 use lib.IntN.{ℤ, pos, natAbs}
 use lib.ListN.{length, take, drop, getD, length-drop, drop-of-length-le}
 use lib.Seq.{take-all, length-take-le}
-use borrow.Author.Tests.{lt-leb, le-leb, lt-ltb, le-ltb, eq-eqb, ne-eqb}
+use borrow.Author.Tests.{lt-ltb, le-ltb, eq-eqb, ne-eqb}
 use Rattle.laws.specs.Numbers.{posPart, negPart}
 use Rattle.laws.specs.Units.{perSecond}
 use Rattle.laws.proofs.Signed.{is-lt, is-ge, abs, from-zero}
 use Rattle.values.specs.declared.Value.{Value}
+use Rattle.values.specs.Values.{isDuration}
 use Rattle.values.specs.Differences.{nanoseconds}
 use Rattle.values.proofs.Joining.{joint}
 use Rattle.values.proofs.Numbers.{not-below, not-above}
+use Rattle.values.proofs.Values.{dates-no-times, dates-no-duration, duration-no-times, by-form, duration-value}
 use Rattle.axis.specs.declared.Hint.the-variants.{Bold}
 use Rattle.steps.specs.Promise.{nth}
 use Rattle.steps.specs.declared.Listed.{Listed}
@@ -40,7 +42,6 @@ use Rattle.readback.specs.Before.{stampBefore, ofSeconds, valueBefore, l
 use Rattle.readback.specs.Before.{listedBefore, answerBefore, rowsBefore}
 use Rattle.readback.specs.Claims.{Shown, listIn, AsBefore}
 use Rattle.readback.proofs.Lists.{kind-is, shown}
-use Rattle.readback.proofs.ReadBack.{duration}
 use Rattle.readback.proofs.ReadBack as read
 
 -- ---- no point in a text, nor in its parts
@@ -148,10 +149,10 @@ lines s e =
 
 -- ---- writing
 module _ (kind : ℕ) (v : Value) (x : Shown false kind v) where
-  whole-seconds : 6 < kind → spanText false (nanoseconds (pos 7) v) ≡ signedText (v .head)
+  whole-seconds : isDuration (pos kind) ≡ true → spanText false (nanoseconds (pos 7) v) ≡ signedText (v .head)
   unfolding nanoseconds
   whole-seconds h =
-      let d = duration kind v (x .is) h in
+      let d = duration-value (pos kind) v (x .is) h in
       let f : posPart (v .tail) ≡ 0 = omega (arith, read.no-fraction v (x .whole refl), d) in
       let j = joint (v .head) (v .tail) perSecond in
       let t = nanoseconds (pos 7) v in
@@ -171,15 +172,8 @@ module _ (kind : ℕ) (v : Value) (x : Shown false kind v) where
   pub ticks : tickText false (pos kind) v ≡ tickBefore (pos kind) v
   unfolding tickText tickBefore
   ticks =
-      elim (decLe kind 3) [
-        | yes l ↦ rw (le-leb kind 3 l)
-        | no l ↦
-            let l' : 3 < kind = omega arith in
-            elim (decLe kind 6) [
-              | yes m ↦ rw (lt-leb kind 3 l', le-leb kind 6 m, append-nil)
-              | no m ↦ let m' : 6 < kind = omega arith in rw (lt-leb kind 3 l', lt-leb kind 6 m') (whole-seconds m')
-            ]
-      ]
+      by-form (pos kind) v (x .is) (λ h _. rw (dates-no-times (pos kind) h, dates-no-duration (pos kind) h))
+      (λ h _. rw (h, append-nil)) (λ h _. rw (duration-no-times (pos kind) h, h) (whole-seconds h))
 
 -- ---- a line's answer
 module _ (number : ℕ) (q : Request) (z : showsFractions (listOf q) ≡ false) where

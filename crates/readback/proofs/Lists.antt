@@ -74,7 +74,7 @@ module _ (q : Request) where
     unfolding known
     kind-is =
         let k = q .axis .kind in
-        let p = both-true (leZ (pos 1) k) (leZ k (pos 7)) (accepted (q .axis) (Bold (q .hint)) z .kind) .0 in
+        let p = both-true (leZ (pos 1) k) (leZ k (pos 8)) (accepted (q .axis) (Bold (q .hint)) z .kind) .0 in
         let n : negPart k ≡ 0 = not-below k (omega (arith, le-true (pos 1) k p)) in
         sym (pos-up k n)
 

@@ -3,22 +3,23 @@ use mathlib.Core.Path.{_≡_, refl, sym, _∙_, ap}
 use mathlib.Core.Bool.{Bool, true, false, cond}
 use mathlib.Core.List.{List, [], _++_}
 use mathlib.Core.Logic.{inl, inr}
-use Prim.Native.Nat.{ℕ, suc, _+_, _*_, _-_, _/_, _%_, _^_, _<_, _≤_}
+use Prim.Native.Nat.{ℕ, suc, _+_, _*_, _-_, _/_, _%_, _^_, _<_}
 use native.Mathlib.Decide.{decLe}
 use native.Mathlib.Nat.{mul-add-mod-self-right}
 use native.Mathlib.Omega.{arith}
 use lib.Dec.{eqb}
 use lib.IntN.{ℤ, pos, natAbs}
 use lib.Signed.{ltZ}
-use borrow.Author.Tests.{lt-leb, le-leb, eq-eqb, ne-eqb, eqb-true, not-false}
+use borrow.Author.Tests.{eq-eqb, ne-eqb, eqb-true, not-false}
 use Rattle.laws.specs.Numbers.{minus, posPart, negPart}
 use Rattle.laws.specs.Units.{perSecond}
 use Rattle.laws.proofs.Signed.{same, lt-true, lt-false, is-lt, is-ge, one-is-zero, abs, pos-up, minus-dn, minus-parts}
 use Rattle.values.specs.declared.Value.{Value}
-use Rattle.values.specs.Values.{isDuration, isValue}
+use Rattle.values.specs.Values.{overDates, overDateTimes, isDuration}
 use Rattle.values.specs.Differences.{nanoseconds}
 use Rattle.values.proofs.Numbers.{not-below, not-above}
-use Rattle.values.proofs.Values.{DayValue, DurationValue, is-duration, date-value, day-value, duration-value}
+use Rattle.values.proofs.Values.{dates-no-times, dates-no-duration, times-no-duration, duration-no-times, by-form}
+use Rattle.values.proofs.Values.{DurationValue, date-value, day-value, duration-value}
 use Rattle.values.proofs.Joining.{joint}
 use Rattle.calendar.specs.Gregorian.{dateOf}
 use Rattle.text_read.specs.Bytes.{spaceByte}
@@ -34,39 +35,30 @@ use Rattle.readback.proofs.Forms.{of-day, ymd-read, stamp-read, is-time
 
 -- ---- by kind
 module _ (kind : ℕ) (s : List ℕ) where
-  value-date : kind ≤ 3 → readValue kind s ≡ ofDate (readDate s)
+  value-date : overDates (pos kind) ≡ true → readValue kind s ≡ ofDate (readDate s)
   unfolding readValue
-  value-date h = rw (le-leb kind 3 h)
+  value-date h = rw (dates-no-times (pos kind) h, dates-no-duration (pos kind) h)
 
-  value-stamp : 3 < kind → kind ≤ 6 → readValue kind s ≡ ofStamp (readStamp s)
+  value-stamp : overDateTimes (pos kind) ≡ true → readValue kind s ≡ ofStamp (readStamp s)
   unfolding readValue
-  value-stamp h l = rw (lt-leb kind 3 h, le-leb kind 6 l)
+  value-stamp h = rw h
 
-  value-span : 6 < kind → readValue kind s ≡ ofSpan (readSpan s)
+  value-span : isDuration (pos kind) ≡ true → readValue kind s ≡ ofSpan (readSpan s)
   unfolding readValue
-  value-span h = let l : 3 < kind = omega arith in rw (lt-leb kind 3 l, lt-leb kind 6 h)
+  value-span h = rw (duration-no-times (pos kind) h, h)
 
-module _ (shown : Bool) (kind : ℕ) (v : Value) where
-  text-date : kind ≤ 3 → tickText shown (pos kind) v ≡ dateText (posPart (v .head))
+module _ (shown : Bool) (kind : ℤ) (v : Value) where
+  text-date : overDates kind ≡ true → tickText shown kind v ≡ dateText (posPart (v .head))
   unfolding tickText
-  text-date h = rw (le-leb kind 3 h)
+  text-date h = rw (dates-no-times kind h, dates-no-duration kind h)
 
-  text-stamp : 3 < kind → kind ≤ 6 → tickText shown (pos kind) v ≡ dateTimeText shown (posPart (v .head)) (posPart (v .tail))
+  text-stamp : overDateTimes kind ≡ true → tickText shown kind v ≡ dateTimeText shown (posPart (v .head)) (posPart (v .tail))
   unfolding tickText
-  text-stamp h l = rw (lt-leb kind 3 h, le-leb kind 6 l)
+  text-stamp h = rw h
 
-  text-span : 6 < kind → tickText shown (pos kind) v ≡ spanText shown (nanoseconds (pos 7) v)
+  text-span : isDuration kind ≡ true → tickText shown kind v ≡ spanText shown (nanoseconds (pos 7) v)
   unfolding tickText
-  text-span h = let l : 3 < kind = omega arith in rw (lt-leb kind 3 l, lt-leb kind 6 h)
-
-module _ (kind : ℕ) (v : Value) (x : isValue (pos kind) v ≡ true) where
-  on-day : kind ≤ 6 → DayValue v
-  on-day l = let n : isDuration (pos kind) ≡ false = rw (lt-leb 7 kind (omega arith)) in day-value (pos kind) v x n
-
-  pub duration : 6 < kind → DurationValue v
-  duration h =
-      let l : 3 < kind = omega arith in
-      duration-value (pos kind) v x (is-duration (pos kind) v x (lt-leb kind 3 l) (lt-leb kind 6 h) .0)
+  text-span h = rw (duration-no-times kind h, h)
 
 -- ---- a value from its numbers
 same-value : (v w : Value) → v .head ≡ w .head → v .tail ≡ w .tail → v ≡ w
@@ -142,27 +134,27 @@ module _ (v : Value) (d : DurationValue v) where
 
 -- ---- a tick
 module _ (shown : Bool) (kind : ℕ) (v : Value) (t : List ℕ) (x : Shown shown kind v) (e : untilOf spaceByte t ≡ 0) where
-  dates : kind ≤ 3 → readValue kind (tickText shown (pos kind) v ++ t) ≡ value.Read v
+  dates : overDates (pos kind) ≡ true → readValue kind (tickText shown (pos kind) v ++ t) ≡ value.Read v
   dates h =
-      let d = date-value (pos kind) v (x .is) (le-leb kind 3 h) in
+      let d = date-value (pos kind) v (x .is) h in
       let n = posPart (v .head) in
       let o = of-day n (d .head-least) (d .head-most) in
       value-date kind (tickText shown (pos kind) v ++ t) h
-      ∙ rw (text-date shown kind v h, ymd-read (dateOf n) t (o .short) e, o .value 0)
+      ∙ rw (text-date shown (pos kind) v h, ymd-read (dateOf n) t (o .short) e, o .value 0)
       (ap value.Read (same-value (record { head = pos n; tail = pos 0 }) v (pos-up (v .head) (d .head-dn)) (sym (d .no-tail))))
 
-  stamps : 3 < kind → kind ≤ 6 → readValue kind (tickText shown (pos kind) v ++ t) ≡ value.Read v
+  stamps : overDateTimes (pos kind) ≡ true → readValue kind (tickText shown (pos kind) v ++ t) ≡ value.Read v
   unfolding stampValue
-  stamps h l =
-      let d = on-day kind v (x .is) l in
+  stamps h =
+      let d = day-value (pos kind) v (x .is) (times-no-duration (pos kind) h) in
       let n = posPart (v .head) in
       let nano = posPart (v .tail) in
       let s = nano / perSecond in
       let o = of-day n (d .head-least) (d .head-most) in
       let whole : s * perSecond + nano % perSecond ≡ nano = omega arith in
-      value-stamp kind (tickText shown (pos kind) v ++ t) h l
+      value-stamp kind (tickText shown (pos kind) v ++ t) h
       ∙ rw (
-        text-stamp shown kind v h l,
+        text-stamp shown (pos kind) v h,
         stamp-read shown n nano t (o .short) (omega (arith, d .tail-most)) (λ z. no-fraction v (x .whole z)) e,
         is-time n s (nano % perSecond) (omega (arith, d .tail-most)),
         second-is s,
@@ -172,15 +164,15 @@ module _ (shown : Bool) (kind : ℕ) (v : Value) (t : List ℕ) (x : Shown shown
       (ap value.Read (same-value (record { head = pos n; tail = pos nano }) v (pos-up (v .head) (d .head-dn))
       (pos-up (v .tail) (d .tail-dn))))
 
-  spans : 6 < kind → readValue kind (tickText shown (pos kind) v ++ t) ≡ value.Read v
+  spans : isDuration (pos kind) ≡ true → readValue kind (tickText shown (pos kind) v ++ t) ≡ value.Read v
   spans h =
-      let d = duration kind v (x .is) h in
+      let d = duration-value (pos kind) v (x .is) h in
       let z = nanoseconds (pos 7) v in
       let n = natAbs z / perSecond in
       let q = natAbs z % perSecond in
       let w : shown ≡ false → q ≡ 0 = λ y. whole v d (x .whole y) in
       value-span kind (tickText shown (pos kind) v ++ t) h
-      ∙ rw (text-span shown kind v h)
+      ∙ rw (text-span shown (pos kind) v h)
       (elim (decLe (posPart z + 1) (negPart z)) [
         | yes l ↦
             let b : ltZ z (pos 0) ≡ true = is-lt z (pos 0) (omega arith) in
@@ -192,14 +184,8 @@ module _ (shown : Bool) (kind : ℕ) (v : Value) (t : List ℕ) (x : Shown shown
 
 pub tick-reads-back : TickReadsBack
 tick-reads-back shown kind v t x e =
-    elim (decLe kind 3) [
-      | yes l ↦ dates shown kind v t x e l
-      | no l ↦
-          elim (decLe kind 6) [
-            | yes m ↦ stamps shown kind v t x e (omega arith) m
-            | no m ↦ spans shown kind v t x e (omega arith)
-          ]
-    ]
+    by-form (pos kind) v (x .is) (λ h _. dates shown kind v t x e h) (λ h _. stamps shown kind v t x e h)
+    (λ h _. spans shown kind v t x e h)
 
 -- ---- no two look alike
 one-value : (s : ValueField) (v w : Value) → s ≡ value.Read v → s ≡ value.Read w → v ≡ w

@@ -5,13 +5,14 @@ use mathlib.Core.List.{List, [], _∷_, _++_, append-assoc, append-nil}
 use Prim.Native.Nat.{ℕ, zero, suc, _+_, _*_, _/_, _%_, _<_, _≤_}
 use native.Mathlib.Omega.{arith}
 use lib.IntN.{ℤ, pos, natAbs}
-use lib.Signed.{ltZ, leZ}
+use lib.Signed.{ltZ}
 use lib.ListN.{length}
 use lib.Seq.{drop-append-add}
 use borrow.Author.Tests.{eq-eqb, ne-eqb}
 use Rattle.laws.specs.Numbers.{posPart}
 use Rattle.laws.specs.Units.{perSecond}
 use Rattle.values.specs.declared.Value.{Value}
+use Rattle.values.specs.Values.{overDateTimes, isDuration}
 use Rattle.values.specs.Differences.{nanoseconds}
 use Rattle.axis.specs.declared.Hint.the-variants.{Bold}
 use Rattle.mapping.specs.declared.Pixel.{Pixel}
@@ -68,16 +69,16 @@ module _ {c : ℕ} (x : Apart c) where
 
   free-tick : (shown : Bool) (kind : ℤ) (v : Value) → Free c (tickText shown kind v)
   unfolding tickText
-  free-tick shown kind v = go (leZ kind (pos 3)) (leZ kind (pos 6))
+  free-tick shown kind v = go (overDateTimes kind) (isDuration kind)
     where
       n : ℕ
       n = posPart (v .head)
 
-      go : (a b : Bool) → Free c (cond a (dateText n) (cond b (dateTimeText shown n (posPart (v .tail)))
-          (spanText shown (nanoseconds (pos 7) v))))
-      go true b = free-date n (x .below) (x .minus)
-      go false true = free-stamp shown n (posPart (v .tail)) (x .below) (x .minus) (x .point)
-      go false false = free-span shown (nanoseconds (pos 7) v)
+      go : (a b : Bool) → Free c (cond a (dateTimeText shown n (posPart (v .tail)))
+          (cond b (spanText shown (nanoseconds (pos 7) v)) (dateText n)))
+      go true b = free-stamp shown n (posPart (v .tail)) (x .below) (x .minus) (x .point)
+      go false true = free-span shown (nanoseconds (pos 7) v)
+      go false false = free-date n (x .below) (x .minus)
 
   free-mark : (p : Pixel) → Free c (markText p)
   free-mark (At n) = free-signed n

@@ -3,13 +3,13 @@
 use mathlib.Core.Bool.{cond}
 use mathlib.Core.List.{List, [], _∷_, _++_}
 use Prim.Native.Nat.{ℕ, zero, suc, _/_}
-use lib.Dec.{leb, eqb}
+use lib.Dec.{eqb}
 use lib.IntN.{ℤ, pos}
-use lib.Signed.{leZ}
 use lib.ListN.{length, take, drop, getD}
 use Rattle.laws.specs.Numbers.{posPart}
 use Rattle.laws.specs.Units.{perSecond}
 use Rattle.values.specs.declared.Value.{Value}
+use Rattle.values.specs.Values.{overDateTimes, isDuration}
 use Rattle.axis.specs.declared.Axis.{Axis}
 use Rattle.axis.specs.declared.Limits.{Limits}
 use Rattle.axis.specs.declared.Hint.the-variants.{Bold}
@@ -54,7 +54,9 @@ ofSeconds number.Unread = value.Unread
 -- a start or an end
 unfoldable pub valueBefore : ℕ → List ℕ → ValueField
 valueBefore kind s =
-    cond (leb kind 3) (ofDate (readDate s)) (cond (leb kind 6) (ofStamp (stampBefore s)) (ofSeconds (readNumber s)))
+    cond (overDateTimes (pos kind)) (ofStamp (stampBefore s))
+    (cond (isDuration (pos kind)) (ofSeconds (readNumber s))
+    (ofDate (readDate s)))
 
 -- all fields of a line of a kind
 abbrev pub fieldsBefore : ℕ → List ℕ → Line
@@ -75,9 +77,9 @@ lineBefore s =
 -- rounded down to the second
 unfoldable pub tickBefore : ℤ → Value → List ℕ
 tickBefore kind v =
-    cond (leZ kind (pos 3)) (dateText (posPart (v .head)))
-    (cond (leZ kind (pos 6)) (dateText (posPart (v .head)) ++ (tByte ∷ []) ++ timeText (posPart (v .tail) / perSecond))
-    (signedText (v .head)))
+    cond (overDateTimes kind) (dateText (posPart (v .head)) ++ (tByte ∷ []) ++ timeText (posPart (v .tail) / perSecond))
+    (cond (isDuration kind) (signedText (v .head))
+    (dateText (posPart (v .head))))
 
 -- number, space, tick, space, mark, LF
 abbrev pub rowBefore : ℕ → ℤ → Value → Pixel → List ℕ

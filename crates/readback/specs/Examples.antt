@@ -45,6 +45,7 @@ written =
     ∷ writes 4 (pair (pos 60) 500000000) true "0001-03-01T00:00:00.500000000"
     ∷ writes 4 (pair (pos 60) 1000000000) false "0001-03-01T00:00:01"
     ∷ writes 1 (pair (pos 60) 0) false "0001-03-01"
+    ∷ writes 8 (pair (pos 60) 0) false "0001-03-01"
     ∷ []
 
 -- what the definitions write
@@ -92,6 +93,8 @@ readings =
     ∷ reads 4 "0001-02-30T00:00:00.1234567890" value.Unread
     ∷ reads 4 "0001-03-01.5" value.Unread
     ∷ reads 1 "0001-03-01.5" value.Unread
+    ∷ reads 8 "0001-03-01" (at (pos 60) 0)
+    ∷ reads 8 "0001-W09-4" value.Unread
     ∷ []
 
 -- what the definitions read

@@ -59,7 +59,7 @@ place-most k (v ∷ vs) w h = either (sameAs w v) (omega (arith, place-most (suc
     either true l = omega arith
     either false l = l
 
-pub kind-most : (w : List ℕ) → kindOf w ≤ 7
+pub kind-most : (w : List ℕ) → kindOf w ≤ 8
 unfolding kindOf
 kind-most w = omega (arith, place-most 1 kinds w (lit≤ tt))
 

@@ -12,6 +12,7 @@ use Rattle.calendar.specs.Questions.{numberOf}
 use Rattle.calendar.specs.declared.DayAnswer.{DayAnswer}
 use Rattle.calendar.specs.declared.DayAnswer.the-variants as day
 use Rattle.values.specs.declared.Value.{Value}
+use Rattle.values.specs.Values.{overDateTimes, isDuration}
 use Rattle.axis.specs.Axes.{axisOf}
 use Rattle.text_read.specs.Bytes.{spaceByte}
 use Rattle.text_read.specs.Fields.{untilOf, fieldOf, readNumber, readDate, readStamp, readSpan}
@@ -50,7 +51,7 @@ names =
 abbrev pub isNames : List ℕ → Bool
 isNames s = sameAs s names
 
--- the kinds' names in order: date, month, year, stamp, stampmonth, stampyear, span
+-- the kinds' names in order: date, month, year, stamp, stampmonth, stampyear, span, week
 abbrev pub kinds : List (List ℕ)
 kinds =
     (100 ∷ 97 ∷ 116 ∷ 101 ∷ [])
@@ -60,6 +61,7 @@ kinds =
     ∷ (115 ∷ 116 ∷ 97 ∷ 109 ∷ 112 ∷ 109 ∷ 111 ∷ 110 ∷ 116 ∷ 104 ∷ [])
     ∷ (115 ∷ 116 ∷ 97 ∷ 109 ∷ 112 ∷ 121 ∷ 101 ∷ 97 ∷ 114 ∷ [])
     ∷ (115 ∷ 112 ∷ 97 ∷ 110 ∷ [])
+    ∷ (119 ∷ 101 ∷ 101 ∷ 107 ∷ [])
     ∷ []
 
 -- where w stands among words of which the first counts as k; 0: it is none of them
@@ -67,7 +69,7 @@ abbrev pub placeIn : ℕ → List (List ℕ) → List ℕ → ℕ
 placeIn k [] w = 0
 placeIn k (v ∷ vs) w = cond (sameAs w v) k (placeIn (suc k) vs w)
 
--- 1 to 7, or 0
+-- 1 to 8, or 0
 unfoldable pub kindOf : List ℕ → ℕ
 kindOf w = placeIn 1 kinds w
 
@@ -91,7 +93,7 @@ fieldsFrom zero s = s
 fieldsFrom (suc k) s = restOf (fieldsFrom k s)
 
 -- ---- a start or an end as a value
--- what is typed in form and is not real: no value of kinds 1 to 6, whose heads begin at 1
+-- what is typed in form and is not real: no value of the kinds over dates and date-times, whose heads begin at 1
 abbrev pub unreal : Value
 unreal = record { head = pos 0; tail = pos 0 }
 
@@ -144,9 +146,12 @@ abbrev pub ofSpan : SpanField → ValueField
 ofSpan (span.Read p) = value.Read (spanValue p)
 ofSpan span.Unread = value.Unread
 
--- dates on kinds 1 to 3, date-times on 4 to 6, spans on 7
+-- date-times on kinds 4 to 6, spans on 7, dates on all others
 unfoldable pub readValue : ℕ → List ℕ → ValueField
-readValue kind s = cond (leb kind 3) (ofDate (readDate s)) (cond (leb kind 6) (ofStamp (readStamp s)) (ofSpan (readSpan s)))
+readValue kind s =
+    cond (overDateTimes (pos kind)) (ofStamp (readStamp s))
+    (cond (isDuration (pos kind)) (ofSpan (readSpan s))
+    (ofDate (readDate s)))
 
 -- ---- the line
 abbrev pub request : ℕ → Value → Value → ℤ → ℤ → ℤ → Request

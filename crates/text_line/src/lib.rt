@@ -96,7 +96,8 @@ fn if_same(a: &[u8], b: &[u8], number: u64, other: u64) -> u64
 fn kind_of(w: &[u8]) -> u64
     ensures { λ r. ⌜ r ≡ kindOf (now (w .entry)) ⌝ }
 {
-    let k = if_same(w, b"span", 7, 0);
+    let k = if_same(w, b"week", 8, 0);
+    let k = if_same(w, b"span", 7, k);
     let k = if_same(w, b"stampyear", 6, k);
     let k = if_same(w, b"stampmonth", 5, k);
     let k = if_same(w, b"stamp", 4, k);
@@ -125,7 +126,7 @@ fn rest_of(s: &[u8]) -> &[u8]
     &s[at..]
 }
 
-// A day and a nanosecond of it. A date that is not real gets 0 and 0, which is no value of kinds 1 to 6.
+// A day and a nanosecond of it. A date that is not real gets 0 and 0, which is no value of a kind that is asked for it.
 fn on_day(d: Day, nano: u64) -> Value
     requires { ⌜ Typed d × (nano < perDay) ⌝ }
     ensures { λ r. ⌜ r ≡ onDay d nano ⌝ }
@@ -199,22 +200,22 @@ fn span_value(p: Duration) -> Value
 fn read_value(kind: u64, s: &[u8]) -> ValueField
     ensures { λ r. ⌜ r ≡ readValue kind (now (s .entry)) ⌝ }
 {
-    if kind <= 3 {
-        let DateField::Read(d) = text_read::date(s) else {
-            return ValueField::Unread;
-        };
-        return ValueField::Read(on_day(d, 0));
-    }
-    if kind <= 6 {
+    if (4 <= kind) & (kind <= 6) {
         let StampField::Read(m) = text_read::stamp(s) else {
             return ValueField::Unread;
         };
         return ValueField::Read(stamp_value(m));
     }
-    let SpanField::Read(p) = text_read::span(s) else {
+    if (7 <= kind) & (kind <= 7) {
+        let SpanField::Read(p) = text_read::span(s) else {
+            return ValueField::Unread;
+        };
+        return ValueField::Read(span_value(p));
+    }
+    let DateField::Read(d) = text_read::date(s) else {
         return ValueField::Unread;
     };
-    ValueField::Read(span_value(p))
+    ValueField::Read(on_day(d, 0))
 }
 
 // The request, if every field has its form.
@@ -226,7 +227,7 @@ fn together(
     low: NumberField,
     high: NumberField,
 ) -> Line
-    requires { ⌜ kind ≤ 7 ⌝ }
+    requires { ⌜ kind ≤ 8 ⌝ }
     ensures { λ r. ⌜ r ≡ requestOf kind start end hint low high ⌝ }
 {
     let ValueField::Read(a) = start else {

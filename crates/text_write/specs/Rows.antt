@@ -3,21 +3,21 @@ use mathlib.Core.Bool.{Bool, cond}
 use mathlib.Core.List.{List, [], _∷_, _++_}
 use Prim.Native.Nat.{ℕ}
 use lib.IntN.{ℤ, pos}
-use lib.Signed.{leZ}
 use Rattle.laws.specs.Numbers.{posPart}
 use Rattle.values.specs.declared.Value.{Value}
+use Rattle.values.specs.Values.{overDateTimes, isDuration}
 use Rattle.values.specs.Differences.{nanoseconds}
 use Rattle.mapping.specs.declared.Pixel.{Pixel}
 use Rattle.mapping.specs.declared.Pixel.the-variants.{Refused, At}
 use Rattle.text_read.specs.Bytes.{lineFeed, spaceByte, exclamation, minusByte}
 use Rattle.text_write.specs.Texts.{decimalText, signedText, dateText, dateTimeText, spanText}
 
--- kinds 1 to 3 are over dates, 4 to 6 over date-times, 7 over durations; `shown`: the tick's list shows fractions
+-- date-times on kinds 4 to 6, spans on 7, dates on all others; `shown`: the tick's list shows fractions
 unfoldable pub tickText : Bool → ℤ → Value → List ℕ
 tickText shown kind v =
-    cond (leZ kind (pos 3)) (dateText (posPart (v .head)))
-    (cond (leZ kind (pos 6)) (dateTimeText shown (posPart (v .head)) (posPart (v .tail)))
-    (spanText shown (nanoseconds (pos 7) v)))
+    cond (overDateTimes kind) (dateTimeText shown (posPart (v .head)) (posPart (v .tail)))
+    (cond (isDuration kind) (spanText shown (nanoseconds (pos 7) v))
+    (dateText (posPart (v .head))))
 
 -- the pixel, or '!' and the refusal's number
 abbrev pub markText : Pixel → List ℕ

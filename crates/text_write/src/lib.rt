@@ -193,13 +193,13 @@ fn tick(out: &mut [u8], at: usize, shown: bool, kind: i64, v: Value) -> usize
     ensures { λ r. ⌜ (r ≤ at + 31) × (length (now (out .exit)) ≡ length (now (out .entry))) ⌝ }
 {
     let day = pos_part(v.head);
-    if kind <= 3 {
-        return date(out, at, day);
-    }
-    if kind <= 6 {
+    if (4 <= kind) & (kind <= 6) {
         return date_time(out, at, shown, day, pos_part(v.tail));
     }
-    span(out, at, shown, v)
+    if (7 <= kind) & (kind <= 7) {
+        return span(out, at, shown, v);
+    }
+    date(out, at, day)
 }
 
 // The pixel, or '!' and the refusal.

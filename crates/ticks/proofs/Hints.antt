@@ -38,7 +38,7 @@ use Rattle.ticks.specs.Plans.{refined, axisFor}
 
 -- ---- the kinds that have a finer one, which is over the same values
 record Coarse (k : ℤ) : Type 0 where
-  known : within (pos 1) (k -ℤ pos 1) (pos 7) ≡ true
+  known : within (pos 1) (k -ℤ pos 1) (pos 8) ≡ true
   value : (v : Value) → isValue (k -ℤ pos 1) v ≡ isValue k v
   days : isDuration (k -ℤ pos 1) ≡ false
   many : within (pos 4) (k -ℤ pos 1) (pos 7) ≡ true → within (pos 4) k (pos 7) ≡ true

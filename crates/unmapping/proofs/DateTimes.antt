@@ -8,7 +8,8 @@ use lib.Dec.{leb}
 use borrow.Author.Tests.{leb-false}
 use Rattle.laws.specs.Numbers.{posPart, negPart}
 use Rattle.laws.proofs.Signed.{sub, same}
-use Rattle.axis.proofs.Checked.{day-in, day-beyond, in-range, out-of-range}
+use Rattle.calendar.proofs.Questions.{day-in, day-beyond}
+use Rattle.axis.proofs.Checked.{in-range, out-of-range}
 use Rattle.axis.specs.declared.ValueAnswer.the-variants.{Refused, At}
 use Rattle.unmapping.specs.Unmapping.{dateTimeAt}
 use Rattle.unmapping.specs.Sizes.{dateTimeAnswer}

@@ -55,6 +55,10 @@ pub agree : (a b : Bool) → (a ≡ true → b ≡ true) → (a ≡ false → b 
 agree true b f g = sym (f refl)
 agree false b f g = sym (g refl)
 
+pub or-true : (b : Bool) → b || true ≡ true
+or-true true = refl
+or-true false = refl
+
 pub or-false : (b : Bool) → b || false ≡ b
 or-false true = refl
 or-false false = refl

@@ -1,5 +1,5 @@
--- Values of the seven kinds (question 3, and question 8 of a value) and their order. Definitions only.
--- Kinds 1 to 3 are over dates, 4 to 6 over date-times, 7 over durations.
+-- Values of the eight kinds (question 3, and question 8 of a value) and their order. Definitions only.
+-- Kinds 1 to 3 and 8 are over dates, 4 to 6 over date-times, 7 over durations.
 use mathlib.Core.Path.{_≡_}
 use mathlib.Core.Bool.{Bool, true, _&&_, _||_}
 use lib.IntN.{ℤ, pos}
@@ -7,6 +7,14 @@ use lib.Signed.{ltZ, leZ}
 use Rattle.laws.specs.Numbers.{minus, within, isNumber}
 use Rattle.calendar.specs.Questions.{isDay}
 use Rattle.values.specs.declared.Value.{Value}
+
+-- the kinds over dates
+unfoldable pub overDates : ℤ → Bool
+overDates kind = within (pos 1) kind (pos 3) || isNumber kind 8
+
+-- the kinds over date-times
+abbrev pub overDateTimes : ℤ → Bool
+overDateTimes kind = within (pos 4) kind (pos 6)
 
 -- the kind over durations
 abbrev pub isDuration : ℤ → Bool
@@ -26,9 +34,10 @@ aDuration v = within (minus 315576000000) (v .head) (pos 315576000000) && within
 
 -- of its kind
 unfoldable pub isValue : ℤ → Value → Bool
+unfolding overDates
 isValue kind v =
-    (within (pos 1) kind (pos 3) && aDate v)
-    || ((within (pos 4) kind (pos 6) && aDateTime v)
+    (overDates kind && aDate v)
+    || ((overDateTimes kind && aDateTime v)
     || (isDuration kind && aDuration v))
 
 -- two values of one kind

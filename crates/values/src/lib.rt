@@ -40,17 +40,14 @@ pub fn is_duration(kind: i64) -> bool
 pub fn is_value(kind: i64, v: Value) -> bool
     ensures { λ r. ⌜ r ≡ isValue kind v ⌝ }
 {
-    if kind <= 3 {
-        return (1 <= kind)
+    if (kind <= 3) | (8 <= kind) {
+        return ((1 <= kind) & (kind <= 8))
             & ((1 <= v.head) & (v.head <= LAST_DAY) & ((0 <= v.tail) & (v.tail <= 0)));
     }
     if kind <= 6 {
         return (1 <= v.head) & (v.head <= LAST_DAY) & ((0 <= v.tail) & (v.tail <= 86399999999999));
     }
-    (kind <= 7)
-        & ((-315576000000 <= v.head)
-            & (v.head <= 315576000000)
-            & ((0 <= v.tail) & (v.tail <= 999999999)))
+    (-315576000000 <= v.head) & (v.head <= 315576000000) & ((0 <= v.tail) & (v.tail <= 999999999))
 }
 
 // Is a before b?

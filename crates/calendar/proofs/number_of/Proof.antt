@@ -1,17 +1,11 @@
 -- `calendar::number_of` meets its contract: three numbers in their ranges are their counts. Assumes nothing.
 use borrow.Author.Needs.{needs}
 use mathlib.Core.Path.{_≡_, sym, _∙_, ap}
-use mathlib.Core.Bool.{true, false}
+use mathlib.Core.Bool.{true}
 use borrow.Author.Tests.{not-true, not-false}
-use Prim.Native.Nat.{ℕ}
-use lib.IntN.{ℤ, pos}
-use mir.Syntax.{w64}
-use lib.Signed.{ltZ}
-use mir.Val.{SFits, toZ, ofZ}
-use mir.Facts.{toZ-ofZ}
-use Rattle.laws.specs.Numbers.{posPart}
+use lib.IntN.{pos}
 use Rattle.calendar.specs.Questions.{inRanges, numberOf}
-use Rattle.calendar.proofs.Questions.{out-of-ranges, Ranges, ranges}
+use Rattle.calendar.proofs.Questions.{counts-from-0, same-count, out-of-ranges, Ranges, ranges}
 use Rattle.calendar.proofs.number_of.Statement.{statement}
 use Rattle.calendar.proofs.number_of.Tie as tie
 
@@ -25,23 +19,16 @@ passed c = sym (c .before .in-ranges .ensures) ∙ not-false _ (c .if1 .left)
 fine : (c : tie.Else1) → Ranges (c .before .before .args .t)
 fine c = ranges (c .before .before .args .t) (passed c)
 
-back : (z : ℤ) → SFits w64 z → ltZ z (pos 0) ≡ false → ltZ (toZ w64 (ofZ w64 z)) (pos 0) ≡ false
-back z f e = rw (toZ-ofZ f) e
-
 as-count-requires : tie.Need-as-count-requires
-as-count-requires c κs = back (c .before .before .before .args .t .year) (search needs) (fine (c .before) .year-count)
+as-count-requires c κs = counts-from-0 (c .before .before .before .args .t .year) (search needs) (fine (c .before) .year-count)
 
 as-count-requires-2 : tie.Need-as-count-requires-2
 as-count-requires-2 c κs = let e = c .before .before .before in
-    back (e .before .before .args .t .month) (search needs) (fine e .month-count)
+    counts-from-0 (e .before .before .args .t .month) (search needs) (fine e .month-count)
 
 as-count-requires-3 : tie.Need-as-count-requires-3
 as-count-requires-3 c κs = let e = c .before .before .before .before .before in
-    back (e .before .before .args .t .day) (search needs) (fine e .day-count)
-
--- a as-count is the number that it was made of
-same : (z : ℤ) (n : ℕ) → SFits w64 z → pos (posPart z) ≡ z → n ≡ posPart (toZ w64 (ofZ w64 z)) → pos n ≡ z
-same z n f e p = ap pos (p ∙ ap posPart (toZ-ofZ f)) ∙ e
+    counts-from-0 (e .before .before .args .t .day) (search needs) (fine e .day-count)
 
 counted : (c : tie.After-as-count3) → record {
   year = pos (c .before .before .before .before .as-count .result);
@@ -55,9 +42,9 @@ counted c =
     let y = m .before .before in
     let k = fine (y .before .before) in
     let t = y .before .before .before .before .args .t in
-    let p = same (t .year) _ (search needs) (k .year-is) (y .as-count .ensures) in
-    let q = same (t .month) _ (search needs) (k .month-is) (m .as-count2 .ensures) in
-    let r = same (t .day) _ (search needs) (k .day-is) (c .as-count3 .ensures) in
+    let p = same-count (t .year) _ (search needs) (k .year-is) (y .as-count .ensures) in
+    let q = same-count (t .month) _ (search needs) (k .month-is) (m .as-count2 .ensures) in
+    let r = same-count (t .day) _ (search needs) (k .day-is) (c .as-count3 .ensures) in
     λ i. record { year = p i; month = q i; day = r i }
 
 number-in-ranges-requires : tie.Need-number-in-ranges-requires

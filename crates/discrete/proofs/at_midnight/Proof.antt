@@ -6,7 +6,8 @@ use lib.IntN.{ℤ, pos}
 use Rattle.laws.proofs.Signed.{read-count}
 use Rattle.axis.specs.declared.ValueAnswer.the-variants as value
 use Rattle.values.specs.Values.{midnight}
-use Rattle.axis.proofs.Checked.{in-range, out-of-range, day-in, day-beyond}
+use Rattle.calendar.proofs.Questions.{day-in, day-beyond}
+use Rattle.axis.proofs.Checked.{in-range, out-of-range}
 use Rattle.discrete.proofs.at_midnight.Statement.{statement}
 use Rattle.discrete.proofs.at_midnight.Tie as tie
 

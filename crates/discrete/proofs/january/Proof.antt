@@ -15,7 +15,8 @@ use Rattle.calendar.proofs.Dates.{a-first}
 use Rattle.counting.proofs.Dates.{first-beyond}
 use Rattle.counting.proofs.Counting.{starts, is-day}
 use Rattle.discrete.proofs.Indices.{january-start, january-later}
-use Rattle.axis.proofs.Checked.{in-range, out-of-range, day-beyond}
+use Rattle.calendar.proofs.Questions.{day-beyond}
+use Rattle.axis.proofs.Checked.{in-range, out-of-range}
 use Rattle.discrete.proofs.january.Statement.{statement}
 use Rattle.discrete.proofs.january.Tie as tie
 

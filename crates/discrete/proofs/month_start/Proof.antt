@@ -9,7 +9,8 @@ use Rattle.values.specs.Values.{midnight}
 use Rattle.axis.specs.Questions.{checked}
 use Rattle.calendar.proofs.Dates.{a-first}
 use Rattle.counting.proofs.Dates.{first-least, first-beyond}
-use Rattle.axis.proofs.Checked.{out-of-range, day-beyond}
+use Rattle.calendar.proofs.Questions.{day-beyond}
+use Rattle.axis.proofs.Checked.{out-of-range}
 use Rattle.discrete.proofs.month_start.Statement.{statement}
 use Rattle.discrete.proofs.month_start.Tie as tie
 

@@ -26,13 +26,14 @@ day-on-requires-2 c κs = let s = c .before .before in
     rw (c .start .ensures) (is-day (start (s .args .a)) (starts (s .args .a) (s .pre .0)))
 
 at-is : (c : tie.After-day-on) → c .day-on .result ≡ position (c .before .args .a) (c .before .args .v)
-at-is c = let s = c .before in c .day-on .ensures ∙ sym (position-days (s .args .a) (s .args .v) (s .pre .2) (s .pre .3))
+at-is c = let s = c .before in
+    c .day-on .ensures ∙ sym (position-days (s .args .a) (s .args .v) (s .pre .2) (s .pre .3) (s .pre .4))
 
 from-is : (c : tie.After-day-on2) → c .day-on2 .result ≡ origin (c .before .before .before .args .a)
 from-is c =
     let s = c .before .before .before in
     c .day-on2 .ensures ∙ ap (λ (v : Value). posPart (v .head)) (c .before .start .ensures)
-    ∙ sym (origin-days (s .args .a) (s .pre .2) (s .pre .3))
+    ∙ sym (origin-days (s .args .a) (s .pre .2) (s .pre .3) (s .pre .4))
 
 returns : tie.Need-returns
 returns c =
@@ -52,7 +53,7 @@ to-is : (c : tie.After-day-on3) → c .day-on3 .result ≡ position (c .before .
 to-is c =
     let s = c .before .before .before .before .before .before in
     c .day-on3 .ensures ∙ ap (λ (v : Value). posPart (v .head)) (c .before .end .ensures)
-    ∙ sym (position-days (s .args .a) (end (s .args .a)) (s .pre .2) (s .pre .3))
+    ∙ sym (position-days (s .args .a) (end (s .args .a)) (s .pre .2) (s .pre .3) (s .pre .4))
 
 from-to : (c : tie.Else1) → let s = c .before .before .before .before in origin (s .args .a) ≤ position (s .args .a) (s .args .v)
 from-to c = let d = c .before in omega (arith, c .if1 .left, from-is d, at-is (d .before .before))
@@ -74,11 +75,11 @@ returns-3 c =
     let s = t .before in
     let x = s .args in
     let place : t .day-on .result + 1 ≡ posPart (x .a .«start_head») + (position (x .a) (x .v) - origin (x .a) + 1) =
-    omega (arith, at-is t, from-to e, origin-days (x .a) (s .pre .2) (s .pre .3)) in
+    omega (arith, at-is t, from-to e, origin-days (x .a) (s .pre .2) (s .pre .3) (s .pre .4)) in
     c .at-midnight .ensures
     ∙ ap (λ (k : ℕ). checked (value.At (midnight (pos k)))) place
     ∙ ap (λ (v : Value). checked (value.At v))
-    (sym (value-days (x .a) (position (x .a) (x .v) - origin (x .a) + 1) (s .pre .2) (s .pre .3)))
+    (sym (value-days (x .a) (position (x .a) (x .v) - origin (x .a) + 1) (s .pre .2) (s .pre .3) (s .pre .4)))
     ∙ ap checked (sym (next-inside (x .a) (x .v) (from-to e) (omega (arith, n .if2 .left, to-is d, at-is t))))
 
 pub next-day-spec : {M : Type 1} → statement M

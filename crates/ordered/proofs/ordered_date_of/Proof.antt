@@ -19,22 +19,22 @@ ranges : (c : tie.After-struct-known) → InRange (c .before .before .t .given .
 ranges c = let g = c .before .before .t .given in date-range _ (g .0 .0) (sym (said (c .before .before .before .before)) ∙ g .1)
 
 cast-t6 : tie.Need-cast-t6
-cast-t6 c = count-fits _ (omega (arith, ranges c .year))
+cast-t6 c = count-fits _ (omega (arith, ranges c))
 
 cast-t7 : tie.Need-cast-t7
-cast-t7 c = count-fits _ (omega (arith, ranges (c .before) .month))
+cast-t7 c = count-fits _ (omega (arith, ranges (c .before)))
 
 cast-t8 : tie.Need-cast-t8
-cast-t8 c = count-fits _ (omega (arith, ranges (c .before .before) .day))
+cast-t8 c = count-fits _ (omega (arith, ranges (c .before .before)))
 
 returns : tie.Need-returns
 returns c =
     let k = c .before .before in
     let g = k .before .before .t .given in
     let t = g .0 .0 in
-    let y = read-count (t .year) (omega (arith, ranges k .year)) in
-    let m = read-count (t .month) (omega (arith, ranges k .month)) in
-    let d = read-count (t .day) (omega (arith, ranges k .day)) in
+    let y = read-count (t .year) (omega (arith, ranges k)) in
+    let m = read-count (t .month) (omega (arith, ranges k)) in
+    let d = read-count (t .day) (omega (arith, ranges k)) in
     (λ i. record { status = pos 0; year = y i; month = m i; day = d i })
     ∙ ap dateReply (sym (g .1) ∙ said (k .before .before .before .before))
 

@@ -12,14 +12,16 @@ returns c =
     let stamp = year .before .before in
     let stampmonth = stamp .before .before in
     let stampyear = stampmonth .before .before in
+    let span = stampyear .before .before in
     rw (
-      c .if-same7 .ensures,
-      month .if-same6 .ensures,
-      year .if-same5 .ensures,
-      stamp .if-same4 .ensures,
-      stampmonth .if-same3 .ensures,
-      stampyear .if-same2 .ensures,
-      stampyear .before .before .if-same .ensures,
+      c .if-same8 .ensures,
+      month .if-same7 .ensures,
+      year .if-same6 .ensures,
+      stamp .if-same5 .ensures,
+      stampmonth .if-same4 .ensures,
+      stampyear .if-same3 .ensures,
+      span .if-same2 .ensures,
+      span .before .before .if-same .ensures,
     )
 
 pub kind-of-spec : {M : Type 1} → statement M
@@ -28,4 +30,4 @@ kind-of-spec =
     (tie.spec (λ c. search needs) (λ c κs. search needs) (λ c. search needs) (λ c κs. search needs)
     (λ c. search needs) (λ c κs. search needs) (λ c. search needs) (λ c κs. search needs) (λ c. search needs)
     (λ c κs. search needs) (λ c. search needs) (λ c κs. search needs) (λ c. search needs) (λ c κs. search needs)
-    returns)
+    (λ c. search needs) (λ c κs. search needs) returns)
