@@ -45,10 +45,10 @@ template <class Ours, class Theirs> bool same(const Request &r, bool lists, Ours
 }
 
 // All values of an axis. The cursor is asked from the raw numbers each time; plotters' iterator keeps its coord.
-ordered_number values_walk(int64_t kind, int64_t start_head, int64_t start_tail, int64_t end_head, int64_t end_tail) {
+ordered_number values_walk(ORDERED_AXIS) {
     ordered_step step = {};
     for (int64_t count = 0;; count++) {
-        step = ordered_values(kind, start_head, start_tail, end_head, end_tail, step.next);
+        step = ordered_values(kind, start_head, start_tail, end_head, end_tail, end_excluded, step.next);
         if (step.status)
             return {0, count};
     }
@@ -57,11 +57,11 @@ ordered_number values_walk(int64_t kind, int64_t start_head, int64_t start_tail,
 // An operation on weeks, and on dates from the same numbers; only pixels are the same on both.
 template <auto... Field, class Answer>
 void week_row(Table &table, const std::string &name, const Case &of,
-              Answer (*export_of)(int64_t, int64_t, int64_t, int64_t, int64_t, Type<Field>...)) {
+              Answer (*export_of)(ORDERED_AXIS, Type<Field>...)) {
     const std::string title = name + of.name + " | " + std::to_string(ORDERED_KIND_WEEK);
     const auto on = [=](int kind) {
         return [=](const Request &r) {
-            return export_of(kind, r.start_head, r.start_tail, r.end_head, r.end_tail, r.*Field...);
+            return export_of(kind, r.start_head, r.start_tail, r.end_head, r.end_tail, INCLUDED, r.*Field...);
         };
     };
     const auto requests = std::make_shared<std::vector<Request>>();
@@ -82,14 +82,14 @@ void week_row(Table &table, const std::string &name, const Case &of,
 // An operation on a kind: after the axis it takes the fields, in their order.
 template <auto... Field, class Answer>
 void row(Table &table, const std::string &name, int kind, const Case &of,
-         Answer (*export_of)(int64_t, int64_t, int64_t, int64_t, int64_t, Type<Field>...)) {
+         Answer (*export_of)(ORDERED_AXIS, Type<Field>...)) {
     using Numbers = Answer (*)(int64_t, int64_t, int64_t, int64_t, Type<Field>...);
     using Own = ordered_number (*)(int64_t, int64_t, int64_t, int64_t, Type<Field>...);
     constexpr bool lists = (std::is_same_v<Type<Field>, int64_t *> || ...);
     const auto numbers = (Numbers)plotters_find(name.c_str(), kind, true);
     const auto own = (Own)plotters_find(name.c_str(), kind, false);
     const auto ours = [=](const Request &r) {
-        return export_of(kind, r.start_head, r.start_tail, r.end_head, r.end_tail, r.*Field...);
+        return export_of(kind, r.start_head, r.start_tail, r.end_head, r.end_tail, INCLUDED, r.*Field...);
     };
     const auto theirs = [](auto function) {
         return [=](const Request &r) {

@@ -36,15 +36,15 @@ struct Ours {
     int64_t limits[2];
     double floats[3];
     bool fits;
-    int64_t axis[5], value[2];
+    int64_t axis[6], value[2];
 };
 
 Ours ours_of(int kind, const Request &r) {
-    ready_scale s = ready_scale_of({kind, r.start_head, r.start_tail, r.end_head, r.end_tail}, {r.low, r.high});
+    ready_scale s = ready_scale_of({kind, r.start_head, r.start_tail, r.end_head, r.end_tail, INCLUDED}, {r.low, r.high});
     return {{s.low, s.high},
             {s.width, s.total, s.days},
             s.fits,
-            {kind, r.start_head, r.start_tail, r.end_head, r.end_tail},
+            {kind, r.start_head, r.start_tail, r.end_head, r.end_tail, INCLUDED},
             {r.head, r.tail}};
 }
 

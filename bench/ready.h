@@ -6,7 +6,7 @@
 #include <cstdint>
 
 struct ready_axis {
-    int64_t kind, start_head, start_tail, end_head, end_tail;
+    int64_t kind, start_head, start_tail, end_head, end_tail, end_excluded;
 };
 struct ready_limits {
     int64_t low, high;
@@ -22,8 +22,8 @@ extern "C" {
 ready_scale ready_scale_of(ready_axis axis, ready_limits limits);
 
 // limits: low, high; floats: width, total, days; axis and value: their numbers in order.
-int64_t ready_map_coord(const int64_t limits[2], const double floats[3], bool fits, const int64_t axis[5],
+int64_t ready_map_coord(const int64_t limits[2], const double floats[3], bool fits, const int64_t axis[6],
                         const int64_t value[2]);
-int64_t ready_map_duration(const int64_t limits[2], const double floats[3], bool fits, const int64_t axis[5],
+int64_t ready_map_duration(const int64_t limits[2], const double floats[3], bool fits, const int64_t axis[6],
                            const int64_t value[2]);
 }

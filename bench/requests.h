@@ -11,6 +11,9 @@
 constexpr int64_t MOST = 4096, ROOM = 2 * (MOST + 1);
 constexpr int64_t SECOND = 1000000000, HOUR = 3600 * SECOND, DAY = 24 * HOUR;
 
+// The sixth number of every axis here: its end belongs to it, as plotters' ends do.
+constexpr int64_t INCLUDED = 0;
+
 // Numbers for any operation; each reads its own. The lent numbers are the same for all.
 struct Request {
     int64_t start_head, start_tail, end_head, end_tail;
@@ -61,7 +64,7 @@ inline Request chart(int kind) {
     r.head = start_head + value / per, r.tail = value % per;
     r.low = from(0, 80), r.high = from(400, 1500), r.pixel = from(r.low, r.high);
     if (has_indices(kind))
-        r.index = from(0, ordered_size(kind, r.start_head, r.start_tail, r.end_head, r.end_tail).value - 1);
+        r.index = from(0, ordered_size(kind, r.start_head, r.start_tail, r.end_head, r.end_tail, INCLUDED).value - 1);
     return r;
 }
 

@@ -1,9 +1,11 @@
-/* Draws a date axis as an SVG picture on standard output: page KIND START END HINT [WIDTH] [--light N] [--segments]
+/* Draws a date axis as an SVG picture on standard output:
+   page KIND START END HINT [WIDTH] [--light N] [--segments] [--to-before]
    The kind is date, month, year, stamp, stampmonth, stampyear, span or week. Start and end are YYYY-MM-DD for date, month, year
    and week, YYYY-MM-DDThh:mm:ss for the stamps, whole seconds for a span. The hint is how many ticks are wished for, the width
    in pixels. With --light up to N + 1 light ticks stand between the bold ones, grey and without a label. With --segments each
-   day, week, month or year is a segment of the line, and the labels stand at the centres. As page --sheet it draws one sheet
-   with an axis of each kind.
+   day, week, month or year is a segment of the line, and the labels stand at the centres. With --to-before the end is not in the
+   span, as in "to 1 April" for up to 31 March: there is no tick on it, but the line still goes to it. As page --sheet it draws
+   one sheet with an axis of each kind.
    Where the library refuses a call, its question is named on standard error and the exit status is 1. */
 #include <ctype.h>
 #include <errno.h>
@@ -32,11 +34,11 @@ typedef struct {
     int64_t kind;
     value start, end;
     int64_t hint, light, width;
-    bool with_light, segments;
+    bool with_light, segments, to_before;
 } picture;
 
-/* The five numbers of ORDERED_AXIS, and the pixels of its ends. */
-#define AXIS(p) (p)->kind, (p)->start.head, (p)->start.tail, (p)->end.head, (p)->end.tail
+/* The six numbers of ORDERED_AXIS, and the pixels of its ends. */
+#define AXIS(p) (p)->kind, (p)->start.head, (p)->start.tail, (p)->end.head, (p)->end.tail, (p)->to_before
 #define LIMITS(p) MARGIN, (p)->width - MARGIN
 
 /* A place on the line with two rows of text. */
@@ -53,7 +55,7 @@ typedef struct {
 } marks;
 
 static void usage(const char *what) {
-    fprintf(stderr, "page: %s\nusage: page KIND START END HINT [WIDTH] [--light N] [--segments], or page --sheet\n"
+    fprintf(stderr, "page: %s\nusage: page KIND START END HINT [WIDTH] [--light N] [--segments] [--to-before], or page --sheet\n"
                     "kinds: date, month, year, week (YYYY-MM-DD); stamp, stampmonth, stampyear (YYYY-MM-DDThh:mm:ss); "
                     "span (seconds)\n", what);
     exit(2);
@@ -130,6 +132,8 @@ static picture read_arguments(int argc, char **argv) {
     for (; i < argc; i++)
         if (!strcmp(argv[i], "--segments"))
             p.segments = true;
+        else if (!strcmp(argv[i], "--to-before"))
+            p.to_before = true;
         else if (!strcmp(argv[i], "--light") && i + 1 < argc)
             p.with_light = true, p.light = read_number(argv[++i]);
         else
@@ -230,7 +234,8 @@ static void list_light(const picture *p, marks *to) {
     }
 }
 
-/* The left ends of all segments, and the end of the last; none where they would stand too close. */
+/* The left ends of all segments, and the last at the end of the line, before which a part is blank if the end is not in the span;
+   none where they would stand too close. */
 static void list_edges(const picture *p, marks *to) {
     ordered_number size = ordered_size(AXIS(p));
     expect_answer("ordered_size", size.status);
@@ -308,7 +313,7 @@ static void draw_picture(const picture *p) {
     static marks m;
     list_marks(p, &m); /* all calls come first: a refused one leaves no half of a picture */
     begin_svg(p->width, HEIGHT);
-    printf("<title>%s %s to %s</title>\n", p->name, p->from, p->to);
+    printf("<title>%s %s to %s%s</title>\n", p->name, p->from, p->to_before ? "before " : "", p->to);
     draw_axis(p, &m);
     printf("</svg>\n");
 }

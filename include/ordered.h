@@ -1,4 +1,8 @@
 /* Ordered: the date axes of printed charts, proved. The C interface of libordered.a.
+   New: an axis has a sixth number, end_excluded. With 0 the end belongs to the axis, as it always did before; any other number
+   excludes it, on kinds 1, 2, 3 and 8. "To 1 April" then means up to 31 March: ticks, counts, size, indices, values and unmapping
+   are those of the axis that ends a day earlier, while the pixels of values are still measured to the written end.
+
    Every parameter is an int64_t, a lent slice a pointer and its length, every answer a struct of int64_t by value.
 
    status: 0 answered, -1 none (no refusal), else the number of the question that refused the call. All other fields are 0
@@ -18,6 +22,7 @@
    2   the kind has this operation
    3   start and end are values of the kind: days 1 to 3652059, durations within 315576000000 seconds
    4   start is no later than end
+   14  asked here, after 4: the end belongs to the axis, or it is excluded on kind 1, 2, 3 or 8 and is not the start
    5   kind 7: both ends are within 4 * 10^18 ns of zero, or the span is above 2^63 - 1 ns
    6   a hint's numbers are 0 to 4096, and N is at least 1 on the kinds 4 to 7
    7   each limit and pixel is -32767 to 32767; to unmap, the limits differ
@@ -68,14 +73,16 @@ enum ordered_questions {
     ORDERED_QUESTION_LENGTH,
     ORDERED_QUESTION_RANGE,
     ORDERED_QUESTION_ROOM,
-    ORDERED_QUESTION_WEEK_DATE = 13
+    ORDERED_QUESTION_WEEK_DATE = 13,
+    ORDERED_QUESTION_EXCLUDED_END = 14
 };
 
 /* Numbers that have room for every list: no hint lists more than 4097 ticks. */
 #define ORDERED_LENT_MOST 8194
 
-/* The five numbers of an axis, as parameters. */
-#define ORDERED_AXIS int64_t kind, int64_t start_head, int64_t start_tail, int64_t end_head, int64_t end_tail
+/* The six numbers of an axis, as parameters; end_excluded is 0 where the end belongs to it. */
+#define ORDERED_AXIS \
+    int64_t kind, int64_t start_head, int64_t start_tail, int64_t end_head, int64_t end_tail, int64_t end_excluded
 
 typedef struct { int64_t status, value; } ordered_number; /* a day number, a count of ticks, a size, an index */
 typedef struct { int64_t status, pixel; } ordered_pixel;
@@ -100,75 +107,84 @@ ordered_number ordered_week_day_number(int64_t year, int64_t week, int64_t weekd
 /* The week date of a day number; every day has one of the years 1 to 9999. Refused by 8. */
 ordered_week_date ordered_week_date_of(int64_t day_number);
 
-/* The pixel of a value on an axis. Refused by 1, 3, 4, 5, 7, 8, 9, 10. */
+/* The pixel of a value on an axis; the high limit is that of the written end, excluded or not.
+   Refused by 1, 3, 4, 14, 5, 7, 8, 9, 10. */
 ordered_pixel ordered_map(ORDERED_AXIS, int64_t low, int64_t high, int64_t head, int64_t tail);
 
-/* The value at a pixel, all kinds but 7. It does not undo ordered_map: on the kinds with indices the limits part the size, and
-   the high limit is one past the last. For the day, week, month or year under a pointer let the pixel be at least low and below
-   high (at most low and above high, where the limits are swapped): then, where the size is at least 1, no value is past the
-   last, and 10 refuses only on kind 5 with a start of 9999-12-31 00:00:01 or later. Refused by 1, 2, 3, 4, 7, 10. */
+/* The value at a pixel, all kinds but 7. It does not undo ordered_map: on the kinds with indices the limits part the size, in
+   which an excluded end does not count, and the high limit is one past the last. For the day, week, month or year under a
+   pointer let the pixel be at least low and below high (at most low and above high, where the limits are swapped): then, where
+   the size is at least 1, no value is past the last, and 10 refuses only on kind 5 with a start of 9999-12-31 00:00:01 or later.
+   Refused by 1, 2, 3, 4, 14, 7, 10. */
 ordered_value ordered_unmap(ORDERED_AXIS, int64_t low, int64_t high, int64_t pixel);
 
 /* The step between ticks of the kinds 4 and 7, for at most n + 1 of them. None where whole days are listed: on kind 4 from
-   10^14 ns for each of the n on, on both kinds where the span is above 2^63 - 1 ns. Refused by 1, 2, 3, 4, 5, 6. */
+   10^14 ns for each of the n on, on both kinds where the span is above 2^63 - 1 ns. Refused by 1, 2, 3, 4, 14, 5, 6. */
 ordered_period ordered_period_per_point(ORDERED_AXIS, int64_t n);
 
 /* The ticks of an axis for a bold hint of n, at most n + 1: their count. Head and tail of each stand at the front of the lent
-   numbers, in order; the numbers behind them are unchanged. Kind 8 lists the first Monday of the span and every m-th after it,
-   with the least m from 1 on that has at most n + 1 of them; without a Monday none. Refused by 1, 3, 4, 5, 6, 11. */
+   numbers, in order; the numbers behind them are unchanged. No tick stands on an excluded end or after it. Kind 8 lists the first
+   Monday of the span and every m-th after it, with the least m from 1 on that has at most n + 1 of them; without a Monday none.
+   Refused by 1, 3, 4, 14, 5, 6, 11. */
 ordered_number ordered_ticks_bold(ORDERED_AXIS, int64_t n, int64_t *lent, size_t lent_len);
 
 /* The same for a light hint, a bold count and a limit n: the ticks of the finer axis where the size is at most twice the
    bold count, from years to months, from months to days or times. Kinds 1, 4, 7 and 8 go to no other axis: the bold count
-   changes nothing there. Refused by 1, 3, 4, 5, 6, 11. */
+   changes nothing there. Refused by 1, 3, 4, 14, 5, 6, 11. */
 ordered_number ordered_ticks_light(ORDERED_AXIS, int64_t bold, int64_t n, int64_t *lent, size_t lent_len);
 
 /* The answers of the two above for a lent slice of that length, with nothing lent; on kinds 1, 2, 3, 5, 6 and 8 also those of
-   the lists of segments, which kinds 4 and 7 lack. Refused by 1, 3, 4, 5, 6, 11. */
+   the lists of segments, which kinds 4 and 7 lack. Refused by 1, 3, 4, 14, 5, 6, 11. */
 ordered_number ordered_count_bold(ORDERED_AXIS, int64_t n, size_t lent_len);
 ordered_number ordered_count_light(ORDERED_AXIS, int64_t bold, int64_t n, size_t lent_len);
 
 /* The days, weeks, months or years of an axis; kinds 1, 2, 3, 5, 6 and 8, as all below. On kind 8 each week counts that has a day
-   of the span. Refused by 1, 2, 3, 4. */
+   of the span. An excluded end is no day of the span: from 1 January to 1 April there are three months then, and not four.
+   Refused by 1, 2, 3, 4, 14. */
 ordered_number ordered_size(ORDERED_AXIS);
 
 /* The index of the day, week, month or year of a value, 0 at the start; past the end too. None before the start's, but a month of
-   an earlier year counts as that month of the start's. Refused by 1, 2, 3, 4, 8. */
+   an earlier year counts as that month of the start's. Refused by 1, 2, 3, 4, 14, 8. */
 ordered_number ordered_index_of(ORDERED_AXIS, int64_t head, int64_t tail);
 
 /* The first value of the day, week, month or year with that index, past the end too; of 0 the start or its ceiling. On kind 8 it
-   is a Monday, but of 0 the start itself, which may be none. Refused by 1, 2, 3, 4, 8, 10. */
+   is a Monday, but of 0 the start itself, which may be none. Refused by 1, 2, 3, 4, 14, 8, 10. */
 ordered_value ordered_from_index(ORDERED_AXIS, int64_t index);
 
-/* The value of the index after a value's, or before it. None past the size, or below 0. Refused by 1, 2, 3, 4, 8, 10. */
+/* The value of the index after a value's, or before it. None past the size, or below 0. Refused by 1, 2, 3, 4, 14, 8, 10. */
 ordered_value ordered_next(ORDERED_AXIS, int64_t head, int64_t tail);
 ordered_value ordered_previous(ORDERED_AXIS, int64_t head, int64_t tail);
 
 /* The values one by one: begin at place 0 and go on with next. None from the size on; next is then the place itself.
-   Refused by 1, 2, 3, 4, 8, 10. */
+   Refused by 1, 2, 3, 4, 14, 8, 10. */
 ordered_step ordered_values(ORDERED_AXIS, int64_t place);
 
 /* Segments: each day, week, month or year of an axis reaches to its follower, and one more stands after them, the last. A
    segment is 1 exact, the left end of a value's, 2 the centre of a value's, or 3 the last; the head and tail beside 3 are not
    read. On weeks, months and years let the end be the first day of the last one: its segment is then as wide as an even part of
-   the limits, to 1.5 pixels. A later end makes it wider. */
+   the limits, to 1.5 pixels. A later end makes it wider.
+   With the end excluded, size and followers go by the days before it, while pixels go to the written end, which stands an even
+   part below the high limit. So between the last value's segment and the last a part stays blank: from day 1 to day 4 excluded,
+   with the limits 0 and 90, the days begin at 0, 20 and 40, and the last is at 90. */
 
-/* The pixel of a segment. The limits part the size: the last is at the high limit, the end of the axis a part below it.
-   Refused by 1, 2, 3, 4, 7, 8, 9, 10. */
+/* The pixel of a segment. The limits part the size: the last is at the high limit, the written end a part below it.
+   Refused by 1, 2, 3, 4, 14, 7, 8, 9, 10. */
 ordered_pixel ordered_segment_map(ORDERED_AXIS, int64_t low, int64_t high, int64_t segment, int64_t head, int64_t tail);
 
-/* The lists of ordered_ticks_bold and ordered_ticks_light; each value stands for its centre. Refused by 1, 2, 3, 4, 6, 11. */
+/* The lists of ordered_ticks_bold and ordered_ticks_light; each value stands for its centre.
+   Refused by 1, 2, 3, 4, 14, 6, 11. */
 ordered_number ordered_segment_ticks_bold(ORDERED_AXIS, int64_t n, int64_t *lent, size_t lent_len);
 ordered_number ordered_segment_ticks_light(ORDERED_AXIS, int64_t bold, int64_t n, int64_t *lent, size_t lent_len);
 
-/* The size of the axis and one more, for the last. Refused by 1, 2, 3, 4. */
+/* The size of the axis and one more, for the last. Refused by 1, 2, 3, 4, 14. */
 ordered_number ordered_segment_size(ORDERED_AXIS);
 
-/* The index of a segment's value, as ordered_index_of has it; of the last one the size of the axis. Refused by 1, 2, 3, 4, 8. */
+/* The index of a segment's value, as ordered_index_of has it; of the last one the size of the axis.
+   Refused by 1, 2, 3, 4, 14, 8. */
 ordered_number ordered_segment_index_of(ORDERED_AXIS, int64_t segment, int64_t head, int64_t tail);
 
 /* The segment with that index: exact with its value, at the size of the axis the last with head and tail 0. None beyond it.
-   Refused by 1, 2, 3, 4, 8, 10. */
+   Refused by 1, 2, 3, 4, 14, 8, 10. */
 ordered_segment ordered_segment_from_index(ORDERED_AXIS, int64_t index);
 
 /* What a status says, for a message: of a question, what was wrong. */
@@ -188,6 +204,7 @@ static inline const char *ordered_status_text(int64_t status) {
     case ORDERED_QUESTION_RANGE: return "the answer is out of range";
     case ORDERED_QUESTION_ROOM: return "too few numbers were lent";
     case ORDERED_QUESTION_WEEK_DATE: return "there is no such week date";
+    case ORDERED_QUESTION_EXCLUDED_END: return "the end cannot be excluded on this kind, or it is the start";
     default: return "the status is not known";
     }
 }

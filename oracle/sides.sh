@@ -16,8 +16,8 @@ build_clients() {
     gcc "${flags[@]}" tests/c/ask.c "$archive" -o "$out/ask"
 }
 
-# compare_sides OPERATION SEED COUNT [TALLY]: the requests are made twice, once for each side, so that nothing is kept.
-# A side that stops early leaves lines over.
+# compare_sides TALLY OPERATION SEED COUNT [excluded]: the requests are made twice, once for each side, so that nothing is kept.
+# A side that stops early leaves lines over. An empty name: no tally.
 compare_sides() {
-    "$out/replay" <("$out/requests" "$1" "$2" "$3") <("$out/requests" "$1" "$2" "$3" | "$oracle") "$3" "${@:4}"
+    "$out/replay" <("$out/requests" "${@:2}") <("$out/requests" "${@:2}" | "$oracle") "$4" ${1:+"$1"}
 }

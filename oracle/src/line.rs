@@ -3,7 +3,7 @@
 
 use crate::Instead;
 
-const MOST: usize = 10;
+const MOST: usize = 11;
 
 pub struct Numbers {
     count: usize,
@@ -16,6 +16,13 @@ impl Numbers {
         self.held[..self.count]
             .try_into()
             .map_err(|_| Instead::Unread)
+    }
+
+    /// The same in two parts.
+    pub fn parts<const M: usize, const N: usize>(&self) -> Result<([i128; M], [i128; N]), Instead> {
+        let all = &self.held[..self.count];
+        let (first, others) = all.split_first_chunk().ok_or(Instead::Unread)?;
+        Ok((*first, others.try_into().map_err(|_| Instead::Unread)?))
     }
 }
 

@@ -3,11 +3,13 @@
 
 #[allow(dead_code, deprecated, unused_imports)]
 mod coord;
+mod excluded;
 mod line;
 mod pair;
 
 use chrono::{DateTime, Datelike, NaiveDate, NaiveDateTime, Utc};
 use std::io::{self, Read, Write};
+use std::ops::Range;
 use std::panic::{self, AssertUnwindSafe};
 
 use coord::ranged1d::{
@@ -18,6 +20,8 @@ use coord::{
     span_period, value_at, IntoMonthly, IntoYearly, Monthly, RangedDate, RangedDateTime,
     RangedDuration, TimeValue, Yearly,
 };
+use excluded::Excluded;
+use line::Numbers;
 use pair::Pair;
 
 /// A longer list than this one asks for is not built.
@@ -40,6 +44,9 @@ enum Axis {
     StampMonth(Monthly<DateTime<Utc>>),
     StampYear(Yearly<DateTime<Utc>>),
     Span(RangedDuration),
+    DateBefore(Excluded<RangedDate<NaiveDate>>),
+    MonthBefore(Excluded<Monthly<NaiveDate>>),
+    YearBefore(Excluded<Yearly<NaiveDate>>),
 }
 
 /// The same words for each kind's own type.
@@ -53,6 +60,9 @@ macro_rules! any {
             Axis::StampMonth($it) => $words,
             Axis::StampYear($it) => $words,
             Axis::Span($it) => $words,
+            Axis::DateBefore($it) => $words,
+            Axis::MonthBefore($it) => $words,
+            Axis::YearBefore($it) => $words,
         }
     };
 }
@@ -66,6 +76,9 @@ macro_rules! discrete {
             Axis::Year($it) => $words,
             Axis::StampMonth($it) => $words,
             Axis::StampYear($it) => $words,
+            Axis::DateBefore($it) => $words,
+            Axis::MonthBefore($it) => $words,
+            Axis::YearBefore($it) => $words,
             Axis::Stamp(_) | Axis::Span(_) => return Err(Skip),
         }
     };
@@ -91,17 +104,27 @@ fn points(n: i128) -> Result<usize, Instead> {
     fit(n)
 }
 
-fn axis(k: i128, sh: i128, st: i128, eh: i128, et: i128) -> Result<Axis, Instead> {
-    Ok(match k {
-        1 => Axis::Date((value(sh, st)?..value(eh, et)?).into()),
-        2 => Axis::Month((value(sh, st)?..value(eh, et)?).monthly()),
-        3 => Axis::Year((value(sh, st)?..value(eh, et)?).yearly()),
-        4 => Axis::Stamp((value::<NaiveDateTime>(sh, st)?..value(eh, et)?).into()),
-        5 => Axis::StampMonth((value(sh, st)?..value(eh, et)?).monthly()),
-        6 => Axis::StampYear((value(sh, st)?..value(eh, et)?).yearly()),
-        7 => Axis::Span((value(sh, st)?..value(eh, et)?).into()),
+fn span<T: Pair>(sh: i128, st: i128, eh: i128, et: i128) -> Result<Range<T>, Instead> {
+    Ok(value(sh, st)?..value(eh, et)?)
+}
+
+/// The axis of a request, its first six numbers, and the numbers behind them.
+fn axis<const N: usize>(numbers: &Numbers) -> Result<(Axis, [i128; N]), Instead> {
+    let ([kind, sh, st, eh, et, excluded], others) = numbers.parts()?;
+    let axis = match (kind, excluded != 0) {
+        (1, false) => Axis::Date(span(sh, st, eh, et)?.into()),
+        (2, false) => Axis::Month(span(sh, st, eh, et)?.monthly()),
+        (3, false) => Axis::Year(span(sh, st, eh, et)?.yearly()),
+        (4, false) => Axis::Stamp(span::<NaiveDateTime>(sh, st, eh, et)?.into()),
+        (5, false) => Axis::StampMonth(span(sh, st, eh, et)?.monthly()),
+        (6, false) => Axis::StampYear(span(sh, st, eh, et)?.yearly()),
+        (7, false) => Axis::Span(span(sh, st, eh, et)?.into()),
+        (1, true) => Axis::DateBefore(Excluded::new(span(sh, st, eh, et)?, Range::into)?),
+        (2, true) => Axis::MonthBefore(Excluded::new(span(sh, st, eh, et)?, Range::monthly)?),
+        (3, true) => Axis::YearBefore(Excluded::new(span(sh, st, eh, et)?, Range::yearly)?),
         _ => return Err(Skip),
-    })
+    };
+    Ok((axis, others))
 }
 
 fn segment<T: Pair>(case: i128, head: i128, tail: i128) -> Result<SegmentValue<T>, Instead> {
@@ -206,15 +229,15 @@ fn answer(line: &[u8], out: &mut Vec<u8>) -> Result<(), Instead> {
             tell(&value::<NaiveDateTime>(head, tail)?.date_ceil(), out);
         }
         b"map" => {
-            let [k, sh, st, eh, et, low, high, head, tail] = numbers.all()?;
+            let (axis, [low, high, head, tail]) = axis(&numbers)?;
             let limits = limits(low, high)?;
-            let pixel = any!(axis(k, sh, st, eh, et)?, it => it.map(&value(head, tail)?, limits));
+            let pixel = any!(axis, it => it.map(&value(head, tail)?, limits));
             say(out, &[i128::from(pixel)]);
         }
         b"unmap" => {
-            let [k, sh, st, eh, et, low, high, pixel] = numbers.all()?;
+            let (axis, [low, high, pixel]) = axis(&numbers)?;
             let (limits, pixel) = (limits(low, high)?, fit(pixel)?);
-            match axis(k, sh, st, eh, et)? {
+            match axis {
                 Axis::Stamp(it) => {
                     tell(&it.unmap(pixel, limits).ok_or(Instead::None)?, out);
                 }
@@ -224,87 +247,86 @@ fn answer(line: &[u8], out: &mut Vec<u8>) -> Result<(), Instead> {
             }
         }
         b"period" | b"period_per_point" => {
-            let [k, sh, st, eh, et, n] = numbers.all()?;
-            let axis = axis(k, sh, st, eh, et)?;
+            let (axis, [n]) = axis(&numbers)?;
             let found = period(&axis, fit(n)?)?.ok_or(Instead::None)?;
             say(out, &[i128::from(found)]);
         }
         b"ticks_bold" => {
-            let [k, sh, st, eh, et, n] = numbers.all()?;
-            key_points(axis(k, sh, st, eh, et)?, BoldPoints(points(n)?), out)?;
+            let (axis, [n]) = axis(&numbers)?;
+            key_points(axis, BoldPoints(points(n)?), out)?;
         }
         b"ticks_light" => {
-            let [k, sh, st, eh, et, bold, n] = numbers.all()?;
+            let (axis, [bold, n]) = axis(&numbers)?;
             let hint = LightPoints::new(fit(bold)?, points(n)?);
-            key_points(axis(k, sh, st, eh, et)?, hint, out)?;
+            key_points(axis, hint, out)?;
         }
         b"size" => {
-            let [k, sh, st, eh, et] = numbers.all()?;
-            let size = discrete!(axis(k, sh, st, eh, et)?, it => it.size());
+            let (axis, []) = axis(&numbers)?;
+            let size = discrete!(axis, it => it.size());
             say(out, &[size as i128]);
         }
         b"index_of" => {
-            let [k, sh, st, eh, et, head, tail] = numbers.all()?;
-            let index = discrete!(axis(k, sh, st, eh, et)?, it => it.index_of(&value(head, tail)?));
+            let (axis, [head, tail]) = axis(&numbers)?;
+            let index = discrete!(axis, it => it.index_of(&value(head, tail)?));
             say(out, &[index.ok_or(Instead::None)? as i128]);
         }
         b"from_index" => {
-            let [k, sh, st, eh, et, index] = numbers.all()?;
-            discrete!(axis(k, sh, st, eh, et)?, it => {
+            let (axis, [index]) = axis(&numbers)?;
+            discrete!(axis, it => {
                 tell(&it.from_index(fit(index)?).ok_or(Instead::None)?, out);
             });
         }
         b"next" => {
-            let [k, sh, st, eh, et, head, tail] = numbers.all()?;
-            discrete!(axis(k, sh, st, eh, et)?, it => {
+            let (axis, [head, tail]) = axis(&numbers)?;
+            discrete!(axis, it => {
                 tell(&it.next(&value(head, tail)?).ok_or(Instead::None)?, out);
             });
         }
         b"previous" => {
-            let [k, sh, st, eh, et, head, tail] = numbers.all()?;
-            discrete!(axis(k, sh, st, eh, et)?, it => {
+            let (axis, [head, tail]) = axis(&numbers)?;
+            discrete!(axis, it => {
                 tell(&it.previous(&value(head, tail)?).ok_or(Instead::None)?, out);
             });
         }
         b"values" => {
-            let [k, sh, st, eh, et, place] = numbers.all()?;
-            discrete!(axis(k, sh, st, eh, et)?, it => {
+            let (axis, [place]) = axis(&numbers)?;
+            discrete!(axis, it => {
                 tell(&value_at(&it, fit(place)?).ok_or(Instead::None)?, out);
             });
             say(out, &[place + 1]);
         }
         b"segment_map" => {
-            let [k, sh, st, eh, et, low, high, case, head, tail] = numbers.all()?;
+            let (axis, [low, high, case, head, tail]) = axis(&numbers)?;
             let limits = limits(low, high)?;
-            let pixel = discrete!(axis(k, sh, st, eh, et)?, it => {
+            let pixel = discrete!(axis, it => {
                 it.into_segmented().map(&segment(case, head, tail)?, limits)
             });
             say(out, &[i128::from(pixel)]);
         }
         b"segment_ticks_bold" => {
-            let [k, sh, st, eh, et, n] = numbers.all()?;
-            segment_points(axis(k, sh, st, eh, et)?, BoldPoints(points(n)?), out)?;
+            let (axis, [n]) = axis(&numbers)?;
+            segment_points(axis, BoldPoints(points(n)?), out)?;
         }
         b"segment_ticks_light" => {
-            let [k, sh, st, eh, et, bold, n] = numbers.all()?;
+            let (axis, [bold, n]) = axis(&numbers)?;
             let hint = LightPoints::new(fit(bold)?, points(n)?);
-            segment_points(axis(k, sh, st, eh, et)?, hint, out)?;
+            segment_points(axis, hint, out)?;
         }
         b"segment_size" => {
-            let [k, sh, st, eh, et] = numbers.all()?;
-            let size = discrete!(axis(k, sh, st, eh, et)?, it => it.into_segmented().size());
+            let (axis, []) = axis(&numbers)?;
+            let size = discrete!(axis, it => it.into_segmented().size());
             say(out, &[size as i128]);
         }
         b"segment_index_of" => {
-            let [k, sh, st, eh, et, case, head, tail] = numbers.all()?;
-            let index = discrete!(axis(k, sh, st, eh, et)?, it => {
+            let (axis, [case, head, tail]) = axis(&numbers)?;
+            let index = discrete!(axis, it => {
                 it.into_segmented().index_of(&segment(case, head, tail)?)
             });
             say(out, &[index.ok_or(Instead::None)? as i128]);
         }
         b"segment_from_index" => {
-            let [k, sh, st, eh, et, index] = numbers.all()?;
-            discrete!(axis(k, sh, st, eh, et)?, it => {
+            let (axis, [index]) = axis(&numbers)?;
+            discrete!(axis, it => {
                 let found = it.into_segmented().from_index(fit(index)?);
                 match found.ok_or(Instead::None)? {
                     SegmentValue::Exact(value) => {

@@ -1,4 +1,5 @@
-/* The exports with their arguments in one row and their answers in another, for the clients: the status, then the numbers. */
+/* The exports with their arguments in one row and their answers in another, for the clients: the status, then the numbers. An
+   axis is the first six arguments. */
 #ifndef CALLS_H
 #define CALLS_H
 
@@ -13,6 +14,8 @@ typedef int call(const int64_t *in, int64_t *out);
 /* The two calls of a tick list: into the lent numbers, and with nothing lent; lists of segments have no second one. */
 typedef ordered_number list_call(const int64_t *in, int64_t *lent, size_t lent_len);
 typedef ordered_number count_call(const int64_t *in, size_t lent_len);
+
+#define AXIS_OF(in) (in)[0], (in)[1], (in)[2], (in)[3], (in)[4], (in)[5]
 
 static inline int numbers_of(ordered_number r, int64_t *out) {
     out[0] = r.status, out[1] = r.value;
@@ -47,87 +50,87 @@ static inline int call_week_date_of(const int64_t *in, int64_t *out) {
 }
 
 static inline int call_map(const int64_t *in, int64_t *out) {
-    ordered_pixel r = ordered_map(in[0], in[1], in[2], in[3], in[4], in[5], in[6], in[7], in[8]);
+    ordered_pixel r = ordered_map(AXIS_OF(in), in[6], in[7], in[8], in[9]);
     out[0] = r.status, out[1] = r.pixel;
     return 2;
 }
 
 static inline int call_period(const int64_t *in, int64_t *out) {
-    ordered_period r = ordered_period_per_point(in[0], in[1], in[2], in[3], in[4], in[5]);
+    ordered_period r = ordered_period_per_point(AXIS_OF(in), in[6]);
     out[0] = r.status, out[1] = r.nanoseconds;
     return 2;
 }
 
 static inline ordered_number list_bold(const int64_t *in, int64_t *lent, size_t lent_len) {
-    return ordered_ticks_bold(in[0], in[1], in[2], in[3], in[4], in[5], lent, lent_len);
+    return ordered_ticks_bold(AXIS_OF(in), in[6], lent, lent_len);
 }
 
 static inline ordered_number count_bold(const int64_t *in, size_t lent_len) {
-    return ordered_count_bold(in[0], in[1], in[2], in[3], in[4], in[5], lent_len);
+    return ordered_count_bold(AXIS_OF(in), in[6], lent_len);
 }
 
 static inline ordered_number list_light(const int64_t *in, int64_t *lent, size_t lent_len) {
-    return ordered_ticks_light(in[0], in[1], in[2], in[3], in[4], in[5], in[6], lent, lent_len);
+    return ordered_ticks_light(AXIS_OF(in), in[6], in[7], lent, lent_len);
 }
 
 static inline ordered_number count_light(const int64_t *in, size_t lent_len) {
-    return ordered_count_light(in[0], in[1], in[2], in[3], in[4], in[5], in[6], lent_len);
+    return ordered_count_light(AXIS_OF(in), in[6], in[7], lent_len);
 }
 
 static inline int call_unmap(const int64_t *in, int64_t *out) {
-    return numbers_of_value(ordered_unmap(in[0], in[1], in[2], in[3], in[4], in[5], in[6], in[7]), out);
+    return numbers_of_value(ordered_unmap(AXIS_OF(in), in[6], in[7], in[8]), out);
 }
 
 static inline int call_size(const int64_t *in, int64_t *out) {
-    return numbers_of(ordered_size(in[0], in[1], in[2], in[3], in[4]), out);
+    return numbers_of(ordered_size(AXIS_OF(in)), out);
 }
 
 static inline int call_index_of(const int64_t *in, int64_t *out) {
-    return numbers_of(ordered_index_of(in[0], in[1], in[2], in[3], in[4], in[5], in[6]), out);
+    return numbers_of(ordered_index_of(AXIS_OF(in), in[6], in[7]), out);
 }
 
 static inline int call_from_index(const int64_t *in, int64_t *out) {
-    return numbers_of_value(ordered_from_index(in[0], in[1], in[2], in[3], in[4], in[5]), out);
+    return numbers_of_value(ordered_from_index(AXIS_OF(in), in[6]), out);
 }
 
 static inline int call_next(const int64_t *in, int64_t *out) {
-    return numbers_of_value(ordered_next(in[0], in[1], in[2], in[3], in[4], in[5], in[6]), out);
+    return numbers_of_value(ordered_next(AXIS_OF(in), in[6], in[7]), out);
 }
 
 static inline int call_previous(const int64_t *in, int64_t *out) {
-    return numbers_of_value(ordered_previous(in[0], in[1], in[2], in[3], in[4], in[5], in[6]), out);
+    return numbers_of_value(ordered_previous(AXIS_OF(in), in[6], in[7]), out);
 }
 
 static inline int call_values(const int64_t *in, int64_t *out) {
-    ordered_step r = ordered_values(in[0], in[1], in[2], in[3], in[4], in[5]);
+    ordered_step r = ordered_values(AXIS_OF(in), in[6]);
     out[0] = r.status, out[1] = r.head, out[2] = r.tail, out[3] = r.next;
     return 4;
 }
 
 static inline int call_segment_map(const int64_t *in, int64_t *out) {
-    ordered_pixel r = ordered_segment_map(in[0], in[1], in[2], in[3], in[4], in[5], in[6], in[7], in[8], in[9]);
+    ordered_pixel r = ordered_segment_map(AXIS_OF(in), in[6], in[7], in[8], in[9], in[10]);
     out[0] = r.status, out[1] = r.pixel;
     return 2;
 }
 
 static inline ordered_number list_segment_bold(const int64_t *in, int64_t *lent, size_t lent_len) {
-    return ordered_segment_ticks_bold(in[0], in[1], in[2], in[3], in[4], in[5], lent, lent_len);
+    return ordered_segment_ticks_bold(AXIS_OF(in), in[6], lent, lent_len);
 }
 
 static inline ordered_number list_segment_light(const int64_t *in, int64_t *lent, size_t lent_len) {
-    return ordered_segment_ticks_light(in[0], in[1], in[2], in[3], in[4], in[5], in[6], lent, lent_len);
+    return ordered_segment_ticks_light(AXIS_OF(in), in[6], in[7], lent, lent_len);
 }
 
 static inline int call_segment_size(const int64_t *in, int64_t *out) {
-    return numbers_of(ordered_segment_size(in[0], in[1], in[2], in[3], in[4]), out);
+    return numbers_of(ordered_segment_size(AXIS_OF(in)), out);
 }
 
 static inline int call_segment_index_of(const int64_t *in, int64_t *out) {
-    return numbers_of(ordered_segment_index_of(in[0], in[1], in[2], in[3], in[4], in[5], in[6], in[7]), out);
+    return numbers_of(ordered_segment_index_of(AXIS_OF(in), in[6], in[7], in[8]), out);
 }
 
 static inline int call_segment_from_index(const int64_t *in, int64_t *out) {
-    ordered_segment r = ordered_segment_from_index(in[0], in[1], in[2], in[3], in[4], in[5]);
+    ordered_segment r = ordered_segment_from_index(AXIS_OF(in), in[6]);
     out[0] = r.status, out[1] = r.segment, out[2] = r.head, out[3] = r.tail;
     return 4;
 }

@@ -195,6 +195,11 @@ static inline value spoilt(int64_t kind, value v) {
     return v;
 }
 
+/* A number that excludes the end: any but 0. Some are 0 when they are cut to fewer bits. */
+static inline int64_t excluding(void) {
+    return ONE_OF(1, 1, 1, -1, 2, 8, 256, INT64_C(1) << 32, INT64_MAX, INT64_MIN);
+}
+
 /* An N for a kind; on the kinds 4 to 7 seldom 0, which question 6 refuses there. Long lists are rarer than short ones. */
 static inline int64_t hint_on(int64_t kind) {
     int64_t n = 0;

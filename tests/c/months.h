@@ -74,13 +74,19 @@ static inline bool of_dates(int64_t kind) {
     return (kind >= 1 && kind <= 3) || kind == 8;
 }
 
-/* The size of an axis of kind 1, 2, 3, 5, 6 or 8: axis is kind, start, end. */
-static inline int64_t size_of(int64_t kind, const int64_t axis[5]) {
+/* The last day of an axis, which is kind, start, end, end_excluded: an excluded end is the day after it. */
+static inline int64_t last_day(const int64_t axis[6]) {
+    return axis[3] - (axis[5] != 0);
+}
+
+/* The size of an axis of kind 1, 2, 3, 5, 6 or 8. */
+static inline int64_t size_of(int64_t kind, const int64_t axis[6]) {
+    int64_t last = last_day(axis);
     if (kind == 1)
-        return larger(axis[3] - axis[1], -1) + 1;
+        return larger(last - axis[1], -1) + 1;
     if (kind == 8)
-        return mondays(axis[3]) - mondays(axis[1]) + 1;
-    struct date start = date_at(date_ceiling(axis[1], axis[2])), end = date_at(axis[3]);
+        return mondays(last) - mondays(axis[1]) + 1;
+    struct date start = date_at(date_ceiling(axis[1], axis[2])), end = date_at(last);
     if (kind == 2 || kind == 5)
         return larger(larger(end.year - start.year, 0) * 12 + end.month - start.month + 1, 0);
     return larger(end.year - start.year, -1) + 1;

@@ -12,7 +12,7 @@
 #include "questions.h"
 
 /* The most numbers of a request, and of an answer. */
-enum { ARGUMENTS = 10, NUMBERS = 1 << 15 };
+enum { ARGUMENTS = 11, NUMBERS = 1 << 15 };
 
 /* Fills in document 01's answer where the Rust's logarithm may round it away; gives how many numbers, 0 if it may not. */
 typedef int exact(const int64_t *in, int64_t *out);
@@ -21,7 +21,7 @@ typedef int exact(const int64_t *in, int64_t *out);
 typedef bool fits(const int64_t *in, const int64_t *answer);
 
 static int exact_period_answer(const int64_t *in, int64_t *out) {
-    out[0] = 0, out[1] = doubtful_period(in[0], in, in[5]);
+    out[0] = 0, out[1] = doubtful_period(in[0], in, in[6]);
     return out[1] ? 2 : 0;
 }
 
@@ -34,11 +34,11 @@ static int exact_list(const int64_t *in, int64_t kind, int64_t n, int64_t *out) 
 }
 
 static int exact_bold(const int64_t *in, int64_t *out) {
-    return exact_list(in, in[0], in[5], out);
+    return exact_list(in, in[0], in[6], out);
 }
 
 static int exact_light(const int64_t *in, int64_t *out) {
-    return exact_list(in, listed_kind(in, in[5]), in[6], out);
+    return exact_list(in, listed_kind(in, in[6]), in[7], out);
 }
 
 /* A new operation is one row, its calls in calls.h and its questions in questions.h. */
@@ -59,23 +59,23 @@ static const struct row {
     {"date_of", 1, call_date_of, refuse_date_of, .none = 8},
     {"week_day_number", 3, call_week_day_number, refuse_week_day_number, .none = 0}, /* the Rust lacks week dates */
     {"week_date_of", 1, call_week_date_of, refuse_date_of, .none = 0},
-    {"map", 9, call_map, refuse_map, .panic = 10},
-    {"period", 6, call_period, refuse_period, .none = -1, .exact = exact_period_answer},
-    {"ticks_bold", 6, NULL, refuse_ticks_bold, .exact = exact_bold, .list = list_bold, .count = count_bold},
-    {"ticks_light", 7, NULL, refuse_ticks_light, .exact = exact_light, .list = list_light, .count = count_light},
-    {"unmap", 8, call_unmap, refuse_unmap, .panic = 10, .fits = day_unmapped},
-    {"size", 5, call_size, refuse_size, .none = 0},
-    {"index_of", 7, call_index_of, refuse_by_value, .none = -1},
-    {"from_index", 6, call_from_index, refuse_by_index, .panic = 10, .fits = day_answered},
-    {"next", 7, call_next, refuse_by_value, .none = -1, .panic = 10, .fits = day_answered},
-    {"previous", 7, call_previous, refuse_by_value, .none = -1, .panic = 10, .fits = day_answered},
-    {"values", 6, call_values, refuse_by_index, .none = -1, .panic = 10, .fits = day_answered, .place = 5},
-    {"segment_map", 10, call_segment_map, refuse_segment_map, .panic = 10, .fits = follower_mapped},
-    {"segment_ticks_bold", 6, NULL, refuse_segment_ticks_bold, .list = list_segment_bold},
-    {"segment_ticks_light", 7, NULL, refuse_segment_ticks_light, .exact = exact_light, .list = list_segment_light},
-    {"segment_size", 5, call_segment_size, refuse_size, .none = 0},
-    {"segment_index_of", 8, call_segment_index_of, refuse_by_segment, .none = -1},
-    {"segment_from_index", 6, call_segment_from_index, refuse_by_index, .none = -1, .panic = 10, .fits = segment_answered},
+    {"map", 10, call_map, refuse_map, .panic = 10},
+    {"period", 7, call_period, refuse_period, .none = -1, .exact = exact_period_answer},
+    {"ticks_bold", 7, NULL, refuse_ticks_bold, .exact = exact_bold, .list = list_bold, .count = count_bold},
+    {"ticks_light", 8, NULL, refuse_ticks_light, .exact = exact_light, .list = list_light, .count = count_light},
+    {"unmap", 9, call_unmap, refuse_unmap, .panic = 10, .fits = day_unmapped},
+    {"size", 6, call_size, refuse_size, .none = 0},
+    {"index_of", 8, call_index_of, refuse_by_value, .none = -1},
+    {"from_index", 7, call_from_index, refuse_by_index, .panic = 10, .fits = day_answered},
+    {"next", 8, call_next, refuse_by_value, .none = -1, .panic = 10, .fits = day_answered},
+    {"previous", 8, call_previous, refuse_by_value, .none = -1, .panic = 10, .fits = day_answered},
+    {"values", 7, call_values, refuse_by_index, .none = -1, .panic = 10, .fits = day_answered, .place = 6},
+    {"segment_map", 11, call_segment_map, refuse_segment_map, .panic = 10, .fits = follower_mapped},
+    {"segment_ticks_bold", 7, NULL, refuse_segment_ticks_bold, .list = list_segment_bold},
+    {"segment_ticks_light", 8, NULL, refuse_segment_ticks_light, .exact = exact_light, .list = list_segment_light},
+    {"segment_size", 6, call_segment_size, refuse_size, .none = 0},
+    {"segment_index_of", 9, call_segment_index_of, refuse_by_segment, .none = -1},
+    {"segment_from_index", 7, call_segment_from_index, refuse_by_index, .none = -1, .panic = 10, .fits = segment_answered},
 };
 enum { ROWS = sizeof rows / sizeof rows[0] };
 

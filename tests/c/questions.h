@@ -1,6 +1,6 @@
-/* Document 01's questions, written for the clients from its text: one function for each operation gives the number of
-   the first question that says no, 0 if none does. Not among them: question 10, which needs the answer (functions of its
-   own below; where the answer has no date, the Rust panics), and question 11, which needs the list. */
+/* The questions of documents 01 and 02, written for the clients from their text: one function for each operation gives the
+   number of the first question that says no, 0 if none does. Not among them: question 10, which needs the answer (functions of
+   its own below; where the answer has no date, the Rust panics), and question 11, which needs the list. */
 #ifndef QUESTIONS_H
 #define QUESTIONS_H
 
@@ -31,8 +31,8 @@ static inline __int128 nanoseconds(int64_t kind, int64_t head, int64_t tail) {
 /* The kinds that have an operation, a bit for each: bit 1 is kind 1. */
 enum { ALL_KINDS = 0x1fe, PERIOD_KINDS = 1 << 4 | 1 << 7, UNMAP_KINDS = 0x17e, INDEX_KINDS = 0x16e };
 
-/* Questions 1 to 5, about kind, start and end. */
-static inline int64_t refuse_axis(const int64_t axis[5], unsigned kinds) {
+/* Questions 1 to 4, 14 and 5, about kind, start and end; any number but 0 excludes the end. */
+static inline int64_t refuse_axis(const int64_t axis[6], unsigned kinds) {
     int64_t kind = axis[0];
     if (!in_range(1, kind, 8))
         return 1;
@@ -43,6 +43,8 @@ static inline int64_t refuse_axis(const int64_t axis[5], unsigned kinds) {
     __int128 start = nanoseconds(kind, axis[1], axis[2]), end = nanoseconds(kind, axis[3], axis[4]);
     if (start > end)
         return 4;
+    if (axis[5] && (!of_dates(kind) || start == end))
+        return 14;
     __int128 most = INT64_C(4000000000000000000);
     if (kind == 7 && (start < -most || end > most) && end - start <= INT64_MAX)
         return 5;
@@ -54,16 +56,16 @@ static inline bool pixel_in_range(int64_t pixel) {
     return in_range(-32767, pixel, 32767);
 }
 
-/* in: kind, start, end, low, high, value */
+/* in: an axis, low, high, value */
 static inline int64_t refuse_map(const int64_t *in) {
     int64_t number = refuse_axis(in, ALL_KINDS);
     if (number)
         return number;
-    if (!pixel_in_range(in[5]) || !pixel_in_range(in[6]))
+    if (!pixel_in_range(in[6]) || !pixel_in_range(in[7]))
         return 7;
-    if (!value_of_kind(in[0], in[7], in[8]))
+    if (!value_of_kind(in[0], in[8], in[9]))
         return 8;
-    bool empty = in[1] == in[3] && in[2] == in[4], at_start = in[7] == in[1] && in[8] == in[2];
+    bool empty = in[1] == in[3] && in[2] == in[4], at_start = in[8] == in[1] && in[9] == in[2];
     return empty && !at_start ? 9 : 0;
 }
 
@@ -73,43 +75,43 @@ static inline int64_t refuse_hint(const int64_t *in, unsigned kinds, int64_t bol
     return number ? number : in_range(0, bold, 4096) && in_range(!of_dates(in[0]), n, 4096) ? 0 : 6;
 }
 
-/* in: kind, start, end, N */
+/* in: an axis, N */
 static inline int64_t refuse_ticks_bold(const int64_t *in) {
-    return refuse_hint(in, ALL_KINDS, 0, in[5]);
+    return refuse_hint(in, ALL_KINDS, 0, in[6]);
 }
 
-/* in: kind, start, end, bold count, N */
+/* in: an axis, bold count, N */
 static inline int64_t refuse_ticks_light(const int64_t *in) {
-    return refuse_hint(in, ALL_KINDS, in[5], in[6]);
+    return refuse_hint(in, ALL_KINDS, in[6], in[7]);
 }
 
-/* in: kind, start, end, N */
+/* in: an axis, N */
 static inline int64_t refuse_period(const int64_t *in) {
-    return refuse_hint(in, PERIOD_KINDS, 0, in[5]);
+    return refuse_hint(in, PERIOD_KINDS, 0, in[6]);
 }
 
-/* in: kind, start, end, low, high, pixel */
+/* in: an axis, low, high, pixel */
 static inline int64_t refuse_unmap(const int64_t *in) {
     int64_t number = refuse_axis(in, UNMAP_KINDS);
-    bool limits = pixel_in_range(in[5]) && pixel_in_range(in[6]) && pixel_in_range(in[7]) && in[5] != in[6];
+    bool limits = pixel_in_range(in[6]) && pixel_in_range(in[7]) && pixel_in_range(in[8]) && in[6] != in[7];
     return number ? number : limits ? 0 : 7;
 }
 
-/* in: kind, start, end */
+/* in: an axis */
 static inline int64_t refuse_size(const int64_t *in) {
     return refuse_axis(in, INDEX_KINDS);
 }
 
-/* in: kind, start, end, value */
+/* in: an axis, value */
 static inline int64_t refuse_by_value(const int64_t *in) {
     int64_t number = refuse_axis(in, INDEX_KINDS);
-    return number ? number : value_of_kind(in[0], in[5], in[6]) ? 0 : 8;
+    return number ? number : value_of_kind(in[0], in[6], in[7]) ? 0 : 8;
 }
 
-/* in: kind, start, end, index or place */
+/* in: an axis, index or place */
 static inline int64_t refuse_by_index(const int64_t *in) {
     int64_t number = refuse_axis(in, INDEX_KINDS);
-    return number ? number : in_range(0, in[5], 3652059) ? 0 : 8;
+    return number ? number : in_range(0, in[6], 3652059) ? 0 : 8;
 }
 
 /* Question 8 of a segment; the head and tail beside the last one are not asked. */
@@ -117,33 +119,33 @@ static inline bool segment_of_kind(int64_t kind, int64_t segment, int64_t head, 
     return in_range(1, segment, 3) && (segment == 3 || value_of_kind(kind, head, tail));
 }
 
-/* in: kind, start, end, low, high, segment, value */
+/* in: an axis, low, high, segment, value */
 static inline int64_t refuse_segment_map(const int64_t *in) {
     int64_t number = refuse_axis(in, INDEX_KINDS);
     if (number)
         return number;
-    if (!pixel_in_range(in[5]) || !pixel_in_range(in[6]))
+    if (!pixel_in_range(in[6]) || !pixel_in_range(in[7]))
         return 7;
-    if (!segment_of_kind(in[0], in[7], in[8], in[9]))
+    if (!segment_of_kind(in[0], in[8], in[9], in[10]))
         return 8;
-    bool empty = in[1] == in[3] && in[2] == in[4], at_start = in[8] == in[1] && in[9] == in[2];
-    return size_of(in[0], in) < 1 || (in[7] != 3 && empty && !at_start) ? 9 : 0;
+    bool empty = in[1] == in[3] && in[2] == in[4], at_start = in[9] == in[1] && in[10] == in[2];
+    return size_of(in[0], in) < 1 || (in[8] != 3 && empty && !at_start) ? 9 : 0;
 }
 
-/* in: kind, start, end, N */
+/* in: an axis, N */
 static inline int64_t refuse_segment_ticks_bold(const int64_t *in) {
-    return refuse_hint(in, INDEX_KINDS, 0, in[5]);
+    return refuse_hint(in, INDEX_KINDS, 0, in[6]);
 }
 
-/* in: kind, start, end, bold count, N */
+/* in: an axis, bold count, N */
 static inline int64_t refuse_segment_ticks_light(const int64_t *in) {
-    return refuse_hint(in, INDEX_KINDS, in[5], in[6]);
+    return refuse_hint(in, INDEX_KINDS, in[6], in[7]);
 }
 
-/* in: kind, start, end, segment, value */
+/* in: an axis, segment, value */
 static inline int64_t refuse_by_segment(const int64_t *in) {
     int64_t number = refuse_axis(in, INDEX_KINDS);
-    return number ? number : segment_of_kind(in[0], in[5], in[6], in[7]) ? 0 : 8;
+    return number ? number : segment_of_kind(in[0], in[6], in[7], in[8]) ? 0 : 8;
 }
 
 /* Question 10 of an answered date, by the answer's numbers, head first: is it a day of question 3? */
@@ -162,13 +164,13 @@ static inline bool segment_answered(const int64_t *in, const int64_t *answer) {
 static inline bool follower_mapped(const int64_t *in, const int64_t *answer) {
     (void)answer;
     bool ceiling_past = in[0] == 5 && date_ceiling(in[1], in[2]) > 3652059;
-    return !(in[7] == 2 && ceiling_past && date_at(in[8]).month < 12);
+    return !(in[8] == 2 && ceiling_past && date_at(in[9]).month < 12);
 }
 
 /* The same to unmap; with indices, the index too: offset * size / W rounded down, below 0 is 0. Kind 4 has none. */
 static inline bool day_unmapped(const int64_t *in, const int64_t *answer) {
     if (in[0] != 4) {
-        int64_t places = (in[7] - in[5]) * size_of(in[0], in), width = in[6] - in[5];
+        int64_t places = (in[8] - in[6]) * size_of(in[0], in), width = in[7] - in[6];
         if (places / width > 3652059)
             return false;
     }

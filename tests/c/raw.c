@@ -12,7 +12,7 @@
 #include "months.h"
 #include "questions.h"
 
-enum { ARGUMENTS = 10, NUMBERS = 4, QUESTIONS = 14, GUARD = 5, SHOWN = 5, ENOUGH = 10000 };
+enum { ARGUMENTS = 11, NUMBERS = 4, QUESTIONS = 15, GUARD = 5, SHOWN = 5, ENOUGH = 10000 };
 
 /* May these numbers, the status first, be an answer to these arguments? */
 typedef bool fine(const int64_t *in, const int64_t *out);
@@ -38,15 +38,15 @@ static bool fine_value(const int64_t *in, const int64_t *out) {
 
 /* With indices, from the low limit on and before the high one: the value of an index below the size. */
 static bool fine_unmapped(const int64_t *in, const int64_t *out) {
-    int64_t size = in[0] == 4 ? 0 : size_of(in[0], in), width = in[6] - in[5], offset = in[7] - in[5];
+    int64_t size = in[0] == 4 ? 0 : size_of(in[0], in), width = in[7] - in[6], offset = in[8] - in[6];
     if (size < 1 || !(width > 0 ? in_range(0, offset, width - 1) : in_range(width + 1, offset, 0)))
         return fine_value(in, out);
-    ordered_value v = ordered_from_index(in[0], in[1], in[2], in[3], in[4], offset * size / width);
+    ordered_value v = ordered_from_index(AXIS_OF(in), offset * size / width);
     return v.status == 0 && v.head == out[1] && v.tail == out[2];
 }
 
 static bool fine_step(const int64_t *in, const int64_t *out) {
-    return fine_value(in, out) && out[3] == in[5] + 1;
+    return fine_value(in, out) && out[3] == in[6] + 1;
 }
 
 static bool fine_segment(const int64_t *in, const int64_t *out) {
@@ -80,9 +80,9 @@ static int64_t refuse_no_date(const int64_t *in) {
 }
 
 #define Q(question) (1u << (question))
-enum { ALL = Q(1) | Q(3) | Q(4), SOME = ALL | Q(2), BY_INDEX = SOME | Q(8) | Q(10) };
+enum { ALL = Q(1) | Q(3) | Q(4) | Q(14), SOME = ALL | Q(2), BY_INDEX = SOME | Q(8) | Q(10) };
 
-/* What is taken, a letter each: a the five numbers of an axis, l a limit or pixel, v the two of a value, s a segment, h a hint's
+/* What is taken, a letter each: a the six numbers of an axis, l a limit or pixel, v the two of a value, s a segment, h a hint's
    number, i an index or place; y, m and d a date, y, w and k a week date, n a day number. */
 static const struct operation {
     const char *name, *takes;
@@ -113,7 +113,7 @@ static const struct operation {
     {"from_index", "ai", refuse_by_index, BY_INDEX, fine_value, .call = call_from_index},
     {"next", "av", refuse_by_value, BY_INDEX, fine_value, .call = call_next, .none = true},
     {"previous", "av", refuse_by_value, BY_INDEX, fine_value, .call = call_previous, .none = true},
-    {"values", "ai", refuse_by_index, BY_INDEX, fine_step, .call = call_values, .none = true, .place = 5},
+    {"values", "ai", refuse_by_index, BY_INDEX, fine_step, .call = call_values, .none = true, .place = 6},
     {"segment_map", "allsv", refuse_segment_map, BY_INDEX | Q(7) | Q(9), fine_pixel, .call = call_segment_map},
     {"segment_ticks_bold", "ah", refuse_segment_ticks_bold, SOME | Q(6) | Q(11), NULL, .list = list_segment_bold},
     {"segment_ticks_light", "ahh", refuse_segment_ticks_light, SOME | Q(6) | Q(11), NULL, .list = list_segment_light},
@@ -162,6 +162,7 @@ static int plain_arguments(const char *takes, int64_t *in) {
         switch (*takes) {
         case 'a':
             *to++ = a.kind, *to++ = start.head, *to++ = start.tail, *to++ = end.head, *to++ = end.tail;
+            *to++ = chance(of_dates(a.kind) ? 2 : 8) ? excluding() : 0;
             break;
         case 'v': *to++ = v.head, *to++ = v.tail; break;
         case 'l': *to++ = limit(); break;
@@ -200,7 +201,7 @@ static bool fine_status(const struct operation *o, const int64_t *in, int64_t st
     if (!in_range(-1, status, QUESTIONS - 1) || (status == -1 && !o->none) || (status > 0 && !(o->asks >> status & 1)))
         return false;
     seen[o - operations][status + 1]++;
-    return number ? status == number : status < 1 || (status >= 10 && !o->whole);
+    return number ? status == number : status < 1 || (in_range(10, status, 11) && !o->whole);
 }
 
 static void compare_call(const struct operation *o, const int64_t *in, int arguments) {
@@ -219,10 +220,11 @@ static bool later(const int64_t *a, const int64_t *b) {
     return a[0] > b[0] || (a[0] == b[0] && a[1] > b[1]);
 }
 
-/* At most N and one, each later than the one before, none after the end. */
+/* At most N and one, each later than the one before, none after the end, or after the day before it where it is excluded. */
 static bool fine_list(const int64_t *in, int arguments, const int64_t *list, int64_t count) {
+    const int64_t last[2] = {last_day(in), in[4]};
     for (int64_t i = 0; i < count; i++)
-        if (!value_of_kind(in[0], list[2 * i], list[2 * i + 1]) || later(list + 2 * i, in + 3)
+        if (!value_of_kind(in[0], list[2 * i], list[2 * i + 1]) || later(list + 2 * i, last)
             || (i > 0 && !later(list + 2 * i, list + 2 * i - 2)))
             return false;
     return in_range(0, count, in[arguments - 1] + 1);
@@ -268,7 +270,7 @@ static void compare_count(const struct operation *o, const int64_t *in, int argu
 
 /* No more than the list needs by much: just enough, a little less or more, or any few. */
 static size_t length_for(const int64_t *in, int arguments) {
-    ordered_number r = arguments == 6 ? count_bold(in, SIZE_MAX) : count_light(in, SIZE_MAX);
+    ordered_number r = arguments == 7 ? count_bold(in, SIZE_MAX) : count_light(in, SIZE_MAX);
     int64_t length = chance(4) ? from(0, 40) : 2 * r.value + ONE_OF(0, 0, 0, 1, -1, -2, 7);
     return length < 0 || chance(20) ? 0 : (size_t)length;
 }

@@ -11,7 +11,7 @@
 #include "operations.h"
 
 /* BEHIND: the longest lent slice has that many numbers more than the list, and as many stand behind it, not lent. */
-enum { BEHIND = 7, KINDS = 8, QUESTIONS = 14, SHOWN = 5, SHOWN_NUMBERS = 12, SHOWN_BYTES = 160 };
+enum { BEHIND = 7, KINDS = 8, QUESTIONS = 15, SHOWN = 5, SHOWN_NUMBERS = 12, SHOWN_BYTES = 160 };
 
 static int64_t lines, equal, nones, refused[QUESTIONS], panics, beyond, left_out, differences, unread;
 static int64_t doubtful, apart; /* within the logarithm's rounding; of these, the Rust says otherwise */
@@ -92,7 +92,7 @@ static bool replay(const char *request, const char *answer) {
 
     /* What the archive must say: document 01's refusal or its own answer, else what the oracle said. */
     int64_t number = row->refusal(in);
-    bool with_axis = row->arguments >= 5;
+    bool with_axis = row->arguments >= 6;
     if (skip && !number && with_axis && in[0] == 8) {
         tally[row - rows][0][LEFT_OUT][0]++, left_out++;
         return true;

@@ -1,6 +1,7 @@
-/* Prints requests for the oracle and the archive, one to a line: requests OPERATION SEED COUNT [KIND]. As `requests operations`
-   it prints the operations' names, as `requests rust` those that the Rust has. The same seed gives the same lines. Boundaries
-   come often; about one request in ten is one that must be refused. */
+/* Prints requests for the oracle and the archive, one to a line: requests OPERATION SEED COUNT [KIND | excluded]. With `excluded`
+   the end of every axis is excluded. As `requests operations` it prints the operations' names, as `requests rust` those that the
+   Rust has. The same seed gives the same lines. Boundaries come often; about one request in ten is one that must be refused, and
+   with `excluded` about one in five. */
 #include <inttypes.h>
 #include <stdbool.h>
 #include <stdio.h>
@@ -13,8 +14,33 @@
 /* The one kind that is drawn; 0: all that the Rust has, 1 to 7. */
 static int64_t only;
 
+/* The ends are excluded: then mostly the kinds that allow it. */
+static bool excluded;
+
 static int64_t kind_of(int64_t drawn) {
-    return only ? only : drawn;
+    return excluded && !chance(10) ? from(1, 3) : only ? only : drawn;
+}
+
+/* An excluded end is often a day after the start, the first of a month or year, or the last day; now and then it is the start,
+   which question 14 refuses. Others are left as they are. */
+static axis with_end(axis a) {
+    if (!excluded || !of_dates(a.kind) || chance(2))
+        return a;
+    int64_t start = (int64_t)(a.start / DAY), end = (int64_t)(a.end / DAY);
+    struct date first = date_at(start), last = date_at(end);
+    switch (draw() % 8) {
+    case 0: end = start + 1; break;
+    case 1: end = first_of_month(12 * (first.year - 1) + first.month); break;
+    case 2: end = new_year(first.year + 1); break;
+    case 3: end = end - last.day + 1; break;
+    case 4: end = new_year(last.year); break;
+    case 5: end = LAST_DAY; break;
+    case 6: start = 1, end = LAST_DAY; break;
+    default: end = chance(2) ? start : start + 1;
+    }
+    a.start = place_on(a.kind, (wide)start * DAY);
+    a.end = place_on(a.kind, (wide)(end < start ? start : end) * DAY);
+    return a;
 }
 
 /* Each part below is spoilt by its own chance, so that two questions say no at once now and then. */
@@ -31,8 +57,8 @@ static void print_axis(axis a) {
         end = spoilt(kind, end);
     if (chance(60)) /* question 1, but for 8, which the Rust lacks */
         kind = ONE_OF(0, -1, 8, 9, -7, kind + 8, kind + 256, kind + (INT64_C(1) << 32), INT64_MIN, INT64_MAX);
-    printf(" %" PRId64 " %" PRId64 " %" PRId64 " %" PRId64 " %" PRId64, kind, start.head, start.tail, end.head,
-           end.tail);
+    printf(" %" PRId64 " %" PRId64 " %" PRId64 " %" PRId64 " %" PRId64 " %" PRId64, kind, start.head, start.tail, end.head,
+           end.tail, excluded ? excluding() : 0);
 }
 
 static void print_limit(int64_t limit) {
@@ -87,7 +113,7 @@ static void map(void) {
     case 1:
     case 2: a = whole_position(kind, &low, &high, &place); break;
     case 3: a = far_pixel(kind, &low, &high, &place); break;
-    default: a = axis_of(kind), place = a.start + offset_on(a);
+    default: a = with_end(axis_of(kind)), place = a.start + offset_on(a);
     }
     if (chance(80)) /* question 9, unless the place is the start */
         a.end = a.start;
@@ -233,6 +259,7 @@ static axis axis_for(int64_t kind, int64_t listed, int64_t n) {
         a = axis_with(kind, way < 6 ? span_by_power(n) : span_by_rung(n));
     else
         a = axis_by_months(kind, n);
+    a = with_end(a);
     return chance(2) ? with_time(a) : a;
 }
 
@@ -272,7 +299,7 @@ static void print_light(const char *name, int64_t kind) {
         listed = ONE_OF(kind, kind <= 3 ? 1 : 4, kind <= 3 ? 1 : 4, kind <= 3 ? 2 : 5);
     axis a = past_the_bound(axis_for(kind, listed, n));
     value start = value_at(kind, a.start), end = value_at(kind, a.end);
-    int64_t ends[] = {kind, start.head, start.tail, end.head, end.tail};
+    int64_t ends[] = {kind, start.head, start.tail, end.head, end.tail, excluded};
     if (kind != 1 && kind != 4 && kind != 7 && !chance(4)) {
         int64_t size = size_of(kind == 8 || chance(2) ? kind : kind <= 3 ? 2 : 5, ends);
         bold = (int64_t)clamp(0, (size + from(-2, 3)) / 2, 4096);
@@ -289,7 +316,7 @@ static void ticks_light(void) {
 }
 
 static void period(void) {
-    int64_t kind = kind_of(chance(2) ? 4 : 7), n = hint_on(kind);
+    int64_t drawn = chance(2) ? 4 : 7, kind = excluded ? drawn : kind_of(drawn), n = hint_on(kind);
     axis a = past_the_bound(axis_for(kind, kind, n));
     if (chance(40)) /* question 2 */
         a = axis_of(kind_of(from(1, 6)));
@@ -314,12 +341,13 @@ static axis index_axis(int64_t kind) {
         a.start = place_on(kind, a.start + time_of_day());
         a.end = chance(2) ? a.start : place_on(kind, a.start + any_size((wide)800 * DAY));
     }
+    a = with_end(a);
     return chance(2) ? with_time(a) : a;
 }
 
 static int64_t axis_size(axis a) {
     value start = value_at(a.kind, a.start), end = value_at(a.kind, a.end);
-    int64_t ends[] = {a.kind, start.head, start.tail, end.head, end.tail};
+    int64_t ends[] = {a.kind, start.head, start.tail, end.head, end.tail, excluded};
     return a.kind == 4 || a.kind == 7 ? from(0, 1000) : size_of(a.kind, ends);
 }
 
@@ -649,16 +677,18 @@ int main(int argc, char **argv) {
         printf("%s\n", operations[i].name);
     if (all || rust)
         return fflush(stdout) != 0;
+    excluded = argc == 5 && !strcmp(argv[4], "excluded");
     only = argc == 5 ? strtoll(argv[4], NULL, 10) : 0;
-    bool kind = argc == 4 || (argc == 5 && only >= 1 && only <= 8);
-    for (int i = 0; i < OPERATIONS && kind; i++)
+    bool read = argc == 4 || excluded || (argc == 5 && only >= 1 && only <= 8);
+    for (int i = 0; i < OPERATIONS && read; i++)
         if (!strcmp(argv[1], operations[i].name)) {
             seed_with(strtoull(argv[2], NULL, 10));
             for (int64_t n = strtoll(argv[3], NULL, 10); n > 0 && !ferror(stdout); n--)
                 operations[i].print();
             return fflush(stdout) != 0;
         }
-    fprintf(stderr, "usage: requests OPERATION SEED COUNT [KIND], or requests operations, or requests rust; operations:");
+    fprintf(stderr, "usage: requests OPERATION SEED COUNT [KIND | excluded], or requests operations, or requests rust; "
+                    "operations:");
     for (int i = 0; i < OPERATIONS; i++)
         fprintf(stderr, " %s", operations[i].name);
     fprintf(stderr, "\n");

@@ -163,7 +163,7 @@ static bool print(void) {
 /* An axis of kind 8 by its days. */
 static int64_t start, end;
 
-#define AXIS WEEKS, start, 0, end, 0
+#define AXIS WEEKS, start, 0, end, 0, 0
 
 static void draw_axis(void) {
     int64_t span, step = from(-2, 2);
@@ -214,19 +214,19 @@ static void expect_list(enum list list, int64_t bold, int64_t n, const int64_t *
                          : list == LIGHT        ? ordered_ticks_light(AXIS, bold, n, lent, lent_len)
                          : list == SEGMENT_BOLD ? ordered_segment_ticks_bold(AXIS, n, lent, lent_len)
                                                 : ordered_segment_ticks_light(AXIS, bold, n, lent, lent_len);
-    const int64_t in[] = {WEEKS, start, 0, end, 0, bold, n, (int64_t)lent_len};
-    expect(names[list], in, 8, &got, ROW(room ? 0 : 11, room ? listed : 0));
+    const int64_t in[] = {AXIS, bold, n, (int64_t)lent_len};
+    expect(names[list], in, 9, &got, ROW(room ? 0 : 11, room ? listed : 0));
     if (list == BOLD || list == LIGHT) {
         ordered_number count =
             list == BOLD ? ordered_count_bold(AXIS, n, lent_len) : ordered_count_light(AXIS, bold, n, lent_len);
-        expect("the count", in, 8, &count, ROW(room ? 0 : 11, room ? listed : 0));
+        expect("the count", in, 9, &count, ROW(room ? 0 : 11, room ? listed : 0));
     }
     bool same = true;
     size_t written = room ? 2 * (size_t)listed : 0;
     for (size_t i = 0; i < all; i++)
         same = same && block[i] == (i >= GUARD && i < GUARD + written ? want[i - GUARD] : pattern(i));
     int64_t kept = same;
-    expect("the lent numbers", in, 8, &kept, ROW(1));
+    expect("the lent numbers", in, 9, &kept, ROW(1));
 }
 
 static void expect_lists(void) {
@@ -259,7 +259,7 @@ static int64_t draw_day(void) {
 }
 
 static void expect_value(const char *call, int64_t at, ordered_value got, ordered_value want) {
-    expect(call, (const int64_t[]){AXIS, at}, 6, &got, ROW(want.status, want.head, want.tail));
+    expect(call, (const int64_t[]){AXIS, at}, 7, &got, ROW(want.status, want.head, want.tail));
 }
 
 static void expect_by_value(void) {
@@ -267,9 +267,9 @@ static void expect_by_value(void) {
     int64_t day = draw_day(), index = mondays_to[day] - mondays_to[start], size = size_by_walk();
     const int64_t in[] = {AXIS, day, 0};
     ordered_number got = ordered_index_of(AXIS, day, 0);
-    expect("index_of", in, 7, &got, ROW(index < 0 ? -1 : 0, index < 0 ? 0 : index));
+    expect("index_of", in, 8, &got, ROW(index < 0 ? -1 : 0, index < 0 ? 0 : index));
     got = ordered_segment_index_of(AXIS, from(1, 2), day, 0);
-    expect("segment_index_of", in, 7, &got, ROW(index < 0 ? -1 : 0, index < 0 ? 0 : index));
+    expect("segment_index_of", in, 8, &got, ROW(index < 0 ? -1 : 0, index < 0 ? 0 : index));
     bool before = index > 0, after = index >= 0 && index + 1 < size;
     expect_value("next", day, ordered_next(AXIS, day, 0), after ? value_by_walk(index + 1) : none);
     expect_value("previous", day, ordered_previous(AXIS, day, 0), before ? value_by_walk(index - 1) : none);
@@ -283,20 +283,20 @@ static void expect_by_index(void) {
     expect_value("from_index", index, ordered_from_index(AXIS, index), v);
     ordered_step values = ordered_values(AXIS, index);
     if (index < size)
-        expect("values", in, 6, &values, ROW(v.status, v.head, v.tail, index + 1));
+        expect("values", in, 7, &values, ROW(v.status, v.head, v.tail, index + 1));
     else
-        expect("values", in, 6, &values, ROW(-1, 0, 0, index));
+        expect("values", in, 7, &values, ROW(-1, 0, 0, index));
     ordered_segment segment = ordered_segment_from_index(AXIS, index);
     if (index < size)
-        expect("segment_from_index", in, 6, &segment, ROW(v.status, 1, v.head, v.tail));
+        expect("segment_from_index", in, 7, &segment, ROW(v.status, 1, v.head, v.tail));
     else
-        expect("segment_from_index", in, 6, &segment, ROW(index > size ? -1 : 0, index > size ? 0 : 3, 0, 0));
+        expect("segment_from_index", in, 7, &segment, ROW(index > size ? -1 : 0, index > size ? 0 : 3, 0, 0));
     ordered_number got = ordered_size(AXIS);
-    expect("size", in, 5, &got, ROW(0, size));
+    expect("size", in, 6, &got, ROW(0, size));
     got = ordered_segment_size(AXIS);
-    expect("segment_size", in, 5, &got, ROW(0, size + 1));
+    expect("segment_size", in, 6, &got, ROW(0, size + 1));
     got = ordered_segment_index_of(AXIS, 3, 0, 0);
-    expect("segment_index_of the last", in, 5, &got, ROW(0, size));
+    expect("segment_index_of the last", in, 6, &got, ROW(0, size));
 }
 
 /* Between limits: the value under a pixel, and the pixels of a day and of its segment, both by those of kind 1. */
@@ -310,24 +310,24 @@ static void expect_pixels(void) {
     expect_value("unmap", pixel, ordered_unmap(AXIS, low, high, pixel), wide ? v : (ordered_value){7, 0, 0});
 
     const int64_t in[] = {AXIS, low, high, day, 0};
-    ordered_pixel got = ordered_map(AXIS, low, high, day, 0), dates = ordered_map(DATES, start, 0, end, 0, low, high, day, 0);
-    expect("map", in, 9, &got, ROW(dates.status, dates.pixel));
+    ordered_pixel got = ordered_map(AXIS, low, high, day, 0), dates = ordered_map(DATES, start, 0, end, 0, 0, low, high, day, 0);
+    expect("map", in, 10, &got, ROW(dates.status, dates.pixel));
 
     /* The width parted by the size, rounded half away from zero, is left for the last. */
     int64_t margin = (2 * wide + size) / (2 * size) * (width < 0 ? -1 : 1), follower = mondays_to[day] - mondays_to[start] + 1;
-    ordered_pixel left = ordered_map(DATES, start, 0, end, 0, low, high - margin, day, 0), right = left;
+    ordered_pixel left = ordered_map(DATES, start, 0, end, 0, 0, low, high - margin, day, 0), right = left;
     got = ordered_segment_map(AXIS, low, high, 1, day, 0);
-    expect("segment_map, exact", in, 9, &got, ROW(left.status, left.pixel));
+    expect("segment_map, exact", in, 10, &got, ROW(left.status, left.pixel));
     bool followed = follower > 0 && follower < size;
     if (followed)
-        right = ordered_map(DATES, start, 0, end, 0, low, high - margin, value_by_walk(follower).head, 0);
+        right = ordered_map(DATES, start, 0, end, 0, 0, low, high - margin, value_by_walk(follower).head, 0);
     int64_t sum = left.pixel + (followed ? right.pixel : margin / 2);
     bool fits = sum >= INT32_MIN && sum <= INT32_MAX;
     int64_t status = left.status ? left.status : right.status ? right.status : fits ? 0 : 10;
     got = ordered_segment_map(AXIS, low, high, 2, day, 0);
-    expect("segment_map, centre", in, 9, &got, ROW(status, status ? 0 : followed ? sum / 2 : sum));
+    expect("segment_map, centre", in, 10, &got, ROW(status, status ? 0 : followed ? sum / 2 : sum));
     got = ordered_segment_map(AXIS, low, high, 3, day, 0);
-    expect("segment_map, last", in, 9, &got, ROW(0, high));
+    expect("segment_map, last", in, 10, &got, ROW(0, high));
 }
 
 static void axes(int64_t count) {

@@ -1,7 +1,12 @@
--- The ends of an axis and a value on it are values of one kind; the sign of its span. Assumes nothing.
+-- The numbers of an axis, read back from their bits; its ends and a value on it are values of one kind; the sign of its span.
+-- Assumes nothing.
 use mathlib.Core.Path.{_≡_}
 use mathlib.Core.Bool.{true}
 use native.Mathlib.Omega.{arith}
+use lib.IntN.{ℤ}
+use mir.Syntax.{w64}
+use mir.Val.{SFits, toZ, ofZ}
+use mir.Facts.{toZ-ofZ}
 use borrow.Author.Tests.{not-true}
 use Rattle.laws.specs.Numbers.{within, negPart}
 use Rattle.laws.proofs.Signed.{same}
@@ -11,8 +16,15 @@ use Rattle.values.specs.Values.{isValue, earlier, Both}
 use Rattle.values.proofs.Numbers.{within-true}
 use Rattle.values.proofs.Differences.{no-earlier-apart}
 use Rattle.axis.specs.declared.Axis.{Axis}
-use Rattle.axis.specs.Axes.{start, end, spanOf}
+use Rattle.axis.specs.Axes.{axisOf, start, end, spanOf}
 use Rattle.axis.specs.Questions.{ends, inOrder, valueOn, equals}
+
+pub axis-read : {k sh st eh et x : ℤ} → SFits w64 k → SFits w64 sh → SFits w64 st → SFits w64 eh → SFits w64 et → SFits w64 x →
+    axisOf (toZ w64 (ofZ w64 k)) (toZ w64 (ofZ w64 sh)) (toZ w64 (ofZ w64 st)) (toZ w64 (ofZ w64 eh)) (toZ w64 (ofZ w64 et))
+    (toZ w64 (ofZ w64 x))
+    ≡ axisOf k sh st eh et x
+axis-read k sh st eh et x =
+    λ i. axisOf (toZ-ofZ k i) (toZ-ofZ sh i) (toZ-ofZ st i) (toZ-ofZ eh i) (toZ-ofZ et i) (toZ-ofZ x i)
 
 module _ (a : Axis) (e : ends a ≡ true) where
   -- question 3

@@ -4,3 +4,4 @@ pub mod Questions
 pub mod Checked
 pub mod PixelRanges
 pub mod UsualAxes
+pub mod ClosedAxes

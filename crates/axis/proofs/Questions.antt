@@ -10,7 +10,7 @@ use Rattle.laws.specs.Numbers.{within, posPart, negPart}
 use Rattle.laws.proofs.Signed.{lt-true, lt-false, le-true, le-false, is-lt, is-ge, same}
 use Rattle.laws.proofs.Tests.{both-true, either-false}
 use Rattle.values.specs.declared.Value.{Value}
-use Rattle.values.specs.Values.{isDuration, isValue}
+use Rattle.values.specs.Values.{isDuration, isValue, earlier}
 use Rattle.values.specs.Differences.{nanoseconds, fitsI64, nanosecondsOf}
 use Rattle.values.proofs.Numbers.{is-le, is-gt, within-true, not-below, bounded, either-true, not-both, agree, or-true, or-false}
 use Rattle.values.proofs.Fits.{fits-range}
@@ -24,6 +24,36 @@ use Rattle.axis.specs.Axes.{start, end, spanOf}
 use Rattle.axis.proofs.Axes.{span-from-0}
 use Rattle.axis.specs.Questions.{nearZero, nearOrLong, ends, inOrder, isCount, enough, boldHint, lightHint}
 use Rattle.axis.specs.Questions.{isPixel, pixels, differ, unmapPixels, isIndex, fitsI32}
+
+-- ---- 4: by the heads, and by the tails where the heads are one
+module _ (a : Axis) where
+  pub heads-apart : ltZ (a .«start_head») (a .«end_head») ≡ true → true ≡ inOrder a
+  unfolding inOrder earlier
+  heads-apart e =
+      let h = lt-true (a .«start_head») (a .«end_head») e in
+      rw (is-ge (a .«end_head») (a .«start_head») (omega arith), is-gt (a .«end_head») (a .«start_head») h)
+
+  pub heads-not-apart : ltZ (a .«start_head») (a .«end_head») ≡ false →
+      leZ (a .«start_head») (a .«end_head») && leZ (a .«start_tail») (a .«end_tail») ≡ inOrder a
+  unfolding inOrder earlier
+  heads-not-apart e = go (leZ (a .«start_head») (a .«end_head»)) (leZ (a .«start_tail») (a .«end_tail»)) refl refl
+    where
+      after : leZ (a .«end_head») (a .«start_head») ≡ true
+      after = is-le (a .«end_head») (a .«start_head») (lt-false (a .«start_head») (a .«end_head») e)
+
+      go : (b t : Bool) → leZ (a .«start_head») (a .«end_head») ≡ b → leZ (a .«start_tail») (a .«end_tail») ≡ t →
+          b && t ≡ not (earlier (end a) (start a))
+      go true true h t = rw (
+        after,
+        is-ge (a .«end_head») (a .«start_head») (le-true (a .«start_head») (a .«end_head») h),
+        is-ge (a .«end_tail») (a .«start_tail») (le-true (a .«start_tail») (a .«end_tail») t),
+      )
+      go true false h t = rw (
+        after,
+        is-ge (a .«end_head») (a .«start_head») (le-true (a .«start_head») (a .«end_head») h),
+        is-lt (a .«end_tail») (a .«start_tail») (le-false (a .«start_tail») (a .«end_tail») t),
+      )
+      go false t h u = rw (is-lt (a .«end_head») (a .«start_head») (le-false (a .«start_head») (a .«end_head») h))
 
 -- ---- 5: by seconds, and by nanoseconds only at the bound above
 module _ (v : Value) (value : isValue (pos 7) v ≡ true) where

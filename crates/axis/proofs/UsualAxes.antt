@@ -1,57 +1,24 @@
--- An axis whose start is before its end, and which no question refuses. Assumes nothing.
-use mathlib.Core.Path.{_≡_, sym, _∙_}
+-- How the code asks question 3 of a kind but 7, and a short yes for most durations. Assumes nothing.
+use mathlib.Core.Path.{_≡_, refl, sym, _∙_}
 use mathlib.Core.Logic.{inl, inr}
-use mathlib.Core.Bool.{Bool, true, false, _&&_}
-use Prim.Native.Nat.{_+_, _≤_}
+use mathlib.Core.Bool.{Bool, true, false, cond, _&&_}
+use Prim.Native.Nat.{ℕ, _+_, _≤_, _<_}
 use native.Mathlib.Omega.{arith}
 use lib.IntN.{ℤ, pos, negsuc}
 use lib.Signed.{ltZ, leZ}
-use Rattle.laws.specs.Asking.{firstNo}
-use Rattle.laws.specs.Numbers.{within, posPart, negPart}
-use Rattle.laws.proofs.Signed.{lt-true, le-true, is-lt, is-ge}
-use Rattle.laws.proofs.Tests.{both-true, and-false}
+use borrow.Author.Tests.{not-true}
+use Rattle.laws.specs.Numbers.{within, isNumber, posPart, negPart}
+use Rattle.laws.proofs.Signed.{lt-true, lt-false, le-true, le-false, is-lt}
+use Rattle.laws.proofs.Tests.{both-true, either-false}
+use Rattle.calendar.specs.Questions.{isDay}
 use Rattle.values.specs.declared.Value.{Value}
-use Rattle.values.specs.Values.{isDuration, isValue, earlier}
-use Rattle.values.proofs.Numbers.{is-le, is-gt, within-true, either-true}
-use Rattle.values.proofs.Values.{dates-range, of-durations, by-form}
+use Rattle.values.specs.Values.{overDates, overDateTimes, isDuration, isValue, earlier}
+use Rattle.values.proofs.Numbers.{is-le, within-true, not-both}
+use Rattle.values.proofs.Values.{of-dates, of-date-times, of-durations}
 use Rattle.axis.specs.declared.Axis.{Axis}
 use Rattle.axis.specs.Axes.{start, end}
-use Rattle.axis.specs.Questions.{known, ends, inOrder, nearZero, nearOrLong, axisQuestions}
-use Rattle.axis.proofs.Axes.{both-ends}
-use Rattle.axis.proofs.Questions.{near-by-seconds, near-ends, other-kind, of-seven}
-
--- a kind that has values is known
-among : (k : ℤ) → 1 + negPart k ≤ posPart k → posPart k ≤ 8 + negPart k → within (pos 1) k (pos 8) ≡ true
-among k l h = rw (is-le (pos 1) k (omega arith), is-le k (pos 8) (omega arith))
-
-known-by : (a : Axis) (v : Value) → isValue (a .kind) v ≡ true → known a ≡ true
-unfolding known
-known-by a v e =
-    let k = a .kind in
-    by-form k v e
-    (λ x _. let (z, l, h) = dates-range k x in
-    elim h [ inl m ↦ among k (omega arith) (omega arith) | inr m ↦ among k (omega arith) (omega arith) ])
-    (λ x _. let (l, h) = within-true (pos 4) k (pos 6) x in among k (omega arith) (omega arith))
-    (λ x _. let (l, h) = within-true (pos 7) k (pos 7) x in among k (omega arith) (omega arith))
-
--- of two values one is before the other, and not after it
-module _ (v w : Value) (o : earlier v w ≡ true) where
-  heads : posPart (v .head) + negPart (w .head) ≤ posPart (w .head) + negPart (v .head)
-  unfolding earlier
-  heads = elim (either-true (ltZ (v .head) (w .head)) (leZ (v .head) (w .head) && ltZ (v .tail) (w .tail)) o) [
-    | inl x ↦ omega (arith, lt-true (v .head) (w .head) x)
-    | inr y ↦ omega (arith, le-true (v .head) (w .head) (both-true _ _ y .0))
-  ]
-
-  not-after : earlier w v ≡ false
-  unfolding earlier
-  not-after =
-      let h : ltZ (w .head) (v .head) ≡ false = is-ge (w .head) (v .head) heads in
-      elim (either-true (ltZ (v .head) (w .head)) (leZ (v .head) (w .head) && ltZ (v .tail) (w .tail)) o) [
-        | inl x ↦ rw (h, is-gt (w .head) (v .head) (lt-true (v .head) (w .head) x))
-        | inr y ↦ (let t = both-true (leZ (v .head) (w .head)) (ltZ (v .tail) (w .tail)) y .1 in
-            rw (h, is-ge (w .tail) (v .tail) (omega (arith, lt-true (v .tail) (w .tail) t)), and-false))
-      ]
+use Rattle.axis.specs.Questions.{known, ends, inOrder, nearZero, nearOrLong}
+use Rattle.axis.proofs.Questions.{near-by-seconds, near-ends, of-seven}
 
 -- seconds near zero, and nanoseconds of a second, are a duration
 near-value : (kind : ℤ) (v : Value) → isDuration kind ≡ true → negPart (v .head) ≤ 4000000000 + posPart (v .head) →
@@ -61,29 +28,64 @@ near-value kind v d l m t =
     let q : leZ (v .head) (pos 315576000000) ≡ true = is-le (v .head) (pos 315576000000) (omega arith) in
     of-durations kind v d ∙ rw (p, q, t)
 
-module _ (a : Axis) (o : earlier (start a) (end a) ≡ true) where
-  none : ends a ≡ true → nearOrLong a ≡ true → firstNo (axisQuestions true a) ≡ 0
-  unfolding inOrder
-  none e n = rw (known-by a (start a) (both-ends a e .first), e, not-after (start a) (end a) o, n)
+-- at most m, and not m
+below : (k : ℤ) (m : ℕ) → isNumber k m ≡ false → posPart k ≤ m + negPart k → posPart k < m + negPart k
+below k m e h = elim (not-both (leZ (pos m) k) (leZ k (pos m)) e) [
+  | inl f ↦ omega (arith, le-false (pos m) k f)
+  | inr f ↦ absurd (let z : ⊥ = omega (arith, le-false k (pos m) f) in z)
+]
 
-  pub other-usual : ends a ≡ true → isDuration (a .kind) ≡ false → firstNo (axisQuestions true a) ≡ 0
-  other-usual e d = none e (sym (other-kind a d))
+module _ (a : Axis) where
+  -- ---- question 3, of a kind but 7
+  times-left : known a ≡ true → isDuration (a .kind) ≡ false → overDates (a .kind) ≡ false → overDateTimes (a .kind) ≡ true
+  unfolding known overDates
+  times-left k n d =
+      let (l, h) = within-true (pos 1) (a .kind) (pos 8) k in
+      let (x, y) = either-false (within (pos 1) (a .kind) (pos 3)) (isNumber (a .kind) 8) d in
+      let least : leZ (pos 4) (a .kind) ≡ true = elim (not-both (leZ (pos 1) (a .kind)) (leZ (a .kind) (pos 3)) x) [
+        | inl f ↦ absurd (let z : ⊥ = omega (arith, le-false (pos 1) (a .kind) f) in z)
+        | inr f ↦ is-le (pos 4) (a .kind) (omega (arith, le-false (a .kind) (pos 3) f))
+      ] in
+      let eight = below (a .kind) 8 y (omega arith) in
+      let seven = below (a .kind) 7 n (omega arith) in
+      rw (least, is-le (a .kind) (pos 6) (omega arith))
 
-  -- the seconds of start are the lesser, and those of end the greater
+  -- both ends, with at most so many nanoseconds
+  abbrev within-days : Bool → Bool
+  within-days dates = let most = cond dates (pos 0) (pos 86399999999999) in
+      (isDay (a .«start_head») && within (pos 0) (a .«start_tail») most)
+      && (isDay (a .«end_head») && within (pos 0) (a .«end_tail») most)
+
+  pub day-ends : known a ≡ true → isDuration (a .kind) ≡ false → within-days (overDates (a .kind)) ≡ ends a
+  unfolding ends
+  day-ends k n = go (overDates (a .kind)) refl
+    where
+      go : (b : Bool) → overDates (a .kind) ≡ b → within-days b ≡ isValue (a .kind) (start a) && isValue (a .kind) (end a)
+      go true e = rw (of-dates (a .kind) (start a) e, of-dates (a .kind) (end a) e)
+      go false e = let t = times-left k n e in rw (of-date-times (a .kind) (start a) t, of-date-times (a .kind) (end a) t)
+
+  -- ---- durations: by one row of tests, where start's seconds are the least, and end's the greatest
+  -- start's head is no more than end's
+  heads : inOrder a ≡ true →
+      posPart (a .«start_head») + negPart (a .«end_head») ≤ posPart (a .«end_head») + negPart (a .«start_head»)
+  unfolding inOrder earlier
+  heads o = lt-false (a .«end_head») (a .«start_head») (either-false _ _ (not-true _ o) .0)
+
   abbrev seconds : Bool
-  seconds = leZ (negsuc 3999999999) (a .«start_head») && ltZ (a .«end_head») (pos 4000000000)
+  seconds = (inOrder a && leZ (negsuc 3999999999) (a .«start_head»)) && ltZ (a .«end_head») (pos 4000000000)
 
   abbrev nanos : ℤ → Bool
   nanos t = within (pos 0) t (pos 999999999)
 
-  pub span-usual : isDuration (a .kind) ≡ true → (seconds && nanos (a .«start_tail»)) && nanos (a .«end_tail») ≡ true →
-      firstNo (axisQuestions true a) ≡ 0
+  pub spans-usual : isDuration (a .kind) ≡ true → (seconds && nanos (a .«start_tail»)) && nanos (a .«end_tail») ≡ true →
+      (ends a ≡ true) × (inOrder a ≡ true) × (nearOrLong a ≡ true)
   unfolding ends
-  span-usual d r =
+  spans-usual d r =
       let (w, u) = both-true (seconds && nanos (a .«start_tail»)) (nanos (a .«end_tail»)) r in
-      let (z, t) = both-true seconds (nanos (a .«start_tail»)) w in
-      let (p, q) = both-true (leZ (negsuc 3999999999) (a .«start_head»)) (ltZ (a .«end_head») (pos 4000000000)) z in
-      let h = heads (start a) (end a) o in
+      let (v, t) = both-true seconds (nanos (a .«start_tail»)) w in
+      let (z, q) = both-true _ (ltZ (a .«end_head») (pos 4000000000)) v in
+      let (o, p) = both-true (inOrder a) (leZ (negsuc 3999999999) (a .«start_head»)) z in
+      let h = heads o in
       let least = le-true (negsuc 3999999999) (a .«start_head») p in
       let most = lt-true (a .«end_head») (pos 4000000000) q in
       let s : isValue (a .kind) (start a) ≡ true = near-value (a .kind) (start a) d (omega arith) (omega arith) t in
@@ -92,4 +94,10 @@ module _ (a : Axis) (o : earlier (start a) (end a) ≡ true) where
       let m : leZ (negsuc 3999999999) (a .«end_head») ≡ true = is-le (negsuc 3999999999) (a .«end_head») (omega arith) in
       let x : nearZero (start a) ≡ true = sym (near-by-seconds (start a) (of-seven a (start a) d s)) ∙ rw (p, l) in
       let y : nearZero (end a) ≡ true = sym (near-by-seconds (end a) (of-seven a (end a) d e)) ∙ rw (m, q) in
-      none (rw (s, e)) (sym (near-ends a (rw (x, y))))
+      (rw (s, e), o, sym (near-ends a (rw (x, y))))
+
+  -- kind 7 is known
+  pub seven-known : isDuration (a .kind) ≡ true → known a ≡ true
+  unfolding known
+  seven-known d = let (l, h) = within-true (pos 7) (a .kind) (pos 7) d in
+      rw (is-le (pos 1) (a .kind) (omega arith), is-le (a .kind) (pos 8) (omega arith))

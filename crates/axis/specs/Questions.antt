@@ -9,7 +9,7 @@ use Rattle.laws.specs.Asking.{Question, ask, asked}
 use Rattle.laws.specs.Numbers.{minus, within, isNumber}
 use Rattle.calendar.specs.Questions.{lastDay, isDay}
 use Rattle.values.specs.declared.Value.{Value}
-use Rattle.values.specs.Values.{isDuration, isValue, earlier}
+use Rattle.values.specs.Values.{overDates, isDuration, isValue, earlier}
 use Rattle.values.specs.Differences.{nanoseconds}
 use Rattle.axis.specs.declared.Axis.{Axis}
 use Rattle.axis.specs.declared.Limits.{Limits}
@@ -19,7 +19,7 @@ use Rattle.axis.specs.declared.Hint.{Hint}
 use Rattle.axis.specs.declared.Hint.the-variants.{Bold, Light}
 use Rattle.axis.specs.declared.ValueAnswer.{ValueAnswer}
 use Rattle.axis.specs.declared.ValueAnswer.the-variants.{Refused, None, At}
-use Rattle.axis.specs.Axes.{start, end, spanOf}
+use Rattle.axis.specs.Axes.{start, end, spanOf, excluded}
 
 -- the kind's number
 abbrev pub isKind : ℕ → Axis → Bool
@@ -49,6 +49,14 @@ ends a = isValue (a .kind) (start a) && isValue (a .kind) (end a)
 -- 4. Is start no later than end?
 unfoldable pub inOrder : Axis → Bool
 inOrder a = not (earlier (end a) (start a))
+
+-- two values, number by number
+abbrev pub equals : Value → Value → Bool
+equals v w = within (w .head) (v .head) (w .head) && within (w .tail) (v .tail) (w .tail)
+
+-- 14, asked after 4. Does the end belong to the axis, or is it excluded on one over dates, and not the start?
+unfoldable pub excludable : Axis → Bool
+excludable a = not (excluded a) || (overDates (a .kind) && not (equals (end a) (start a)))
 
 -- 5. Kind 7: are both ends within 4 × 10^18 ns of zero, or is the span above 2^63 - 1 ns?
 unfoldable pub nearZero : Value → Bool
@@ -107,10 +115,6 @@ abbrev pub isIndex : ℤ → Bool
 isIndex i = within (pos 0) i (pos lastDay)
 
 -- 9. To map: is start before end, or the value equal to start?
-abbrev pub equals : Value → Value → Bool
-equals v w = within (w .head) (v .head) (w .head) && within (w .tail) (v .tail) (w .tail)
-
--- of an axis and a value
 unfoldable pub mappable : Axis → Value → Bool
 mappable a v = earlier (start a) (end a) || equals v (start a)
 
@@ -141,7 +145,8 @@ plainQuestions has a =
     ∷ (ask 2 has
     ∷ (ask 3 (ends a)
     ∷ (ask 4 (inOrder a)
-    ∷ [])))
+    ∷ (ask 14 (excludable a)
+    ∷ []))))
 
 -- and of those that kind 7 has: question 5 comes last
 abbrev pub axisQuestions : Bool → Axis → List Question

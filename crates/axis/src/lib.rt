@@ -1,25 +1,28 @@
 // An axis, its limits and its hints by value, and the questions that come before an answer: one test for each, and the
-// first rows of them. Also the span of an axis and a value's offset on it.
+// first rows of them. Also the span of an axis, a value's offset on it, and the axis by which it counts and lists.
 use calendar::LAST_DAY;
 use values::Nanoseconds;
 use values::Value;
 ghost use mathlib.Core.Path.{_≡_};
-ghost use mathlib.Core.Bool.{true};
+ghost use mathlib.Core.Bool.{true, false, cond};
 ghost use lib.IntN.{pos};
 ghost use Rattle.laws.specs.Asking.{thenAsk, firstNo};
-ghost use Rattle.values.specs.Values.{isValue};
+ghost use Rattle.values.specs.Values.{overDates, isDuration, isValue};
 ghost use Rattle.values.specs.Differences.{nanosecondsOf, wholeDays};
-ghost use Rattle.axis.specs.Axes.{axisOf, start, end, spanOf, offsetOf};
-ghost use Rattle.axis.specs.Questions.{known, hasUnmap, hasPeriod, hasIndex, ends, inOrder, nearZero, nearOrLong};
+ghost use Rattle.axis.specs.Axes.{axisOf, start, end, spanOf, offsetOf, excluded, closed};
+ghost use Rattle.axis.specs.Questions.{known, hasUnmap, hasPeriod, hasIndex, ends, inOrder, excludable};
+ghost use Rattle.axis.specs.Questions.{nearZero, nearOrLong};
 ghost use Rattle.axis.specs.Questions.{boldHint, lightHint, hintOn, isPixel, pixels, differ, unmapPixels};
 ghost use Rattle.axis.specs.Questions.{valueOn, isIndex, mappable, fitsI32, plainQuestions, axisQuestions};
 
+// The end belongs to the axis where end_excluded is 0.
 pub struct Axis {
     pub kind: i64,
     pub start_head: i64,
     pub start_tail: i64,
     pub end_head: i64,
     pub end_tail: i64,
+    pub end_excluded: i64,
 }
 
 // The pixels of start and of end.
@@ -52,8 +55,15 @@ pub enum ValueAnswer {
     At(Value),
 }
 
-pub fn axis_of(kind: i64, start_head: i64, start_tail: i64, end_head: i64, end_tail: i64) -> Axis
-    ensures { λ r. ⌜ r ≡ axisOf kind «start_head» «start_tail» «end_head» «end_tail» ⌝ }
+pub fn axis_of(
+    kind: i64,
+    start_head: i64,
+    start_tail: i64,
+    end_head: i64,
+    end_tail: i64,
+    end_excluded: i64,
+) -> Axis
+    ensures { λ r. ⌜ r ≡ axisOf kind «start_head» «start_tail» «end_head» «end_tail» «end_excluded» ⌝ }
 {
     Axis {
         kind: kind,
@@ -61,6 +71,7 @@ pub fn axis_of(kind: i64, start_head: i64, start_tail: i64, end_head: i64, end_t
         start_tail: start_tail,
         end_head: end_head,
         end_tail: end_tail,
+        end_excluded: end_excluded,
     }
 }
 
@@ -130,13 +141,51 @@ fn ends(a: Axis) -> bool
     values::is_value(a.kind, start(a)) & values::is_value(a.kind, end(a))
 }
 
-// Question 4.
+// Question 4. Most axes tell by the heads.
 fn in_order(a: Axis) -> bool
     ensures { λ r. ⌜ r ≡ inOrder a ⌝ }
 {
-    let s = start(a);
-    let e = end(a);
-    !values::earlier(e, s)
+    if a.start_head < a.end_head {
+        return true;
+    }
+    (a.start_head <= a.end_head) & (a.start_tail <= a.end_tail)
+}
+
+// Does the end not belong to the axis?
+fn excluded(a: Axis) -> bool
+    ensures { λ r. ⌜ r ≡ excluded a ⌝ }
+{
+    !((0 <= a.end_excluded) & (a.end_excluded <= 0))
+}
+
+// Question 14.
+fn excludable(a: Axis) -> bool
+    ensures { λ r. ⌜ r ≡ excludable a ⌝ }
+{
+    if !excluded(a) {
+        return true;
+    }
+    (((1 <= a.kind) & (a.kind <= 3)) | ((8 <= a.kind) & (a.kind <= 8)))
+        & !(((a.start_head <= a.end_head) & (a.end_head <= a.start_head))
+            & ((a.start_tail <= a.end_tail) & (a.end_tail <= a.start_tail)))
+}
+
+// The axis by which an axis counts and lists: the one that ends a day earlier, where the end is excluded.
+pub fn closed(a: Axis) -> Axis
+    requires { ⌜ ends a ≡ true ⌝ }
+    ensures { λ r. ⌜ r ≡ closed a ⌝ }
+{
+    if !excluded(a) {
+        return a;
+    }
+    axis_of(
+        a.kind,
+        a.start_head,
+        a.start_tail,
+        a.end_head - 1,
+        a.end_tail,
+        0,
+    )
 }
 
 // From start to end, in nanoseconds.
@@ -277,43 +326,100 @@ pub fn fits_i32(n: i64) -> bool
     (-2147483648 <= n) & (n <= 2147483647)
 }
 
-// A short yes for most axes: start is before end, and no question refuses. Durations are near zero by start's seconds,
-// the least of all, and by end's.
-fn usual(a: Axis) -> bool
-    ensures { λ r. ⌜ (r ≡ true → firstNo (axisQuestions true a) ≡ 0) ⌝ }
+// The most nanoseconds of a day that a value has.
+fn tail_most(kind: i64) -> i64
+    ensures { λ r. ⌜ r ≡ cond (overDates kind) (pos 0) (pos 86399999999999) ⌝ }
 {
-    if !values::earlier(start(a), end(a)) {
-        return false;
-    }
-    if values::is_duration(a.kind) {
-        return (-4000000000 <= a.start_head)
-            & (a.end_head < 4000000000)
-            & ((0 <= a.start_tail) & (a.start_tail <= 999999999))
-            & ((0 <= a.end_tail) & (a.end_tail <= 999999999));
-    }
-    ends(a)
-}
-
-// The questions of an axis; has: the kind has the operation.
-pub fn plain_refusal(a: Axis, has: bool) -> u8
-    ensures { λ r. ⌜ r ≡ firstNo (plainQuestions has a) ⌝ }
-{
-    let q = then_ask(0, 1, known(a));
-    let q = then_ask(q, 2, has);
-    let q = then_ask(q, 3, ends(a));
-    then_ask(q, 4, in_order(a))
-}
-
-// The same, for operations that kind 7 has. Question 5 is asked of real values in order.
-pub fn axis_refusal(a: Axis, has: bool) -> u8
-    ensures { λ r. ⌜ r ≡ firstNo (axisQuestions has a) ⌝ }
-{
-    if has & usual(a) {
+    if ((1 <= kind) & (kind <= 3)) | ((8 <= kind) & (kind <= 8)) {
         return 0;
     }
-    let q = plain_refusal(a, has);
+    86399999999999
+}
+
+// Question 3 of days: the kinds but 7 differ in the nanoseconds alone.
+fn day_ends(a: Axis) -> bool
+    requires { ⌜ (known a ≡ true) × (isDuration (a .kind) ≡ false) ⌝ }
+    ensures { λ r. ⌜ r ≡ ends a ⌝ }
+{
+    let most = tail_most(a.kind);
+    ((1 <= a.start_head)
+        & (a.start_head <= LAST_DAY)
+        & ((0 <= a.start_tail) & (a.start_tail <= most)))
+        & ((1 <= a.end_head)
+            & (a.end_head <= LAST_DAY)
+            & ((0 <= a.end_tail) & (a.end_tail <= most)))
+}
+
+// The questions of an axis; has: the kind has the operation, and then it is not 7.
+pub fn plain_refusal(a: Axis, has: bool) -> u8
+    requires { ⌜ (has ≡ true → isDuration (a .kind) ≡ false) ⌝ }
+    ensures { λ r. ⌜ r ≡ firstNo (plainQuestions has a) ⌝ }
+{
+    if !known(a) {
+        return 1;
+    }
+    if !has {
+        return 2;
+    }
+    if !day_ends(a) {
+        return 3;
+    }
+    if !in_order(a) {
+        return 4;
+    }
+    if !excludable(a) {
+        return 14;
+    }
+    0
+}
+
+// A short yes for most durations: they are in order, and near zero by start's seconds, the least of all, and by end's.
+fn usual_durations(a: Axis) -> bool
+    ensures { λ r. ⌜ (r ≡ true → isDuration (a .kind) ≡ true → (ends a ≡ true) × (inOrder a ≡ true)
+        × (nearOrLong a ≡ true)) ⌝ }
+{
+    in_order(a)
+        & (-4000000000 <= a.start_head)
+        & (a.end_head < 4000000000)
+        & ((0 <= a.start_tail) & (a.start_tail <= 999999999))
+        & ((0 <= a.end_tail) & (a.end_tail <= 999999999))
+}
+
+// The questions of durations, one line for each. Question 5 is asked of real values in order.
+fn ask_durations(a: Axis, has: bool) -> u8
+    requires { ⌜ isDuration (a .kind) ≡ true ⌝ }
+    ensures { λ r. ⌜ r ≡ firstNo (axisQuestions has a) ⌝ }
+{
+    let q = then_ask(0, 2, has);
+    let q = then_ask(q, 3, ends(a));
+    let q = then_ask(q, 4, in_order(a));
+    let q = then_ask(q, 14, excludable(a));
     if q != 0 {
         return q;
     }
     then_ask(q, 5, near_or_long(a))
+}
+
+// The same, most of them by the short yes. An excluded end never passes.
+fn durations_refusal(a: Axis, has: bool) -> u8
+    requires { ⌜ isDuration (a .kind) ≡ true ⌝ }
+    ensures { λ r. ⌜ r ≡ firstNo (axisQuestions has a) ⌝ }
+{
+    if excluded(a) {
+        return ask_durations(a, has);
+    }
+    if has & usual_durations(a) {
+        return 0;
+    }
+    ask_durations(a, has)
+}
+
+// The questions of an axis, for operations that kind 7 has. Question 5 is of durations alone.
+pub fn axis_refusal(a: Axis, has: bool) -> u8
+    ensures { λ r. ⌜ r ≡ firstNo (axisQuestions has a) ⌝ }
+{
+    if values::is_duration(a.kind) {
+        return durations_refusal(a, has);
+    }
+    plain_refusal(a, has)
 }

@@ -11,6 +11,8 @@ use borrow.Author.Tests.{ltb-false, not-true}
 use lib.IntN.{ℤ, pos}
 use lib.Signed.{ltZ, leZ}
 use Rattle.laws.specs.Numbers.{within, posPart, negPart}
+use Rattle.laws.specs.Asking.{firstNo}
+use Rattle.laws.proofs.Asked.{told}
 use Rattle.laws.proofs.Signed.{le-true, is-ge}
 use Rattle.laws.proofs.Tests.{both-true, either-false, bit}
 use Rattle.calendar.specs.declared.Date.{Date}
@@ -23,9 +25,10 @@ use Rattle.values.specs.Values.{overDates, isDuration}
 use Rattle.values.proofs.Numbers.{is-le, is-gt, either-true, or-true}
 use Rattle.values.proofs.Values.{dates-no-duration, DayValue, date-value, day-value}
 use Rattle.axis.specs.declared.Axis.{Axis}
-use Rattle.axis.specs.Axes.{start, end}
-use Rattle.axis.specs.Questions.{isKind, known, hasPeriod, hasIndex, hasUnmap, ends, valueOn}
+use Rattle.axis.specs.Axes.{start, end, closed}
+use Rattle.axis.specs.Questions.{isKind, known, hasPeriod, hasIndex, hasUnmap, ends, valueOn, plainQuestions}
 use Rattle.axis.proofs.Axes.{both-ends}
+use Rattle.axis.proofs.ClosedAxes.{same-kind, plain-passed}
 use Rattle.counting.specs.Counting.{Dated, monthly, yearly, weekly, fromDay, toDay, firstDate, dateOn, origin, position}
 use Rattle.counting.specs.Counting.{sizeOf}
 use Rattle.counting.proofs.Sizes.{size-is}
@@ -71,13 +74,24 @@ pub unmap-dated : (a : Axis) → hasUnmap a ≡ true → isDuration (a .kind) �
 unfolding hasUnmap
 unmap-dated a e = not-true _ e
 
-index-dated : (a : Axis) → hasIndex a ≡ true → isDuration (a .kind) ≡ false
+pub index-dated : (a : Axis) → hasIndex a ≡ true → isDuration (a .kind) ≡ false
 unfolding hasIndex hasPeriod
 index-dated a e = either-false (isKind 4 a) (isDuration (a .kind)) (not-true _ e) .1
 
 -- questions 2 and 3 of indices
 pub dated : (a : Axis) → hasIndex a ≡ true → ends a ≡ true → Dated a
 dated a h r = record { real = r; dates = index-dated a h }
+
+-- the axis by which an axis counts, and values on it
+pub closed-dated : (a : Axis) (has : Bool) → isDuration (a .kind) ≡ false → firstNo (plainQuestions has a) ≡ 0 → Dated (closed a)
+closed-dated a has e z = record {
+  real = told 3 (plainQuestions has (closed a)) tt (plain-passed a has z);
+  dates = rw (same-kind a) e;
+}
+
+pub value-on : (a : Axis) (v : Value) → valueOn (closed a) v ≡ valueOn a v
+unfolding valueOn
+value-on a v = rw (same-kind a)
 
 -- ---- values
 pub is-day : (v : Value) → DayValue v → isDay (v .head) ≡ true

@@ -1,23 +1,23 @@
 -- What the operations answer, by where a value stands, and the axis of an accepted call. Assumes nothing.
-use mathlib.Core.Path.{_≡_, refl}
+use mathlib.Core.Path.{_≡_, refl, _∙_}
 use mathlib.Core.Bool.{Bool, true, false, cond, _&&_}
 use mathlib.Core.List.{List}
 use Prim.Native.Nat.{ℕ, zero, suc, _+_, _-_, _≤_, _<_}
 use native.Mathlib.Omega.{arith}
 use lib.Dec.{leb}
 use borrow.Author.Tests.{le-leb, lt-leb, lt-ltb, le-ltb}
-use Rattle.laws.specs.Asking.{Question, firstNo, unless, asked}
-use Rattle.laws.proofs.Asked.{told}
+use Rattle.laws.specs.Asking.{Question, ask, firstNo, unless, asked}
+use Rattle.laws.proofs.Asked.{told, fewer}
 use Rattle.values.specs.declared.Value.{Value}
 use Rattle.axis.specs.declared.Axis.{Axis}
-use Rattle.axis.specs.Axes.{end}
-use Rattle.axis.specs.Questions.{valueOn}
+use Rattle.axis.specs.Axes.{end, closed}
+use Rattle.axis.specs.Questions.{hasIndex, valueOn}
 use Rattle.discrete.specs.declared.NumberAnswer.{NumberAnswer}
 use Rattle.discrete.specs.declared.NumberAnswer.the-variants as number
 use Rattle.axis.specs.declared.ValueAnswer.the-variants as value
 use Rattle.counting.specs.Counting.{Dated, origin, position, sizeOf}
 use Rattle.counting.proofs.Sizes.{size-is}
-use Rattle.counting.proofs.Counting.{dated}
+use Rattle.counting.proofs.Counting.{index-dated, closed-dated, value-on}
 use Rattle.discrete.specs.Indices.{isIndexed, indexOf, valueAt}
 use Rattle.discrete.specs.Answers.{sizeQuestions, valueQuestions, indexIn, nextIn, previousIn, valueIn}
 
@@ -30,15 +30,15 @@ pub counted-as : (row : List Question) (n : NumberAnswer) (i : ℕ) → asked ro
     (firstNo row ≡ 0) × (n ≡ number.Is i)
 counted-as row n i e = number-is (firstNo row) n i e
 
--- ---- the axis of an accepted call
-pub counted : (a : Axis) → firstNo (sizeQuestions a) ≡ 0 → Dated a
-counted a e = dated a (told 2 (sizeQuestions a) tt e) (told 3 (sizeQuestions a) tt e)
+-- ---- the axis by which an accepted call counts
+pub counted : (a : Axis) → firstNo (sizeQuestions a) ≡ 0 → Dated (closed a)
+counted a e = closed-dated a (hasIndex a) (index-dated a (told 2 (sizeQuestions a) tt e)) e
 
--- and of a value on it
-pub value-asked : (a : Axis) (v : Value) → firstNo (valueQuestions a v) ≡ 0 → Dated a × (valueOn a v ≡ true)
+-- and a value on it
+pub value-asked : (a : Axis) (v : Value) → firstNo (valueQuestions a v) ≡ 0 → Dated (closed a) × (valueOn (closed a) v ≡ true)
 value-asked a v none =
-    let row = valueQuestions a v in
-    (dated a (told 2 row tt none) (told 3 row tt none), told 8 row tt none)
+    let (s, o) = fewer (sizeQuestions a) (ask 8 (valueOn a v)) (omega arith) none in
+    (counted a s, value-on a v ∙ o)
 
 -- ---- neighbours, by where a value stands
 module _ (a : Axis) (v : Value) where

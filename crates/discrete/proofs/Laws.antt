@@ -19,9 +19,10 @@ use Rattle.calendar.specs.Questions.{isDay}
 use Rattle.values.proofs.Numbers.{is-le}
 use Rattle.values.proofs.Values.{date-value}
 use Rattle.axis.specs.declared.Axis.{Axis}
-use Rattle.axis.specs.Axes.{start}
+use Rattle.axis.specs.Axes.{start, closed}
 use Rattle.axis.specs.Questions.{isIndex, valueOn, checked}
 use Rattle.axis.proofs.Questions.{index-range}
+use Rattle.axis.proofs.ClosedAxes.{same-kind, same-start}
 use Rattle.discrete.specs.declared.NumberAnswer.the-variants as number
 use Rattle.axis.specs.declared.ValueAnswer.the-variants as value
 use Rattle.discrete.specs.declared.StepAnswer.the-variants as step
@@ -32,7 +33,7 @@ use Rattle.discrete.specs.Answers.{sizeQuestions, valueQuestions, indexQ
 use Rattle.discrete.specs.Answers.{indexIn, nextIn, previousIn, valueIn, stepped, sizeAnswer, indexAnswer}
 use Rattle.discrete.specs.Answers.{fromIndexAnswer, nextAnswer, previousAnswer, valuesAnswer}
 use Rattle.discrete.specs.Walking.{cursorAt, onward, walk, valuesFrom, Inside}
-use Rattle.counting.proofs.Counting.{size-most, origin-days, position-days, position-weeks, starts, on-day, is-day}
+use Rattle.counting.proofs.Counting.{size-most, origin-days, position-days, position-weeks, starts, on-day, is-day, value-on}
 use Rattle.discrete.proofs.Indices as indices
 use Rattle.discrete.proofs.Indices.{value-months, value-weeks, value-days, month-first, week-first, week-later}
 use Rattle.laws.proofs.Asked.{more, fewer}
@@ -107,54 +108,58 @@ module _ (a : Axis) where
   at-row i s h = more (sizeQuestions a) (ask 8 (isIndex (pos i))) ∙ ap (λ (k : ℕ). thenAsk k 8 (isIndex (pos i))) s
       ∙ ap (λ (b : Bool). cond b 0 8) (index-at i h)
 
-  sized : (n : ℕ) → sizeAnswer a ≡ number.Is n → (firstNo (sizeQuestions a) ≡ 0) × (sizeOf a ≡ n)
+  sized : (n : ℕ) → sizeAnswer a ≡ number.Is n → (firstNo (sizeQuestions a) ≡ 0) × (sizeOf (closed a) ≡ n)
   unfolding sizeAnswer
   sized n e =
-      let (r, f) = counted-as (sizeQuestions a) (number.Is (sizeOf a)) n e in
-      (r, one-number (sizeOf a) n f)
+      let (r, f) = counted-as (sizeQuestions a) (number.Is (sizeOf (closed a))) n e in
+      (r, one-number (sizeOf (closed a)) n f)
 
   -- from_index where only question 10 is left
   from-place : (i : ℕ) → firstNo (sizeQuestions a) ≡ 0 → i ≤ 3652059 → fromIndexAnswer a (pos i)
-      ≡ checked (value.At (valueAt a i))
+      ≡ checked (value.At (valueAt (closed a) i))
   unfolding fromIndexAnswer
-  from-place i s h = passed (indexQuestions a (pos i)) (value.At (valueAt a i)) (at-row i s h)
+  from-place i s h = passed (indexQuestions a (pos i)) (value.At (valueAt (closed a) i)) (at-row i s h)
 
   -- a value that from_index answers
   record Listed (i : ℕ) (v : Value) : Type 0 where
     row : firstNo (sizeQuestions a) ≡ 0
     low : i ≤ 3652059
-    is : valueAt a i ≡ v
+    is : valueAt (closed a) i ≡ v
     day : isDay (v .head) ≡ true
 
   listed : (i : ℤ) (v : Value) → fromIndexAnswer a i ≡ value.At v → Listed (posPart i) v
   unfolding fromIndexAnswer
   listed i v e =
-      let (r, (f, d)) = answered-at (indexQuestions a i) (value.At (valueAt a (posPart i))) v e in
+      let (r, (f, d)) = answered-at (indexQuestions a i) (value.At (valueAt (closed a) (posPart i))) v e in
       let (s, k) = fewer (sizeQuestions a) (ask 8 (isIndex i)) (omega arith) r in
-      record { row = s; low = index-range i k .1; is = one-value (valueAt a (posPart i)) v f; day = d }
+      record { row = s; low = index-range i k .1; is = one-value (valueAt (closed a) (posPart i)) v f; day = d }
 
   -- a value of an index: it is one of the kind, and stands there
   record Standing (i : ℕ) (v : Value) : Type 0 where
     row : firstNo (valueQuestions a v) ≡ 0
-    place : position a v ≡ origin a + i
+    place : position (closed a) v ≡ origin (closed a) + i
 
-  standing : (i : ℕ) (v : Value) → firstNo (sizeQuestions a) ≡ 0 → valueAt a i ≡ v → isDay (v .head) ≡ true → Standing i v
+  standing : (i : ℕ) (v : Value) → firstNo (sizeQuestions a) ≡ 0 → valueAt (closed a) i ≡ v → isDay (v .head) ≡ true →
+      Standing i v
   standing i v s e d =
       let c = counted a s in
-      let o = of-kind a c i (ap (λ (w : Value). isDay (w .head)) e ∙ d) in
-      record { row = on-row v s (ap (valueOn a) (sym e) ∙ o); place = ap (position a) (sym e) ∙ at-index a c i }
+      let o = of-kind (closed a) c i (ap (λ (w : Value). isDay (w .head)) e ∙ d) in
+      record {
+        row = on-row v s (sym (value-on a v) ∙ ap (valueOn (closed a)) (sym e) ∙ o);
+        place = ap (position (closed a)) (sym e) ∙ at-index (closed a) c i;
+      }
 
   index-there : (i : ℕ) (v : Value) → Standing i v → indexAnswer a v ≡ number.Is i
   unfolding indexAnswer
   index-there i v t =
-      let e : position a v - origin a ≡ i = omega (arith, t .place) in
-      ap (λ (k : ℕ). unless k number.Refused (indexIn a v)) (t .row)
-      ∙ sym (index-is a v (omega (arith, t .place)))
+      let e : position (closed a) v - origin (closed a) ≡ i = omega (arith, t .place) in
+      ap (λ (k : ℕ). unless k number.Refused (indexIn (closed a) v)) (t .row)
+      ∙ sym (index-is (closed a) v (omega (arith, t .place)))
       ∙ ap number.Is e
 
 -- ---- RANGES of the numbers that are answered
 pub size-range : (a : Axis) (n : ℕ) → sizeAnswer a ≡ number.Is n → n ≤ 3652059
-size-range a n e = let (r, f) = sized a n e in omega (arith, f, size-most a (counted a r))
+size-range a n e = let (r, f) = sized a n e in omega (arith, f, size-most (closed a) (counted a r))
 
 -- ---- INDICES: index_of the value of an index is that index. On every kind, wherever from_index answers.
 pub index-of-from-index : (a : Axis) (i : ℤ) (v : Value) → fromIndexAnswer a i ≡ value.At v →
@@ -168,18 +173,19 @@ index-of-from-index a i v e =
 module _ (a : Axis) (v : Value) (i : ℕ) (has : indexAnswer a v ≡ number.Is i) where
   record Indexed : Type 0 where
     row : firstNo (sizeQuestions a) ≡ 0
-    on : valueOn a v ≡ true
-    from : origin a ≤ position a v
-    at : position a v - origin a ≡ i
+    on : valueOn (closed a) v ≡ true
+    from : origin (closed a) ≤ position (closed a) v
+    at : position (closed a) v - origin (closed a) ≡ i
     most : i ≤ 3652058
 
   indexed : Indexed
   unfolding indexAnswer indexOf
   indexed =
-      let (r, f) = counted-as (valueQuestions a v) (indexIn a v) i has in
+      let (r, f) = counted-as (valueQuestions a v) (indexIn (closed a) v) i has in
       let (s, o) = fewer (sizeQuestions a) (ask 8 (valueOn a v)) (omega arith) r in
-      let (h, e) = index-in a v i f in
-      record { row = s; on = o; from = h; at = e; most = omega (arith, e, indices.index-most a (counted a s) v o) }
+      let (h, e) = index-in (closed a) v i f in
+      let on = value-on a v ∙ o in
+      record { row = s; on = on; from = h; at = e; most = omega (arith, e, indices.index-most (closed a) (counted a s) v on) }
 
   pub index-most : i ≤ 3652058
   index-most = indexed .most
@@ -193,17 +199,18 @@ module _ (a : Axis) (v : Value) (i : ℕ) (has : indexAnswer a v ≡ number.Is i
   unfolding nextAnswer previousAnswer
   next-index w e =
       let x = indexed in
-      let (r, (f, d)) = answered-at (valueQuestions a v) (nextIn a v) w e in
-      let (l, g) = next-in a v w f in
-      let here : valueAt a (i + 1) ≡ w = ap (λ (k : ℕ). valueAt a (k + 1)) (sym (x .at)) ∙ g in
+      let (r, (f, d)) = answered-at (valueQuestions a v) (nextIn (closed a) v) w e in
+      let (l, g) = next-in (closed a) v w f in
+      let here : valueAt (closed a) (i + 1) ≡ w = ap (λ (k : ℕ). valueAt (closed a) (k + 1)) (sym (x .at)) ∙ g in
       let t = standing a (i + 1) w (x .row) here d in
-      let before : position a w - origin a - 1 ≡ i = omega (arith, t .place) in
+      let before : position (closed a) w - origin (closed a) - 1 ≡ i = omega (arith, t .place) in
       record {
         place = from-place a (i + 1) (x .row) (omega (arith, x .most)) ∙ ap (λ (u : Value). checked (value.At u)) here
             ∙ sym (in-range w d);
         index = index-there a (i + 1) w t;
-        back = passed (valueQuestions a w) (previousIn a w) (t .row)
-            ∙ ap checked (previous-is a w (omega (arith, t .place)) ∙ ap (λ (k : ℕ). value.At (valueAt a k)) before)
+        back = passed (valueQuestions a w) (previousIn (closed a) w) (t .row)
+            ∙ ap checked (previous-is (closed a) w (omega (arith, t .place))
+            ∙ ap (λ (k : ℕ). value.At (valueAt (closed a) k)) before)
             ∙ sym (from-place a i (x .row) (omega (arith, x .most)));
       }
 
@@ -216,18 +223,18 @@ module _ (a : Axis) (v : Value) (i : ℕ) (has : indexAnswer a v ≡ number.Is i
   unfolding nextAnswer previousAnswer
   previous-index w e =
       let x = indexed in
-      let (r, (f, d)) = answered-at (valueQuestions a v) (previousIn a v) w e in
-      let (l, g) = previous-in a v w f in
-      let here : valueAt a (i - 1) ≡ w = ap (λ (k : ℕ). valueAt a (k - 1)) (sym (x .at)) ∙ g in
+      let (r, (f, d)) = answered-at (valueQuestions a v) (previousIn (closed a) v) w e in
+      let (l, g) = previous-in (closed a) v w f in
+      let here : valueAt (closed a) (i - 1) ≡ w = ap (λ (k : ℕ). valueAt (closed a) (k - 1)) (sym (x .at)) ∙ g in
       let t = standing a (i - 1) w (x .row) here d in
-      let after : position a w - origin a + 1 ≡ i = omega (arith, t .place, x .at) in
+      let after : position (closed a) w - origin (closed a) + 1 ≡ i = omega (arith, t .place, x .at) in
       record {
         place = from-place a (i - 1) (x .row) (omega (arith, x .most)) ∙ ap (λ (u : Value). checked (value.At u)) here
             ∙ sym (in-range w d);
         index = index-there a (i - 1) w t;
-        back = λ n s h. passed (valueQuestions a w) (nextIn a w) (t .row)
-            ∙ ap checked (next-is a w (omega (arith, t .place)) (omega (arith, after, sized a n s .1))
-            ∙ ap (λ (k : ℕ). value.At (valueAt a k)) after)
+        back = λ n s h. passed (valueQuestions a w) (nextIn (closed a) w) (t .row)
+            ∙ ap checked (next-is (closed a) w (omega (arith, t .place)) (omega (arith, after, sized a n s .1))
+            ∙ ap (λ (k : ℕ). value.At (valueAt (closed a) k)) after)
             ∙ sym (from-place a i (x .row) (omega (arith, x .most)));
       }
 
@@ -242,64 +249,64 @@ pub previous-undone : (a : Axis) (i n : ℕ) (v w : Value) → sizeAnswer a ≡ 
 previous-undone a i n v w s h e p = previous-index a v i (index-of-from-index a (pos i) v e) w p .back n s h ∙ e
 
 -- ---- THE WALK. Its axis: kinds 1, 2, 3 and 8; kind 6; and kind 5 where the first day is one of question 3.
-pub dates-walk : (a : Axis) (n : ℕ) → sizeAnswer a ≡ number.Is n → overDates (a .kind) ≡ true → Inside a
-dates-walk a n size k m = dates-inside a (counted a (sized a n size .0)) k
+pub dates-walk : (a : Axis) (n : ℕ) → sizeAnswer a ≡ number.Is n → overDates (a .kind) ≡ true → Inside (closed a)
+dates-walk a n size k m = dates-inside (closed a) (counted a (sized a n size .0)) (rw (same-kind a) k)
 
-pub years-walk : (a : Axis) → monthly a ≡ false → Inside a
+pub years-walk : (a : Axis) → monthly (closed a) ≡ false → Inside (closed a)
 years-walk a y m = absurd (true≢false (sym m ∙ y))
 
 -- else the cursor gives no value: kind 5 from (3652059, 1000000000) to the same has the size 12, and index 0 gets 10
-pub outside : (a : Axis) (n : ℕ) → sizeAnswer a ≡ number.Is n → monthly a ≡ true → 3652059 < fromDay a →
+pub outside : (a : Axis) (n : ℕ) → sizeAnswer a ≡ number.Is n → monthly (closed a) ≡ true → 3652059 < fromDay (closed a) →
     fromIndexAnswer a (pos 0) ≡ value.Refused 10
 outside a n size m h =
     from-place a 0 (sized a n size .0) (omega arith)
-    ∙ ap (λ (v : Value). checked (value.At v)) (value-months a 0 m ∙ month-first a 0 refl)
-    ∙ sym (out-of-range (midnight (pos (fromDay a))) (day-beyond (fromDay a) h))
+    ∙ ap (λ (v : Value). checked (value.At v)) (value-months (closed a) 0 m ∙ month-first (closed a) 0 refl)
+    ∙ sym (out-of-range (midnight (pos (fromDay (closed a)))) (day-beyond (fromDay (closed a)) h))
 
-module _ (a : Axis) (n : ℕ) (size : sizeAnswer a ≡ number.Is n) (inside : Inside a) where
+module _ (a : Axis) (n : ℕ) (size : sizeAnswer a ≡ number.Is n) (inside : Inside (closed a)) where
   row : firstNo (sizeQuestions a) ≡ 0
   row = sized a n size .0
 
-  many : sizeOf a ≡ n
+  many : sizeOf (closed a) ≡ n
   many = sized a n size .1
 
   few : n ≤ 3652059
-  few = omega (arith, many, size-most a (counted a row))
+  few = omega (arith, many, size-most (closed a) (counted a row))
 
-  in-days : (i : ℕ) → i < n → isDay (valueAt a i .head) ≡ true
-  in-days i h = below-size a (counted a row) inside i (omega (arith, many))
+  in-days : (i : ℕ) → i < n → isDay (valueAt (closed a) i .head) ≡ true
+  in-days i h = below-size (closed a) (counted a row) inside i (omega (arith, many))
 
   -- each place below the size has a value
-  pub each : (i : ℕ) → i < n → fromIndexAnswer a (pos i) ≡ value.At (valueAt a i)
-  each i h = from-place a i row (omega (arith, few)) ∙ sym (in-range (valueAt a i) (in-days i h))
+  pub each : (i : ℕ) → i < n → fromIndexAnswer a (pos i) ≡ value.At (valueAt (closed a) i)
+  each i h = from-place a i row (omega (arith, few)) ∙ sym (in-range (valueAt (closed a) i) (in-days i h))
 
   -- one step gives it, and moves on by one place
-  step-on : (i : ℕ) → i < n → valuesAnswer a (cursorAt i) ≡ step.At (valueAt a i) (cursorAt (i + 1))
+  step-on : (i : ℕ) → i < n → valuesAnswer a (cursorAt i) ≡ step.At (valueAt (closed a) i) (cursorAt (i + 1))
   unfolding valuesAnswer
   step-on i h =
       ap (stepped (cursorAt i))
-      (passed (indexQuestions a (pos i)) (valueIn a i) (at-row a i row (omega (arith, few)))
-      ∙ ap checked (value-is a i (omega (arith, many)))
-      ∙ sym (in-range (valueAt a i) (in-days i h)))
+      (passed (indexQuestions a (pos i)) (valueIn (closed a) i) (at-row a i row (omega (arith, few)))
+      ∙ ap checked (value-is (closed a) i (omega (arith, many)))
+      ∙ sym (in-range (valueAt (closed a) i) (in-days i h)))
 
   -- at and past the size there is none, and the cursor stays
   pub step-end : (i : ℕ) → n ≤ i → i ≤ 3652059 → valuesAnswer a (cursorAt i) ≡ step.None (cursorAt i)
   unfolding valuesAnswer
   step-end i h l =
       ap (stepped (cursorAt i))
-      (passed (indexQuestions a (pos i)) (valueIn a i) (at-row a i row l)
-      ∙ ap checked (value-none a i (omega (arith, many)))
+      (passed (indexQuestions a (pos i)) (valueIn (closed a) i) (at-row a i row l)
+      ∙ ap checked (value-none (closed a) i (omega (arith, many)))
       ∙ sym no-value)
 
-  walk-from : (m k i : ℕ) → i + m ≡ n → m < k → walk a k (cursorAt i) ≡ valuesFrom a i m
+  walk-from : (m k i : ℕ) → i + m ≡ n → m < k → walk a k (cursorAt i) ≡ valuesFrom (closed a) i m
   walk-from m zero i e h = absurd (let w : ⊥ = omega arith in w)
   walk-from zero (suc k) i e h = ap (onward (walk a k)) (step-end i (omega arith) (omega (arith, few)))
   walk-from (suc m) (suc k) i e h =
-      ap (onward (walk a k)) (step-on i (omega arith)) ∙ ap (λ (l : List Value). valueAt a i ∷ l)
+      ap (onward (walk a k)) (step-on i (omega arith)) ∙ ap (λ (l : List Value). valueAt (closed a) i ∷ l)
       (walk-from m k (i + 1) (omega arith) (omega arith))
 
   -- from 0 the cursor gives the values of all indices below the size, and then no more
-  pub walked : (k : ℕ) → n < k → walk a k (cursorAt 0) ≡ valuesFrom a 0 n
+  pub walked : (k : ℕ) → n < k → walk a k (cursorAt 0) ≡ valuesFrom (closed a) 0 n
   walked k h = walk-from n k 0 (omega arith) h
 
 -- as many as the size, each that of its index
@@ -327,14 +334,16 @@ pub from-index-of : (a : Axis) (v : Value) (i : ℕ) → a .kind ≡ pos 1 → i
     fromIndexAnswer a (pos i) ≡ value.At v
 from-index-of a v i k has =
     let x = indexed a v i has in
-    let (m, y, u) = days-only a k in
+    let kind = same-kind a ∙ k in
+    let (m, y, u) = days-only (closed a) kind in
     let c = counted a (x .row) in
-    let d = on-day a c v (x .on) in
-    let here : posPart (a .«start_head») + i ≡ posPart (v .head) =
-    omega (arith, x .at, x .from, origin-days a m y u, position-days a v m y u) in
-    let same-day : pos (posPart (a .«start_head») + i) ≡ v .head =
-    same (pos (posPart (a .«start_head») + i)) (v .head) (omega arith) in
-    let e : valueAt a i ≡ v = value-days a i m y u ∙ (λ j. record { head = same-day j; tail = sym (no-tail a v k (x .on)) j }) in
+    let d = on-day (closed a) c v (x .on) in
+    let here : posPart (closed a .«start_head») + i ≡ posPart (v .head) =
+    omega (arith, x .at, x .from, origin-days (closed a) m y u, position-days (closed a) v m y u) in
+    let same-day : pos (posPart (closed a .«start_head») + i) ≡ v .head =
+    same (pos (posPart (closed a .«start_head») + i)) (v .head) (omega arith) in
+    let e : valueAt (closed a) i ≡ v =
+    value-days (closed a) i m y u ∙ (λ j. record { head = same-day j; tail = sym (no-tail (closed a) v kind (x .on)) j }) in
     from-place a i (x .row) (omega (arith, x .most)) ∙ ap (λ (w : Value). checked (value.At w)) e ∙ sym (in-range v (is-day v d))
 
 -- ---- on kind 8 the value of a date's index is in the date's week, and that is all: from day 3 to 10 the index of day 2 is
@@ -346,28 +355,30 @@ weeks-only a k = rw k (refl, refl, refl)
 pub week-of-index : (a : Axis) (v w : Value) (i : ℕ) → a .kind ≡ pos 8 → indexAnswer a v ≡ number.Is i →
     fromIndexAnswer a (pos i) ≡ value.At w → monday (posPart (w .head)) ≡ monday (posPart (v .head))
 week-of-index a v w i k has e =
-    let (m, y, u) = weeks-only a k in
+    let (m, y, u) = weeks-only (closed a) (same-kind a ∙ k) in
     let x = indexed a v i has in
     let z = indexed a w i (index-of-from-index a (pos i) w e) in
     let c = counted a (x .row) in
-    same-week (posPart (w .head)) (posPart (v .head)) (on-day a c w (z .on) .head-least) (on-day a c v (x .on) .head-least)
-    (omega (arith, x .at, x .from, z .at, z .from, position-weeks a v m y u, position-weeks a w m y u))
+    same-week (posPart (w .head)) (posPart (v .head)) (on-day (closed a) c w (z .on) .head-least)
+    (on-day (closed a) c v (x .on) .head-least)
+    (omega (arith, x .at, x .from, z .at, z .from, position-weeks (closed a) v m y u, position-weeks (closed a) w m y u))
 
 -- index 0 gives the start, and every other one a Monday
 pub first-of-weeks : (a : Axis) (n : ℕ) → a .kind ≡ pos 8 → sizeAnswer a ≡ number.Is n →
     fromIndexAnswer a (pos 0) ≡ value.At (start a)
 first-of-weeks a n k size =
-    let (m, y, u) = weeks-only a k in
+    let (m, y, u) = weeks-only (closed a) (same-kind a ∙ k) in
     let s = sized a n size .0 in
     from-place a 0 s (omega arith)
-    ∙ ap (λ (v : Value). checked (value.At v)) (value-weeks a 0 m y u ∙ week-first a 0 refl)
-    ∙ sym (in-range (start a) (is-day (start a) (starts a (counted a s))))
+    ∙ ap (λ (v : Value). checked (value.At v)) (value-weeks (closed a) 0 m y u ∙ week-first (closed a) 0 refl)
+    ∙ sym (in-range (start (closed a)) (is-day (start (closed a)) (starts (closed a) (counted a s))))
+    ∙ ap value.At (same-start a)
 
 pub others-are-mondays : (a : Axis) (i : ℕ) (w : Value) → a .kind ≡ pos 8 → fromIndexAnswer a (pos (suc i)) ≡ value.At w →
     weekday (posPart (w .head)) ≡ 1
 others-are-mondays a i w k e =
-    let (m, y, u) = weeks-only a k in
+    let (m, y, u) = weeks-only (closed a) (same-kind a ∙ k) in
     let l = listed a (pos (suc i)) w e in
-    let s = posPart (a .«start_head») in
-    let here = sym (l .is) ∙ value-weeks a (suc i) m y u ∙ week-later a (suc i) (λ z. omega arith) in
-    rw here (weeks-on s (suc i) (starts a (counted a (l .row)) .head-least))
+    let s = posPart (closed a .«start_head») in
+    let here = sym (l .is) ∙ value-weeks (closed a) (suc i) m y u ∙ week-later (closed a) (suc i) (λ z. omega arith) in
+    rw here (weeks-on s (suc i) (starts (closed a) (counted a (l .row)) .head-least))

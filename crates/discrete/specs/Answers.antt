@@ -12,7 +12,8 @@ use Rattle.calendar.specs.Questions.{lastDay}
 use Rattle.values.specs.declared.Value.{Value}
 use Rattle.axis.specs.declared.Axis.{Axis}
 use Rattle.axis.specs.declared.Limits.{Limits}
-use Rattle.axis.specs.Questions.{isKind, hasIndex, hasUnmap, unmapPixels, valueOn, isIndex, answered, plainQuestions}
+use Rattle.axis.specs.Axes.{closed}
+use Rattle.axis.specs.Questions.{isKind, hasIndex, hasUnmap, ends, unmapPixels, valueOn, isIndex, answered, plainQuestions}
 use Rattle.unmapping.specs.Unmapping.{unmapCoord}
 use Rattle.discrete.specs.declared.NumberAnswer.{NumberAnswer}
 use Rattle.discrete.specs.declared.NumberAnswer.the-variants as number
@@ -39,7 +40,8 @@ indexQuestions a i = sizeQuestions a ++ (ask 8 (isIndex i) ∷ [])
 
 -- an index of an axis that may be asked for values, as a count
 pub record Indexed (a : Axis) (i : ℤ) (k : ℕ) : Type 0 where
-  pub dated : Dated a
+  pub real : ends a ≡ true
+  pub dated : Dated (closed a)
   pub index : isIndex i ≡ true
   pub count : k ≡ posPart i
   pub most : k ≤ lastDay
@@ -53,7 +55,7 @@ pub record IndexAsked (a : Axis) (i : ℤ) (r : AskedIndex) : Type 0 where
 abbrev pub unmapQuestions : Axis → Limits → ℤ → List Question
 unmapQuestions a l p = plainQuestions (hasUnmap a) a ++ (ask 7 (unmapPixels l p) ∷ [])
 
--- ---- the answers
+-- ---- the answers, on an axis whose end belongs to it
 unfoldable pub indexIn : Axis → Value → NumberAnswer
 indexIn a v = cond (isIndexed a v) (number.Is (indexOf a v)) number.None
 
@@ -69,25 +71,30 @@ previousIn a v = cond (isIndexed a v && ltb 0 (indexOf a v)) (value.At (valueAt 
 unfoldable pub valueIn : Axis → ℕ → ValueAnswer
 valueIn a i = cond (ltb i (sizeOf a)) (value.At (valueAt a i)) value.None
 
+-- the value under a pixel: kind 4 counts nothing and goes by unmap_coord
+unfoldable pub valueUnder : Axis → Limits → ℤ → Value
+valueUnder a l p = cond (isKind 4 a) (unmapCoord a l p) (valueAt a (indexUnder a l p))
+
+-- ---- the operations: the questions are asked of an axis, the answer is of the axis by which it counts
 -- `size`
 unfoldable pub sizeAnswer : Axis → NumberAnswer
-sizeAnswer a = asked (sizeQuestions a) number.Refused (number.Is (sizeOf a))
+sizeAnswer a = asked (sizeQuestions a) number.Refused (number.Is (sizeOf (closed a)))
 
 -- `index_of`
 unfoldable pub indexAnswer : Axis → Value → NumberAnswer
-indexAnswer a v = asked (valueQuestions a v) number.Refused (indexIn a v)
+indexAnswer a v = asked (valueQuestions a v) number.Refused (indexIn (closed a) v)
 
 -- `from_index`, beyond the size too
 unfoldable pub fromIndexAnswer : Axis → ℤ → ValueAnswer
-fromIndexAnswer a i = answered (indexQuestions a i) (value.At (valueAt a (posPart i)))
+fromIndexAnswer a i = answered (indexQuestions a i) (value.At (valueAt (closed a) (posPart i)))
 
 -- `next`
 unfoldable pub nextAnswer : Axis → Value → ValueAnswer
-nextAnswer a v = answered (valueQuestions a v) (nextIn a v)
+nextAnswer a v = answered (valueQuestions a v) (nextIn (closed a) v)
 
 -- `previous`
 unfoldable pub previousAnswer : Axis → Value → ValueAnswer
-previousAnswer a v = answered (valueQuestions a v) (previousIn a v)
+previousAnswer a v = answered (valueQuestions a v) (previousIn (closed a) v)
 
 -- one step of the cursor: it moves on with a value, and stays where there is none
 abbrev pub stepped : Cursor → ValueAnswer → StepAnswer
@@ -97,12 +104,8 @@ stepped c (value.At v) = step.At v (record { place = c .place +ℤ pos 1 })
 
 -- `values`: a step from the cursor's place
 unfoldable pub valuesAnswer : Axis → Cursor → StepAnswer
-valuesAnswer a c = stepped c (answered (indexQuestions a (c .place)) (valueIn a (posPart (c .place))))
-
--- the value under a pixel: kind 4 counts nothing and goes by unmap_coord
-unfoldable pub valueUnder : Axis → Limits → ℤ → Value
-valueUnder a l p = cond (isKind 4 a) (unmapCoord a l p) (valueAt a (indexUnder a l p))
+valuesAnswer a c = stepped c (answered (indexQuestions a (c .place)) (valueIn (closed a) (posPart (c .place))))
 
 -- `unmap`
 unfoldable pub unmapAnswer : Axis → Limits → ℤ → ValueAnswer
-unmapAnswer a l p = answered (unmapQuestions a l p) (value.At (valueUnder a l p))
+unmapAnswer a l p = answered (unmapQuestions a l p) (value.At (valueUnder (closed a) l p))

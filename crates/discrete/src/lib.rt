@@ -14,10 +14,11 @@ ghost use Rattle.calendar.specs.Gregorian.{dayNumber};
 ghost use Rattle.calendar.specs.Questions.{lastDay};
 ghost use Rattle.values.specs.Values.{midnight};
 ghost use Rattle.axis.specs.Questions.{valueOn, isIndex, unmapPixels, checked};
+ghost use Rattle.unmapping.specs.Unmapping.{Unmappable};
 ghost use Rattle.counting.specs.Counting.{Dated, monthly, yearly, weekly};
 ghost use Rattle.discrete.specs.Indices.{monthAt, january, yearAt, weekAt, valueAt, indexAt, indexUnder};
 ghost use Rattle.discrete.specs.Answers.{sizeQuestions, valueQuestions, indexQuestions, IndexAsked, unmapQuestions};
-ghost use Rattle.discrete.specs.Answers.{indexIn, nextIn, previousIn, valueIn, sizeAnswer, indexAnswer};
+ghost use Rattle.discrete.specs.Answers.{indexIn, nextIn, previousIn, valueIn, valueUnder, sizeAnswer, indexAnswer};
 ghost use Rattle.discrete.specs.Answers.{fromIndexAnswer, nextAnswer, previousAnswer, stepped, valuesAnswer, unmapAnswer};
 
 pub enum NumberAnswer {
@@ -285,6 +286,17 @@ fn unmap_in(a: Axis, l: Limits, p: i64) -> ValueAnswer
     value_at(a, i)
 }
 
+// The value under a pixel. Kind 4 counts nothing and goes by unmap_coord.
+fn value_under(a: Axis, l: Limits, p: i64) -> ValueAnswer
+    requires { ⌜ Unmappable a l p ⌝ }
+    ensures { λ r. ⌜ r ≡ checked (ValueAnswer.At (valueUnder a l p)) ⌝ }
+{
+    if (4 <= a.kind) & (a.kind <= 4) {
+        return unmapping::unmap_coord(a, l, p);
+    }
+    unmap_in(a, l, p)
+}
+
 // The questions, one line for each.
 pub fn size_refusal(a: Axis) -> u8
     ensures { λ r. ⌜ r ≡ firstNo (sizeQuestions a) ⌝ }
@@ -295,14 +307,14 @@ pub fn size_refusal(a: Axis) -> u8
 fn value_refusal(a: Axis, v: Value) -> u8
     ensures { λ r. ⌜ r ≡ firstNo (valueQuestions a v) ⌝ }
 {
-    let q = axis::plain_refusal(a, axis::has_index(a));
+    let q = size_refusal(a);
     axis::then_ask(q, 8, axis::value_on(a, v))
 }
 
 fn index_refusal(a: Axis, i: i64) -> u8
     ensures { λ r. ⌜ r ≡ firstNo (indexQuestions a i) ⌝ }
 {
-    let q = axis::plain_refusal(a, axis::has_index(a));
+    let q = size_refusal(a);
     axis::then_ask(q, 8, axis::is_index(i))
 }
 
@@ -338,7 +350,7 @@ pub fn size(a: Axis) -> NumberAnswer
     if q != 0 {
         return NumberAnswer::Refused(q);
     }
-    NumberAnswer::Is(counting::size_of(a))
+    NumberAnswer::Is(counting::size_of(axis::closed(a)))
 }
 
 // The index of any numbers.
@@ -349,7 +361,7 @@ pub fn index_of(a: Axis, v: Value) -> NumberAnswer
     if q != 0 {
         return NumberAnswer::Refused(q);
     }
-    index_in(a, v)
+    index_in(axis::closed(a), v)
 }
 
 // The value of any index, beyond the size too.
@@ -360,7 +372,7 @@ pub fn from_index(a: Axis, i: i64) -> ValueAnswer
     if k.refusal != 0 {
         return ValueAnswer::Refused(k.refusal);
     }
-    value_at(a, k.index)
+    value_at(axis::closed(a), k.index)
 }
 
 // The value after a value.
@@ -371,7 +383,7 @@ pub fn next(a: Axis, v: Value) -> ValueAnswer
     if q != 0 {
         return ValueAnswer::Refused(q);
     }
-    next_in(a, v)
+    next_in(axis::closed(a), v)
 }
 
 // The value before a value.
@@ -382,7 +394,7 @@ pub fn previous(a: Axis, v: Value) -> ValueAnswer
     if q != 0 {
         return ValueAnswer::Refused(q);
     }
-    previous_in(a, v)
+    previous_in(axis::closed(a), v)
 }
 
 // The cursor moves on with a value, and stays where there is none.
@@ -405,10 +417,10 @@ pub fn values(a: Axis, c: Cursor) -> StepAnswer
     if k.refusal != 0 {
         return StepAnswer::Refused(k.refusal);
     }
-    stepped(c, value_in(a, k.index))
+    stepped(c, value_in(axis::closed(a), k.index))
 }
 
-// The value under any pixel. Kind 4 counts nothing and goes by unmap_coord.
+// The value under any pixel.
 pub fn unmap(a: Axis, l: Limits, p: i64) -> ValueAnswer
     ensures { λ r. ⌜ r ≡ unmapAnswer a l p ⌝ }
 {
@@ -416,8 +428,5 @@ pub fn unmap(a: Axis, l: Limits, p: i64) -> ValueAnswer
     if q != 0 {
         return ValueAnswer::Refused(q);
     }
-    if (4 <= a.kind) & (a.kind <= 4) {
-        return unmapping::unmap_coord(a, l, p);
-    }
-    unmap_in(a, l, p)
+    value_under(axis::closed(a), l, p)
 }

@@ -20,7 +20,8 @@ limit (Light h) = posPart (h .n)
 
 -- the same ends: months for years, and dates or date-times for months
 abbrev pub finer : Axis → Axis
-finer a = axisOf (a .kind -ℤ pos 1) (a .«start_head») (a .«start_tail») (a .«end_head») (a .«end_tail»)
+finer a =
+    axisOf (a .kind -ℤ pos 1) (a .«start_head») (a .«start_tail») (a .«end_head») (a .«end_tail») (a .«end_excluded»)
 
 -- Monthly: if hint.weight().allow_light_points() && self.size() <= hint.bold_points() * 2 {
 --     return coord.key_points(hint.max_num_points()); } self.bold_key_points(&hint)

@@ -22,9 +22,10 @@ use Rattle.values.proofs.Values.{dates-no-duration, DateValue, date-value}
 use Rattle.values.proofs.Fits.{fits-yes}
 use Rattle.axis.specs.declared.Axis.{Axis}
 use Rattle.axis.specs.declared.Limits.{Limits}
-use Rattle.axis.specs.Axes.{start, end, spanOf, offsetOf}
+use Rattle.axis.specs.Axes.{start, end, spanOf, offsetOf, last}
 use Rattle.axis.specs.Questions.{pixels}
 use Rattle.axis.proofs.Axes.{both-ends}
+use Rattle.axis.proofs.ClosedAxes.{in-written}
 use Rattle.mapping.specs.declared.Pixel.the-variants.{At}
 use Rattle.mapping.specs.Mapping.{scaleOf, mapCoord, placedBy, placed, mapped, mapQuestions}
 use Rattle.mapping.specs.Days.{DayOf, MorePixels}
@@ -78,7 +79,7 @@ size-of (pos k) p n e l = omega arith
 size-of (negsuc k) p n e l = absurd (let w : ⊥ = omega arith in w)
 
 module _ (a : Axis) (l : Limits) (w : MorePixels a l) (dates : overDates (a .kind) ≡ true)
-    (first : DateValue (start a)) (last : DateValue (end a)) (page : pixels l ≡ true) where
+    (first : DateValue (start a)) (final : DateValue (end a)) (page : pixels l ≡ true) where
   width-few : natAbs (l .high -ℤ l .low) ≤ 65534
   width-few = let (low, high) = limits-are l page in between-few (l .high) (l .low) high low
 
@@ -89,8 +90,8 @@ module _ (a : Axis) (l : Limits) (w : MorePixels a l) (dates : overDates (a .kin
   later i j p q I J zi zj less ep eq e =
       let s = a .«start_head» in
       let t = a .«end_head» in
-      let x = within-true s i t (I .inside) in
-      let y = within-true s j t (J .inside) in
+      let x = within-true s i t (in-written a s i (I .inside)) in
+      let y = within-true s j t (in-written a s j (J .inside)) in
       let d = posPart t - posPart s in
       let no = dates-no-duration (a .kind) dates in
       let D : d < natAbs (l .high -ℤ l .low) =
@@ -100,7 +101,7 @@ module _ (a : Axis) (l : Limits) (w : MorePixels a l) (dates : overDates (a .kin
       let g : offsetOf a (midnight j) ≡ pos ((posPart j - posPart s) * 86400000000000) =
       rw (first .no-tail) (days-between (a .kind) j s (posPart j - posPart s) no (omega arith)) in
       let h : spanOf a ≡ pos (d * 86400000000000) =
-      rw (first .no-tail, last .no-tail) (days-between (a .kind) t s d no (omega arith)) in
+      rw (first .no-tail, final .no-tail) (days-between (a .kind) t s d no (omega arith)) in
       let u = day-placed a l (midnight i) (posPart i - posPart s) d no f h (omega (arith, width-few))
       (omega (arith, width-few)) in
       let v = day-placed a l (midnight j) (posPart j - posPart s) d no g h (omega (arith, width-few))
@@ -117,12 +118,12 @@ days-differ a l i j p q w I J ne ei ej e =
     let row = mapQuestions a l (midnight i) in
     let both = both-ends a (told 3 row tt nx) in
     let first = date-value (a .kind) (start a) (both .first) (I .dates) in
-    let last = date-value (a .kind) (end a) (both .second) (I .dates) in
+    let final = date-value (a .kind) (end a) (both .second) (I .dates) in
     let page = told 7 row tt nx in
-    let zi : negPart i ≡ 0 = not-below i (omega (arith, within-true (a .«start_head») i (a .«end_head») (I .inside))) in
-    let zj : negPart j ≡ 0 = not-below j (omega (arith, within-true (a .«start_head») j (a .«end_head») (J .inside))) in
+    let zi : negPart i ≡ 0 = not-below i (omega (arith, within-true (a .«start_head») i (last a .head) (I .inside))) in
+    let zj : negPart j ≡ 0 = not-below j (omega (arith, within-true (a .«start_head») j (last a .head) (J .inside))) in
     let apart : (posPart i ≡ posPart j → ⊥) = λ h. ne (same i j (omega arith)) in
     elim (decLe (posPart i) (posPart j)) [
-      | yes h ↦ later a l w (I .dates) first last page i j p q I J zi zj (omega arith) x y e
-      | no h ↦ later a l w (I .dates) first last page j i q p J I zj zi (omega arith) y x (sym e)
+      | yes h ↦ later a l w (I .dates) first final page i j p q I J zi zj (omega arith) x y e
+      | no h ↦ later a l w (I .dates) first final page j i q p J I zj zi (omega arith) y x (sym e)
     ]

@@ -1,4 +1,4 @@
--- The numbers of an axis and of its hints, read back from their bits. Assumes nothing.
+-- The numbers of hints, read back from their bits. Assumes nothing.
 use mathlib.Core.Path.{_≡_, _∙_}
 use lib.IntN.{ℤ}
 use mir.Syntax.{w64}
@@ -7,12 +7,6 @@ use mir.Facts.{toZ-ofZ}
 use Rattle.axis.specs.declared.Axis.{Axis}
 use Rattle.axis.specs.declared.Hint.{Hint}
 use Rattle.axis.specs.declared.Hint.the-variants.{Bold, Light}
-use Rattle.axis.specs.Axes.{axisOf}
-
-pub axis-read : {k sh st eh et : ℤ} → SFits w64 k → SFits w64 sh → SFits w64 st → SFits w64 eh → SFits w64 et →
-    axisOf (toZ w64 (ofZ w64 k)) (toZ w64 (ofZ w64 sh)) (toZ w64 (ofZ w64 st)) (toZ w64 (ofZ w64 eh)) (toZ w64 (ofZ w64 et))
-    ≡ axisOf k sh st eh et
-axis-read k sh st eh et = λ i. axisOf (toZ-ofZ k i) (toZ-ofZ sh i) (toZ-ofZ st i) (toZ-ofZ eh i) (toZ-ofZ et i)
 
 pub bold-read : {n : ℤ} → SFits w64 n → Bold (record { n = toZ w64 (ofZ w64 n) }) ≡ Bold (record { n = n })
 bold-read n = λ i. Bold (record { n = toZ-ofZ n i })

@@ -28,10 +28,9 @@ use Rattle.segmented.specs.Answers.{segmentKindQuestions, segmentTicksAnswer, s
 use Rattle.segmented.proofs.Answers.{segment-size-range, segment-index-range}
 use Rattle.ordered.specs.Replies.{dayIn, numberIn}
 use Rattle.axis.specs.declared.Hint.{Hint}
-use Rattle.keypoints.specs.Hints.{keyPointsFor}
 use Rattle.keypoints.proofs.Periods.{optional}
 use Rattle.ticks.specs.declared.PeriodAnswer.the-variants as period
-use Rattle.ticks.specs.Answers.{tickQuestions, ticksAnswer, periodQuestions, aPeriod, periodAnswer}
+use Rattle.ticks.specs.Answers.{tickQuestions, ticksOf, ticksAnswer, periodQuestions, aPeriod, periodAnswer}
 use Rattle.ticks.proofs.Hints.{period-accepted}
 use Rattle.ticks.proofs.KeyPoints.{period-is}
 
@@ -41,7 +40,7 @@ room-most false n k l h = omega arith
 
 pub answer-most : (a : Axis) (h : Hint) (k : ℕ) → k < 2 ^ 64 → countOf (ticksAnswer a h k) < 2 ^ 63
 unfolding ticksAnswer
-answer-most a h k l = go (firstNo (tickQuestions a h)) (keyPointsFor a h)
+answer-most a h k l = go (firstNo (tickQuestions a h)) (ticksOf a h)
   where
     go : (q : ℕ) (s : List Value) → countOf (unless q Refused (listedOf s k)) < 2 ^ 63
     go zero s = room-most (leb (2 * length s) k) (length s) k l (leb-true (2 * length s) k)

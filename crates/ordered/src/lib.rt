@@ -201,15 +201,24 @@ pub extern "C" fn ordered_map(
     start_tail: i64,
     end_head: i64,
     end_tail: i64,
+    end_excluded: i64,
     low: i64,
     high: i64,
     head: i64,
     tail: i64,
 ) -> OrderedPixel
-    ensures { λ r. ⌜ r ≡ pixelReply (mapped (axisOf kind «start_head» «start_tail» «end_head» «end_tail»)
+    ensures { λ r. ⌜ r ≡ pixelReply (mapped
+        (axisOf kind «start_head» «start_tail» «end_head» «end_tail» «end_excluded»)
         (record { low = low; high = high }) (record { head = head; tail = tail })) ⌝ }
 {
-    let a = axis::axis_of(kind, start_head, start_tail, end_head, end_tail);
+    let a = axis::axis_of(
+        kind,
+        start_head,
+        start_tail,
+        end_head,
+        end_tail,
+        end_excluded,
+    );
     let l = Limits {
         low: low,
         high: high,
@@ -265,15 +274,25 @@ pub extern "C" fn ordered_ticks_bold(
     start_tail: i64,
     end_head: i64,
     end_tail: i64,
+    end_excluded: i64,
     n: i64,
     lent: &mut [i64],
 ) -> OrderedNumber
-    ensures { λ r. ⌜ r ≡ countReply (ticksAnswer (axisOf kind «start_head» «start_tail» «end_head» «end_tail»)
+    ensures { λ r. ⌜ r ≡ countReply (ticksAnswer
+        (axisOf kind «start_head» «start_tail» «end_head» «end_tail» «end_excluded»)
         (Hint.Bold (record { n = n })) (length (now (lent .entry)))) ⌝ }
-    ensures { λ r. ⌜ now (lent .exit) ≡ ticksWritten (axisOf kind «start_head» «start_tail» «end_head» «end_tail»)
+    ensures { λ r. ⌜ now (lent .exit) ≡ ticksWritten
+        (axisOf kind «start_head» «start_tail» «end_head» «end_tail» «end_excluded»)
         (Hint.Bold (record { n = n })) (now (lent .entry)) ⌝ }
 {
-    let a = axis::axis_of(kind, start_head, start_tail, end_head, end_tail);
+    let a = axis::axis_of(
+        kind,
+        start_head,
+        start_tail,
+        end_head,
+        end_tail,
+        end_excluded,
+    );
     let h = BoldPoints { n: n };
     list_ticks(a, Hint::Bold(h), lent)
 }
@@ -285,13 +304,22 @@ pub extern "C" fn ordered_count_bold(
     start_tail: i64,
     end_head: i64,
     end_tail: i64,
+    end_excluded: i64,
     n: i64,
     lent_len: usize,
 ) -> OrderedNumber
-    ensures { λ r. ⌜ r ≡ countReply (ticksAnswer (axisOf kind «start_head» «start_tail» «end_head» «end_tail»)
+    ensures { λ r. ⌜ r ≡ countReply (ticksAnswer
+        (axisOf kind «start_head» «start_tail» «end_head» «end_tail» «end_excluded»)
         (Hint.Bold (record { n = n })) «lent_len») ⌝ }
 {
-    let a = axis::axis_of(kind, start_head, start_tail, end_head, end_tail);
+    let a = axis::axis_of(
+        kind,
+        start_head,
+        start_tail,
+        end_head,
+        end_tail,
+        end_excluded,
+    );
     let h = BoldPoints { n: n };
     count_ticks(a, Hint::Bold(h), lent_len as u64)
 }
@@ -303,16 +331,26 @@ pub extern "C" fn ordered_ticks_light(
     start_tail: i64,
     end_head: i64,
     end_tail: i64,
+    end_excluded: i64,
     bold: i64,
     n: i64,
     lent: &mut [i64],
 ) -> OrderedNumber
-    ensures { λ r. ⌜ r ≡ countReply (ticksAnswer (axisOf kind «start_head» «start_tail» «end_head» «end_tail»)
+    ensures { λ r. ⌜ r ≡ countReply (ticksAnswer
+        (axisOf kind «start_head» «start_tail» «end_head» «end_tail» «end_excluded»)
         (Hint.Light (record { bold = bold; n = n })) (length (now (lent .entry)))) ⌝ }
-    ensures { λ r. ⌜ now (lent .exit) ≡ ticksWritten (axisOf kind «start_head» «start_tail» «end_head» «end_tail»)
+    ensures { λ r. ⌜ now (lent .exit) ≡ ticksWritten
+        (axisOf kind «start_head» «start_tail» «end_head» «end_tail» «end_excluded»)
         (Hint.Light (record { bold = bold; n = n })) (now (lent .entry)) ⌝ }
 {
-    let a = axis::axis_of(kind, start_head, start_tail, end_head, end_tail);
+    let a = axis::axis_of(
+        kind,
+        start_head,
+        start_tail,
+        end_head,
+        end_tail,
+        end_excluded,
+    );
     let h = LightPoints { bold: bold, n: n };
     list_ticks(a, Hint::Light(h), lent)
 }
@@ -324,14 +362,23 @@ pub extern "C" fn ordered_count_light(
     start_tail: i64,
     end_head: i64,
     end_tail: i64,
+    end_excluded: i64,
     bold: i64,
     n: i64,
     lent_len: usize,
 ) -> OrderedNumber
-    ensures { λ r. ⌜ r ≡ countReply (ticksAnswer (axisOf kind «start_head» «start_tail» «end_head» «end_tail»)
+    ensures { λ r. ⌜ r ≡ countReply (ticksAnswer
+        (axisOf kind «start_head» «start_tail» «end_head» «end_tail» «end_excluded»)
         (Hint.Light (record { bold = bold; n = n })) «lent_len») ⌝ }
 {
-    let a = axis::axis_of(kind, start_head, start_tail, end_head, end_tail);
+    let a = axis::axis_of(
+        kind,
+        start_head,
+        start_tail,
+        end_head,
+        end_tail,
+        end_excluded,
+    );
     let h = LightPoints { bold: bold, n: n };
     count_ticks(a, Hint::Light(h), lent_len as u64)
 }
@@ -343,12 +390,21 @@ pub extern "C" fn ordered_period_per_point(
     start_tail: i64,
     end_head: i64,
     end_tail: i64,
+    end_excluded: i64,
     n: i64,
 ) -> OrderedPeriod
-    ensures { λ r. ⌜ r ≡ periodReply (periodAnswer (axisOf kind «start_head» «start_tail» «end_head» «end_tail»)
+    ensures { λ r. ⌜ r ≡ periodReply (periodAnswer
+        (axisOf kind «start_head» «start_tail» «end_head» «end_tail» «end_excluded»)
         (record { n = n })) ⌝ }
 {
-    let a = axis::axis_of(kind, start_head, start_tail, end_head, end_tail);
+    let a = axis::axis_of(
+        kind,
+        start_head,
+        start_tail,
+        end_head,
+        end_tail,
+        end_excluded,
+    );
     let h = BoldPoints { n: n };
     match ticks::period_per_point(a, h) {
         PeriodAnswer::Is(k) => OrderedPeriod {
@@ -440,14 +496,23 @@ pub extern "C" fn ordered_unmap(
     start_tail: i64,
     end_head: i64,
     end_tail: i64,
+    end_excluded: i64,
     low: i64,
     high: i64,
     pixel: i64,
 ) -> OrderedValue
-    ensures { λ r. ⌜ r ≡ valueReply (unmapAnswer (axisOf kind «start_head» «start_tail» «end_head» «end_tail»)
+    ensures { λ r. ⌜ r ≡ valueReply (unmapAnswer
+        (axisOf kind «start_head» «start_tail» «end_head» «end_tail» «end_excluded»)
         (record { low = low; high = high }) pixel) ⌝ }
 {
-    let a = axis::axis_of(kind, start_head, start_tail, end_head, end_tail);
+    let a = axis::axis_of(
+        kind,
+        start_head,
+        start_tail,
+        end_head,
+        end_tail,
+        end_excluded,
+    );
     let l = Limits {
         low: low,
         high: high,
@@ -462,10 +527,19 @@ pub extern "C" fn ordered_size(
     start_tail: i64,
     end_head: i64,
     end_tail: i64,
+    end_excluded: i64,
 ) -> OrderedNumber
-    ensures { λ r. ⌜ r ≡ numberReply (sizeAnswer (axisOf kind «start_head» «start_tail» «end_head» «end_tail»)) ⌝ }
+    ensures { λ r. ⌜ r ≡ numberReply (sizeAnswer
+        (axisOf kind «start_head» «start_tail» «end_head» «end_tail» «end_excluded»)) ⌝ }
 {
-    let a = axis::axis_of(kind, start_head, start_tail, end_head, end_tail);
+    let a = axis::axis_of(
+        kind,
+        start_head,
+        start_tail,
+        end_head,
+        end_tail,
+        end_excluded,
+    );
     number_reply(discrete::size(a))
 }
 
@@ -476,13 +550,22 @@ pub extern "C" fn ordered_index_of(
     start_tail: i64,
     end_head: i64,
     end_tail: i64,
+    end_excluded: i64,
     head: i64,
     tail: i64,
 ) -> OrderedNumber
-    ensures { λ r. ⌜ r ≡ numberReply (indexAnswer (axisOf kind «start_head» «start_tail» «end_head» «end_tail»)
+    ensures { λ r. ⌜ r ≡ numberReply (indexAnswer
+        (axisOf kind «start_head» «start_tail» «end_head» «end_tail» «end_excluded»)
         (record { head = head; tail = tail })) ⌝ }
 {
-    let a = axis::axis_of(kind, start_head, start_tail, end_head, end_tail);
+    let a = axis::axis_of(
+        kind,
+        start_head,
+        start_tail,
+        end_head,
+        end_tail,
+        end_excluded,
+    );
     let v = Value {
         head: head,
         tail: tail,
@@ -497,12 +580,21 @@ pub extern "C" fn ordered_from_index(
     start_tail: i64,
     end_head: i64,
     end_tail: i64,
+    end_excluded: i64,
     index: i64,
 ) -> OrderedValue
-    ensures { λ r. ⌜ r ≡ valueReply (fromIndexAnswer (axisOf kind «start_head» «start_tail» «end_head» «end_tail»)
+    ensures { λ r. ⌜ r ≡ valueReply (fromIndexAnswer
+        (axisOf kind «start_head» «start_tail» «end_head» «end_tail» «end_excluded»)
         index) ⌝ }
 {
-    let a = axis::axis_of(kind, start_head, start_tail, end_head, end_tail);
+    let a = axis::axis_of(
+        kind,
+        start_head,
+        start_tail,
+        end_head,
+        end_tail,
+        end_excluded,
+    );
     value_reply(discrete::from_index(a, index))
 }
 
@@ -513,13 +605,22 @@ pub extern "C" fn ordered_next(
     start_tail: i64,
     end_head: i64,
     end_tail: i64,
+    end_excluded: i64,
     head: i64,
     tail: i64,
 ) -> OrderedValue
-    ensures { λ r. ⌜ r ≡ valueReply (nextAnswer (axisOf kind «start_head» «start_tail» «end_head» «end_tail»)
+    ensures { λ r. ⌜ r ≡ valueReply (nextAnswer
+        (axisOf kind «start_head» «start_tail» «end_head» «end_tail» «end_excluded»)
         (record { head = head; tail = tail })) ⌝ }
 {
-    let a = axis::axis_of(kind, start_head, start_tail, end_head, end_tail);
+    let a = axis::axis_of(
+        kind,
+        start_head,
+        start_tail,
+        end_head,
+        end_tail,
+        end_excluded,
+    );
     let v = Value {
         head: head,
         tail: tail,
@@ -534,13 +635,22 @@ pub extern "C" fn ordered_previous(
     start_tail: i64,
     end_head: i64,
     end_tail: i64,
+    end_excluded: i64,
     head: i64,
     tail: i64,
 ) -> OrderedValue
-    ensures { λ r. ⌜ r ≡ valueReply (previousAnswer (axisOf kind «start_head» «start_tail» «end_head» «end_tail»)
+    ensures { λ r. ⌜ r ≡ valueReply (previousAnswer
+        (axisOf kind «start_head» «start_tail» «end_head» «end_tail» «end_excluded»)
         (record { head = head; tail = tail })) ⌝ }
 {
-    let a = axis::axis_of(kind, start_head, start_tail, end_head, end_tail);
+    let a = axis::axis_of(
+        kind,
+        start_head,
+        start_tail,
+        end_head,
+        end_tail,
+        end_excluded,
+    );
     let v = Value {
         head: head,
         tail: tail,
@@ -555,12 +665,21 @@ pub extern "C" fn ordered_values(
     start_tail: i64,
     end_head: i64,
     end_tail: i64,
+    end_excluded: i64,
     place: i64,
 ) -> OrderedStep
-    ensures { λ r. ⌜ r ≡ stepReply (valuesAnswer (axisOf kind «start_head» «start_tail» «end_head» «end_tail»)
+    ensures { λ r. ⌜ r ≡ stepReply (valuesAnswer
+        (axisOf kind «start_head» «start_tail» «end_head» «end_tail» «end_excluded»)
         (record { place = place })) ⌝ }
 {
-    let a = axis::axis_of(kind, start_head, start_tail, end_head, end_tail);
+    let a = axis::axis_of(
+        kind,
+        start_head,
+        start_tail,
+        end_head,
+        end_tail,
+        end_excluded,
+    );
     let c = Cursor { place: place };
     step_reply(discrete::values(a, c))
 }
@@ -572,16 +691,25 @@ pub extern "C" fn ordered_segment_map(
     start_tail: i64,
     end_head: i64,
     end_tail: i64,
+    end_excluded: i64,
     low: i64,
     high: i64,
     segment: i64,
     head: i64,
     tail: i64,
 ) -> OrderedPixel
-    ensures { λ r. ⌜ r ≡ pixelReply (segmentMapAnswer (axisOf kind «start_head» «start_tail» «end_head» «end_tail»)
+    ensures { λ r. ⌜ r ≡ pixelReply (segmentMapAnswer
+        (axisOf kind «start_head» «start_tail» «end_head» «end_tail» «end_excluded»)
         (record { low = low; high = high }) (record { case = segment; head = head; tail = tail })) ⌝ }
 {
-    let a = axis::axis_of(kind, start_head, start_tail, end_head, end_tail);
+    let a = axis::axis_of(
+        kind,
+        start_head,
+        start_tail,
+        end_head,
+        end_tail,
+        end_excluded,
+    );
     let l = Limits {
         low: low,
         high: high,
@@ -601,16 +729,25 @@ pub extern "C" fn ordered_segment_ticks_bold(
     start_tail: i64,
     end_head: i64,
     end_tail: i64,
+    end_excluded: i64,
     n: i64,
     lent: &mut [i64],
 ) -> OrderedNumber
-    ensures { λ r. ⌜ r ≡ countReply (segmentTicksAnswer (axisOf kind «start_head» «start_tail» «end_head» «end_tail»)
+    ensures { λ r. ⌜ r ≡ countReply (segmentTicksAnswer
+        (axisOf kind «start_head» «start_tail» «end_head» «end_tail» «end_excluded»)
         (Hint.Bold (record { n = n })) (length (now (lent .entry)))) ⌝ }
     ensures { λ r. ⌜ now (lent .exit) ≡ segmentTicksWritten
-        (axisOf kind «start_head» «start_tail» «end_head» «end_tail»)
+        (axisOf kind «start_head» «start_tail» «end_head» «end_tail» «end_excluded»)
         (Hint.Bold (record { n = n })) (now (lent .entry)) ⌝ }
 {
-    let a = axis::axis_of(kind, start_head, start_tail, end_head, end_tail);
+    let a = axis::axis_of(
+        kind,
+        start_head,
+        start_tail,
+        end_head,
+        end_tail,
+        end_excluded,
+    );
     let h = BoldPoints { n: n };
     list_segment_ticks(a, Hint::Bold(h), lent)
 }
@@ -622,17 +759,26 @@ pub extern "C" fn ordered_segment_ticks_light(
     start_tail: i64,
     end_head: i64,
     end_tail: i64,
+    end_excluded: i64,
     bold: i64,
     n: i64,
     lent: &mut [i64],
 ) -> OrderedNumber
-    ensures { λ r. ⌜ r ≡ countReply (segmentTicksAnswer (axisOf kind «start_head» «start_tail» «end_head» «end_tail»)
+    ensures { λ r. ⌜ r ≡ countReply (segmentTicksAnswer
+        (axisOf kind «start_head» «start_tail» «end_head» «end_tail» «end_excluded»)
         (Hint.Light (record { bold = bold; n = n })) (length (now (lent .entry)))) ⌝ }
     ensures { λ r. ⌜ now (lent .exit) ≡ segmentTicksWritten
-        (axisOf kind «start_head» «start_tail» «end_head» «end_tail»)
+        (axisOf kind «start_head» «start_tail» «end_head» «end_tail» «end_excluded»)
         (Hint.Light (record { bold = bold; n = n })) (now (lent .entry)) ⌝ }
 {
-    let a = axis::axis_of(kind, start_head, start_tail, end_head, end_tail);
+    let a = axis::axis_of(
+        kind,
+        start_head,
+        start_tail,
+        end_head,
+        end_tail,
+        end_excluded,
+    );
     let h = LightPoints { bold: bold, n: n };
     list_segment_ticks(a, Hint::Light(h), lent)
 }
@@ -644,11 +790,19 @@ pub extern "C" fn ordered_segment_size(
     start_tail: i64,
     end_head: i64,
     end_tail: i64,
+    end_excluded: i64,
 ) -> OrderedNumber
     ensures { λ r. ⌜ r ≡ numberReply
-        (segmentSizeAnswer (axisOf kind «start_head» «start_tail» «end_head» «end_tail»)) ⌝ }
+        (segmentSizeAnswer (axisOf kind «start_head» «start_tail» «end_head» «end_tail» «end_excluded»)) ⌝ }
 {
-    let a = axis::axis_of(kind, start_head, start_tail, end_head, end_tail);
+    let a = axis::axis_of(
+        kind,
+        start_head,
+        start_tail,
+        end_head,
+        end_tail,
+        end_excluded,
+    );
     number_reply(segmented::size(a))
 }
 
@@ -659,15 +813,23 @@ pub extern "C" fn ordered_segment_index_of(
     start_tail: i64,
     end_head: i64,
     end_tail: i64,
+    end_excluded: i64,
     segment: i64,
     head: i64,
     tail: i64,
 ) -> OrderedNumber
     ensures { λ r. ⌜ r ≡ numberReply (segmentIndexAnswer
-        (axisOf kind «start_head» «start_tail» «end_head» «end_tail»)
+        (axisOf kind «start_head» «start_tail» «end_head» «end_tail» «end_excluded»)
         (record { case = segment; head = head; tail = tail })) ⌝ }
 {
-    let a = axis::axis_of(kind, start_head, start_tail, end_head, end_tail);
+    let a = axis::axis_of(
+        kind,
+        start_head,
+        start_tail,
+        end_head,
+        end_tail,
+        end_excluded,
+    );
     let s = Segment {
         case: segment,
         head: head,
@@ -728,11 +890,19 @@ pub extern "C" fn ordered_segment_from_index(
     start_tail: i64,
     end_head: i64,
     end_tail: i64,
+    end_excluded: i64,
     index: i64,
 ) -> OrderedSegment
     ensures { λ r. ⌜ r ≡ segmentReply (segmentFromAnswer
-        (axisOf kind «start_head» «start_tail» «end_head» «end_tail») index) ⌝ }
+        (axisOf kind «start_head» «start_tail» «end_head» «end_tail» «end_excluded») index) ⌝ }
 {
-    let a = axis::axis_of(kind, start_head, start_tail, end_head, end_tail);
+    let a = axis::axis_of(
+        kind,
+        start_head,
+        start_tail,
+        end_head,
+        end_tail,
+        end_excluded,
+    );
     segment_reply(segmented::from_index(a, index))
 }

@@ -13,7 +13,7 @@ use Rattle.values.specs.Values.{midnight}
 use Rattle.axis.specs.declared.Axis.{Axis}
 use Rattle.axis.specs.declared.Hint.{Hint}
 use Rattle.axis.specs.declared.Limits.{Limits}
-use Rattle.axis.specs.Axes.{start, end}
+use Rattle.axis.specs.Axes.{start, last}
 use Rattle.mapping.specs.declared.Pixel.the-variants as pixel
 use Rattle.mapping.specs.Mapping.{placed, mapQuestions, mapped}
 use Rattle.mapping.proofs.Days.{days-differ}
@@ -35,13 +35,13 @@ use Rattle.promises.specs.Demand.{FineList, DaysApart, Demand3}
 -- ---- from an answer to its numbers
 -- a refused call counts none
 reply-fine : (a : Axis) (h : Hint) (r : Listed) (l : List ℤ) → 2 * countOf r ≤ length l →
-    ((c : ℕ) → r ≡ Ticks c → Fine (limit h) (start a) (end a) (take (2 * c) l)) → FineList a h (countReply r) l
+    ((c : ℕ) → r ≡ Ticks c → Fine (limit h) (start a) (last a) (take (2 * c) l)) → FineList a h (countReply r) l
 reply-fine a h (Refused q) l room f s = record {
   count = 0;
   counted = refl;
   few = omega arith;
   held = omega arith;
-  fine = none-fine (limit h) (start a) (end a);
+  fine = none-fine (limit h) (start a) (last a);
 }
 reply-fine a h (Ticks c) l room f s =
     let g = f c refl in

@@ -8,7 +8,7 @@ use Rattle.calendar.specs.Questions.{isDate, inRanges, numberOf}
 use Rattle.floats.specs.Rounding as rounding
 use Rattle.values.specs.Differences.{nanoseconds, difference, nanosecondsOf}
 use Rattle.values.specs.Values.{overDates, isValue, earlier}
-use Rattle.axis.specs.Axes.{spanOf, offsetOf}
+use Rattle.axis.specs.Axes.{spanOf, offsetOf, closed}
 use Rattle.axis.specs.Questions as asks
 use Rattle.mapping.specs.Mapping as mapping
 use Rattle.counting.specs.Counting as count
@@ -30,12 +30,12 @@ use Rattle.promises.proofs.OpenRows as laws
 
 -- ---- rows that leave something open
 below-the-power : Holds rows.below-the-power
-unfolding isValue asks.ends asks.inOrder earlier spanOf difference nanoseconds
-below-the-power = λ i. periodNumbers (periodReply (laws.below-the-power (spanFrom 49599999999999) refl refl refl refl i))
+unfolding isValue asks.ends asks.inOrder asks.excludable earlier spanOf difference nanoseconds
+below-the-power = λ i. periodNumbers (periodReply (laws.below-the-power (spanFrom 49599999999999) refl refl refl refl refl i))
 
 at-the-power : Holds rows.at-the-power
-unfolding isValue asks.ends asks.inOrder earlier spanOf difference nanoseconds
-at-the-power = λ i. periodNumbers (periodReply (laws.at-the-power (spanFrom 49600000000000) refl refl refl refl i))
+unfolding isValue asks.ends asks.inOrder asks.excludable earlier spanOf difference nanoseconds
+at-the-power = λ i. periodNumbers (periodReply (laws.at-the-power (spanFrom 49600000000000) refl refl refl refl refl i))
 
 earlier-year : Holds rows.earlier-year
 earlier-year = λ i. countNumbers (numberReply (laws.earlier-year 737790 (omega arith) (omega arith) i))
@@ -46,27 +46,28 @@ no-whole-month = λ i.
 
 -- ---- the others
 negative-start : Holds rows.negative-start
-unfolding overDates isValue earlier spanOf difference nanoseconds nanosecondsOf asks.known asks.ends asks.inOrder
-    asks.nearZero asks.nearOrLong asks.boldHint count.monthly count.yearly count.weekly while periods.exponentFrom
-    periods.determineActualNsPerPoint periods.periodFrom periods.computePeriodPerPoint times.plus times.periodOn times.aligned
-    times.durationOf times.durationsBy times.durationKeyPoints keyPoints keyPointsFor ticks.ticksAnswer ticks.ticksWritten
+unfolding closed overDates isValue earlier spanOf difference nanoseconds nanosecondsOf asks.known asks.ends asks.inOrder
+    asks.excludable asks.nearZero asks.nearOrLong asks.boldHint count.monthly count.yearly count.weekly while
+    periods.exponentFrom periods.determineActualNsPerPoint periods.periodFrom periods.computePeriodPerPoint times.plus
+    times.periodOn times.aligned times.durationOf times.durationsBy times.durationKeyPoints keyPoints keyPointsFor
+    ticks.ticksOf ticks.ticksAnswer ticks.ticksWritten
 negative-start = refl
 
 high-limit : Holds rows.high-limit
-unfolding ieee.span ieee.climb ieee.size ieee.odd ieee.units ieee.round ieee.mul ieee.div ieee.ofInt ieee.toUnsigned
-    rounding.floorF overDates isValue earlier asks.known asks.hasUnmap asks.ends asks.inOrder asks.pixels asks.differ
-    asks.unmapPixels asks.checked asks.answered count.monthly count.yearly count.weekly count.fromDay count.sizeOf
-    index.valueAt index.indexAt index.indexUnder discrete.valueUnder discrete.unmapAnswer
+unfolding closed ieee.span ieee.climb ieee.size ieee.odd ieee.units ieee.round ieee.mul ieee.div ieee.ofInt ieee.toUnsigned
+    rounding.floorF overDates isValue earlier asks.known asks.hasUnmap asks.ends asks.inOrder asks.excludable asks.pixels
+    asks.differ asks.unmapPixels asks.checked asks.answered count.monthly count.yearly count.weekly count.fromDay
+    count.sizeOf index.valueAt index.indexAt index.indexUnder discrete.valueUnder discrete.unmapAnswer
 high-limit = refl
 
 first-centre : Holds rows.first-centre
-unfolding ieee.span ieee.climb ieee.size ieee.odd ieee.units ieee.round ieee.mul ieee.div ieee.ofInt ieee.toUnsigned
+unfolding closed ieee.span ieee.climb ieee.size ieee.odd ieee.units ieee.round ieee.mul ieee.div ieee.ofInt ieee.toUnsigned
     ieee.toSigned rounding.floorF rounding.roundF rounding.quotientOf nanoseconds difference nanosecondsOf overDates isValue
-    earlier spanOf offsetOf asks.known asks.hasPeriod asks.hasIndex asks.ends asks.inOrder asks.pixels asks.valueOn
-    asks.mappable asks.checked mapping.scaleOf mapping.mapCoord mapping.placedBy mapping.placed count.monthly count.yearly
-    count.weekly count.origin count.position count.sizeOf index.isIndexed index.indexOf index.valueAt discrete.nextIn
-    segments.segmentOn segments.segmentOf segments.segmentMappable segments.marginOf segments.inner segments.segmentWorked
-    segmentMapAnswer
+    earlier spanOf offsetOf asks.known asks.hasPeriod asks.hasIndex asks.ends asks.inOrder asks.excludable asks.pixels
+    asks.valueOn asks.mappable asks.checked mapping.scaleOf mapping.mapCoord mapping.placedBy mapping.placed count.monthly
+    count.yearly count.weekly count.origin count.position count.sizeOf index.isIndexed index.indexOf index.valueAt
+    discrete.nextIn segments.segmentOn segments.segmentOf segments.segmentMappable segments.marginOf segments.inner
+    segments.segmentWorked segmentMapAnswer
 first-centre = refl
 
 later : AllHold (rows.high-limit ∷ (rows.earlier-year ∷ (rows.no-whole-month ∷ (rows.first-centre ∷ []))))

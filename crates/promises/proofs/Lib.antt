@@ -4,5 +4,6 @@ pub mod DayNumbers
 pub mod OpenRows
 pub mod Misreadings
 pub mod Weeks
+pub mod ExcludedEnds
 pub mod Examples
 pub mod WrongAnswers

@@ -9,7 +9,7 @@ use Rattle.values.specs.declared.Value.{Value}
 use Rattle.values.specs.Differences.{nanoseconds, difference, nanosecondsOf}
 use Rattle.values.specs.Values.{overDates, isValue, earlier, midnight}
 use Rattle.axis.specs.declared.Axis.{Axis}
-use Rattle.axis.specs.Axes.{spanOf, offsetOf}
+use Rattle.axis.specs.Axes.{spanOf, offsetOf, closed}
 use Rattle.axis.specs.Questions as asks
 use Rattle.floats.specs.Rounding as rounding
 use Rattle.mapping.specs.Mapping as mapping
@@ -32,12 +32,12 @@ two-days : Axis
 two-days = axisFrom (pos 1) (midnight (pos 1)) (midnight (pos 2))
 
 pub no-inverse : UnmapInverts → ⊥
-unfolding ieee.span ieee.climb ieee.size ieee.odd ieee.units ieee.round ieee.mul ieee.div ieee.ofInt ieee.toUnsigned
+unfolding closed ieee.span ieee.climb ieee.size ieee.odd ieee.units ieee.round ieee.mul ieee.div ieee.ofInt ieee.toUnsigned
     ieee.toSigned rounding.floorF rounding.quotientOf nanoseconds difference nanosecondsOf overDates isValue earlier spanOf
-    offsetOf asks.known asks.hasPeriod asks.hasUnmap asks.ends asks.inOrder asks.nearOrLong asks.pixels asks.differ
-    asks.unmapPixels asks.valueOn asks.mappable asks.checked asks.answered mapping.scaleOf mapping.mapCoord mapping.placedBy
-    mapping.placed mapping.mapped count.weekly count.monthly count.yearly count.fromDay count.sizeOf index.valueAt
-    index.indexAt index.indexUnder discrete.valueUnder discrete.unmapAnswer two-days
+    offsetOf asks.known asks.hasPeriod asks.hasUnmap asks.ends asks.inOrder asks.excludable asks.nearOrLong asks.pixels
+    asks.differ asks.unmapPixels asks.valueOn asks.mappable asks.checked asks.answered mapping.scaleOf mapping.mapCoord
+    mapping.placedBy mapping.placed mapping.mapped count.weekly count.monthly count.yearly count.fromDay count.sizeOf
+    index.valueAt index.indexAt index.indexUnder discrete.valueUnder discrete.unmapAnswer two-days
 no-inverse f =
     let e : midnight (pos 3) ≡ midnight (pos 2) =
     f two-days (limitsOf (pos 0) (pos 1)) (midnight (pos 2)) (midnight (pos 3)) (pos 1) refl refl in
@@ -49,11 +49,11 @@ first-nanosecond : Axis
 first-nanosecond = axisFrom (pos 5) (atNano (midnight (pos 1)) 1) (atNano (midnight (pos 1)) 1)
 
 pub some-before : NeverBefore → ⊥
-unfolding calendar.leap calendar.leapDay calendar.monthLength calendar.months calendar.yearLength calendar.years
+unfolding closed calendar.leap calendar.leapDay calendar.monthLength calendar.months calendar.yearLength calendar.years
     calendar.dayNumber calendar.nextDay calendar.daysLater calendar.dateOf overDates isValue earlier asks.known asks.ends
-    asks.inOrder asks.nearOrLong asks.boldHint count.weekly count.monthly count.yearly count.fromDay count.toDay while
-    months.startOf months.carried months.generateKeyPoints months.totalMonth months.monthsFrom months.monthKeyPoints keyPoints
-    keyPointsFor ticks.ticksAnswer ticks.ticksWritten first-nanosecond
+    asks.inOrder asks.excludable asks.nearOrLong asks.boldHint count.weekly count.monthly count.yearly count.fromDay
+    count.toDay while months.startOf months.carried months.generateKeyPoints months.totalMonth months.monthsFrom
+    months.monthKeyPoints keyPoints keyPointsFor ticks.ticksOf ticks.ticksAnswer ticks.ticksWritten first-nanosecond
 some-before f =
     let later = by-tail refl (smaller (pos 0) (pos 1) (omega arith)) in
     f first-nanosecond (boldOf 1) (pos 7 ∷ (pos 7 ∷ [])) 1 0 refl (omega arith) later
@@ -65,8 +65,8 @@ week-less-one = axisFrom (pos 4) (atNano (midnight (pos 1)) 1) (midnight (pos 8)
 pub not-exact : AlwaysExact → ⊥
 unfolding ieee.span ieee.climb ieee.size ieee.odd ieee.units ieee.round ieee.mul ieee.div ieee.ofInt ieee.toSigned
     rounding.quotientOf nanoseconds difference nanosecondsOf overDates isValue earlier spanOf offsetOf asks.known asks.ends
-    asks.inOrder asks.nearOrLong asks.pixels asks.valueOn asks.mappable mapping.scaleOf mapping.mapCoord mapping.placedBy
-    mapping.placed mapping.mapped week-less-one
+    asks.inOrder asks.excludable asks.nearOrLong asks.pixels asks.valueOn asks.mappable mapping.scaleOf mapping.mapCoord
+    mapping.placedBy mapping.placed mapping.mapped week-less-one
 not-exact f =
     let e : pos 14 ≡ pos 15 =
     f week-less-one (limitsOf (pos 0) (pos 15)) (midnight (pos 8)) (pos 14) refl (smaller _ _ (omega arith)) refl in

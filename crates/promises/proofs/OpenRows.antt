@@ -1,6 +1,6 @@
 -- The open rows of the settled examples, for all of what they leave open. Assumes nothing.
 use mathlib.Core.Path.{_≡_, refl, sym, _∙_}
-use mathlib.Core.Bool.{true}
+use mathlib.Core.Bool.{true, false}
 use mathlib.Core.List.{List, [], _∷_, _++_}
 use mathlib.Core.Option.{some}
 use Prim.Native.Nat.{ℕ, _+_, _*_, _/_, _^_, _≤_}
@@ -20,7 +20,8 @@ use Rattle.values.specs.Values.{isValue, earlier, midnight}
 use Rattle.values.specs.Differences.{fitsI64}
 use Rattle.axis.specs.declared.Axis.{Axis}
 use Rattle.axis.specs.declared.Hint.{Hint}
-use Rattle.axis.specs.Questions.{known, hasIndex, hasPeriod, ends, inOrder, nearOrLong, hintOn, boldHint, valueOn}
+use Rattle.axis.specs.Axes.{excluded, closed}
+use Rattle.axis.specs.Questions.{known, hasIndex, hasPeriod, ends, inOrder, excludable, nearOrLong, hintOn, boldHint, valueOn}
 use Rattle.axis.proofs.Questions.{other-kind}
 use Rattle.counting.specs.Counting.{fromDay, toDay, monthly, yearly, firstDate, dateOn, origin, position, sizeOf}
 use Rattle.steps.specs.Months.{monthOf, wholeMonth}
@@ -32,8 +33,8 @@ use Rattle.keypoints.specs.Periods.{exponentFrom, determineActualNsPerPoint, pe
 use Rattle.keypoints.specs.Times.{periodOn}
 use Rattle.keypoints.specs.KeyPoints.{keyPoints}
 use Rattle.keypoints.specs.Hints.{keyPointsFor}
-use Rattle.ticks.specs.Answers.{tickQuestions, ticksAnswer, ticksWritten, periodQuestions, periodAnswer}
-use Rattle.ticks.proofs.KeyPoints.{plan-same}
+use Rattle.ticks.specs.Answers.{tickQuestions, ticksOf, ticksAnswer, ticksWritten, periodQuestions, periodAnswer}
+use Rattle.ticks.proofs.KeyPoints.{ticks-same}
 use Rattle.discrete.specs.declared.NumberAnswer.the-variants as number
 use Rattle.discrete.specs.Indices.{isIndexed, indexOf}
 use Rattle.discrete.specs.Answers.{indexIn, indexAnswer, sizeAnswer}
@@ -43,7 +44,7 @@ use Rattle.promises.specs.OpenRows.{NoWholeMonth}
 use Rattle.promises.proofs.DayNumbers.{december-2019, january-2020, december-2021, january-2022}
 
 -- ---- a list that the questions accept and the lent numbers have room for
-listed : (a : Axis) (h : Hint) (l : List Value) (d : List ℤ) → firstNo (tickQuestions a h) ≡ 0 → keyPointsFor a h ≡ l →
+listed : (a : Axis) (h : Hint) (l : List Value) (d : List ℤ) → firstNo (tickQuestions a h) ≡ 0 → ticksOf a h ≡ l →
     2 * length l ≤ length d → listedInto a h d ≡ pos 0 ∷ (pos (length l) ∷ (numbers l ++ drop (2 * length l) d))
 unfolding ticksAnswer ticksWritten
 listed a h l d z e r = rw (z, e, le-leb (2 * length l) (length d) r)
@@ -69,11 +70,11 @@ module _ (day k n : ℕ) (first : 1 ≤ day) (last : day + k ≤ 3652059) (few :
   hint = rw (le-leb 0 n (omega arith), le-leb n 4096 few)
 
   accepted : firstNo (tickQuestions a (boldOf n)) ≡ 0
-  unfolding known nearOrLong
+  unfolding known excludable nearOrLong
   accepted = rw (real, order, hint)
 
-  days : keyPointsFor a (boldOf n) ≡ datesFrom day (pos k) (pos (k / 7)) n
-  unfolding keyPointsFor keyPoints dateKeyPoints fromDay toDay
+  days : ticksOf a (boldOf n) ≡ datesFrom day (pos k) (pos (k / 7)) n
+  unfolding closed ticksOf keyPointsFor keyPoints dateKeyPoints fromDay toDay
   days =
       let e : pos (day + k) -ℤ pos (day + 0) ≡ pos k = same (pos (day + k) -ℤ pos (day + 0)) (pos k)
       (omega (arith, sub (pos (day + k)) (pos (day + 0)))) in
@@ -103,17 +104,17 @@ two-weeks day d first last room =
     (accepted day 14 1 first last few) (days day 14 1 first last few ∙ both-ends day) room
 
 -- ---- the periods
-has-period : (a : Axis) → a .kind ≡ pos 4 → ends a ≡ true → inOrder a ≡ true →
+has-period : (a : Axis) → a .kind ≡ pos 4 → ends a ≡ true → inOrder a ≡ true → excluded a ≡ false →
     firstNo (periodQuestions a (record { n = pos 100 })) ≡ 0
-unfolding known hasPeriod boldHint
-has-period a kind real order =
+unfolding known hasPeriod excludable boldHint
+has-period a kind real order kept =
     let near : nearOrLong a ≡ true = sym (other-kind a (rw kind)) in
-    rw (real, order, near, kind)
+    rw (real, order, kept, near, kind)
 
 -- where the span has a period, the axis has
 spanned : (span k : ℕ) → fitsI64 (pos span) ≡ true → computePeriodPerPoint 130 span 100 true ≡ some k → PeriodOf span k
 unfolding periodAnswer periodOn
-spanned span k f e a kind real order s = rw (has-period a kind real order, s, f, kind, e)
+spanned span k f e a kind real order kept s = rw (has-period a kind real order kept, s, f, kind, e)
 
 pub below-the-power : BelowThePower
 unfolding exponentFrom determineActualNsPerPoint periodFrom computePeriodPerPoint
@@ -125,8 +126,8 @@ at-the-power = spanned (10 ^ 15) (4 * perHour) refl refl
 
 -- ---- an index
 pub earlier-year : EarlierYear
-unfolding indexAnswer indexIn isIndexed indexOf known hasIndex ends isValue inOrder earlier valueOn monthly yearly fromDay
-    firstDate dateOn origin position
+unfolding closed indexAnswer indexIn isIndexed indexOf known hasIndex ends isValue inOrder excludable earlier valueOn monthly
+    yearly fromDay firstDate dateOn origin position
 earlier-year last least most =
     rw (
       le-leb 1 last (omega arith),
@@ -152,12 +153,12 @@ module _ (n : ℕ) (least : 1 ≤ n) (few : n ≤ 4096) where
   any-hint = rw (le-leb 0 n (omega arith), le-leb 1 n least, le-leb n 4096 few)
 
   year-accepted : firstNo (tickQuestions new-year (boldOf n)) ≡ 0
-  unfolding known nearOrLong ends isValue inOrder earlier
+  unfolding known nearOrLong ends isValue inOrder excludable earlier
   year-accepted = rw any-hint
 
-  no-ticks : keyPointsFor new-year (boldOf n) ≡ []
-  unfolding planOf monthly monthPlan
-  no-ticks = plan-same new-year (boldOf n) year-accepted ∙ (rw (first-month, last-month))
+  no-ticks : ticksOf new-year (boldOf n) ≡ []
+  unfolding closed planOf monthly monthPlan
+  no-ticks = ticks-same new-year (boldOf n) year-accepted ∙ (rw (first-month, last-month))
 
 pub no-whole-month : NoWholeMonth
 no-whole-month n d least few =
@@ -165,5 +166,5 @@ no-whole-month n d least few =
 
 -- its size is 12
 pub twelve : sizeAnswer new-year ≡ number.Is 12
-unfolding sizeAnswer sizeOf known hasIndex ends isValue inOrder earlier monthly firstDate dateOn fromDay
+unfolding closed sizeAnswer sizeOf known hasIndex ends isValue inOrder excludable earlier monthly firstDate dateOn fromDay
 twelve = rw (december-2021, january-2022)

@@ -31,6 +31,7 @@ use Rattle.weeks.proofs.Questions.{is-week-date, raw, week-at, number-of, numbe
 use Rattle.values.specs.declared.Value.{Value}
 use Rattle.values.specs.Values.{overDates, isValue, earlier, midnight}
 use Rattle.axis.specs.declared.Axis.{Axis}
+use Rattle.axis.specs.Axes.{closed}
 use Rattle.axis.specs.Questions as asks
 use Rattle.counting.specs.Counting as count
 use Rattle.discrete.specs.Indices as index
@@ -173,10 +174,10 @@ one-day d = axisFrom (pos 8) (midnight (pos d)) (midnight (pos d))
 
 -- on day 1 alone the index of day 2 is 0, and index 0 is day 1
 pub no-index-inverse : IndexInverts → ⊥
-unfolding weeks.weekday weeks.counted weeks.mondaysTo overDates isValue earlier asks.known asks.hasPeriod asks.hasIndex
-    asks.ends asks.inOrder asks.valueOn asks.checked asks.answered count.monthly count.yearly count.weekly count.origin
-    count.position index.isIndexed index.indexOf index.weekAt index.valueAt discrete.indexIn discrete.indexAnswer
-    discrete.fromIndexAnswer one-day
+unfolding closed weeks.weekday weeks.counted weeks.mondaysTo overDates isValue earlier asks.known asks.hasPeriod
+    asks.hasIndex asks.ends asks.inOrder asks.excludable asks.valueOn asks.checked asks.answered count.monthly count.yearly
+    count.weekly count.origin count.position index.isIndexed index.indexOf index.weekAt index.valueAt discrete.indexIn
+    discrete.indexAnswer discrete.fromIndexAnswer one-day
 no-index-inverse f =
     let e = f (one-day 1) (midnight (pos 2)) (midnight (pos 1)) 0 refl refl refl in
     let z = ap (λ (v : Value). posPart (v .head)) e in
@@ -184,9 +185,9 @@ no-index-inverse f =
 
 -- on day 2 alone index 0 is day 2, a Tuesday
 pub start-no-monday : AlwaysMondays → ⊥
-unfolding weeks.weekday overDates isValue earlier asks.known asks.hasPeriod asks.hasIndex asks.ends asks.inOrder
-    asks.checked asks.answered count.monthly count.yearly count.weekly index.weekAt index.valueAt discrete.fromIndexAnswer
-    one-day
+unfolding closed weeks.weekday overDates isValue earlier asks.known asks.hasPeriod asks.hasIndex asks.ends asks.inOrder
+    asks.excludable asks.checked asks.answered count.monthly count.yearly count.weekly index.weekAt index.valueAt
+    discrete.fromIndexAnswer one-day
 start-no-monday f = let z = f (one-day 2) (midnight (pos 2)) 0 refl refl in omega arith
 
 -- ---- the table

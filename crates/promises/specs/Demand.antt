@@ -10,7 +10,7 @@ use Rattle.values.specs.Values.{midnight}
 use Rattle.axis.specs.declared.Axis.{Axis}
 use Rattle.axis.specs.declared.Hint.{Hint}
 use Rattle.axis.specs.declared.Limits.{Limits}
-use Rattle.axis.specs.Axes.{start, end}
+use Rattle.axis.specs.Axes.{start, last}
 use Rattle.mapping.specs.Mapping.{mapped}
 use Rattle.mapping.specs.Days.{DayOf, MorePixels}
 use Rattle.steps.specs.Promise.{Fine}
@@ -22,21 +22,22 @@ use Rattle.ordered.specs.declared.OrderedPixel.{OrderedPixel}
 use Rattle.ordered.specs.Replies.{countReply, pixelReply}
 
 -- a count that is answered, where N is n and l are the lent numbers after the call: at most N + 1, the lent numbers hold two
--- for each tick, and these are later each, none after the end, none before the whole second of the start
-pub record FineCount (n : ℕ) (start end : Value) (value : ℤ) (l : List ℤ) : Type 0 where
+-- for each tick, and these are later each, none after the last value of the axis, none before the whole second of the start
+pub record FineCount (n : ℕ) (start last : Value) (value : ℤ) (l : List ℤ) : Type 0 where
   pub count : ℕ
   pub counted : value ≡ pos count
   pub few : count ≤ n + 1
   pub held : 2 * count ≤ length l
-  pub fine : Fine n start end (take (2 * count) l)
+  pub fine : Fine n start last (take (2 * count) l)
 
--- a call with the hint h that answered r and left l in the lent numbers, where it was not refused
+-- a call with the hint h that answered r and left l in the lent numbers, where it was not refused. The last value of an axis
+-- is its end, or the day before an excluded end
 abbrev pub FineList : Axis → Hint → OrderedNumber → List ℤ → Type 0
-FineList a h r l = r .status ≡ pos 0 → FineCount (limit h) (start a) (end a) (r .value) l
+FineList a h r l = r .status ≡ pos 0 → FineCount (limit h) (start a) (last a) (r .value) l
 
 -- the part that is handed back, which is empty where the call was refused
 abbrev pub FinePart : Axis → Hint → List ℤ → Type 0
-FinePart a h part = Fine (limit h) (start a) (end a) part
+FinePart a h part = Fine (limit h) (start a) (last a) part
 
 -- mappings that answered x for the day i and y for the day j: where none was refused, the days are different days of a date
 -- axis, and there are more pixels than days, the pixels differ

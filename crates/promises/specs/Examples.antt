@@ -49,9 +49,9 @@ ymd y m d = record { year = pos y; month = pos m; day = pos d }
 abbrev pub atNano : Value → ℕ → Value
 atNano v t = record { head = v .head; tail = pos t }
 
--- an axis of a kind between two values
+-- an axis of a kind between two values, which belong to it
 abbrev pub axisFrom : ℤ → Value → Value → Axis
-axisFrom kind s e = axisOf kind (s .head) (s .tail) (e .head) (e .tail)
+axisFrom kind s e = axisOf kind (s .head) (s .tail) (e .head) (e .tail) (pos 0)
 
 -- a bold hint
 abbrev pub boldOf : ℕ → Hint

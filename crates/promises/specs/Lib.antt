@@ -4,4 +4,5 @@ pub mod Examples
 pub mod OpenRows
 pub mod Misreadings
 pub mod Weeks
+pub mod ExcludedEnds
 pub mod WrongAnswers

@@ -1,7 +1,7 @@
 -- The settled examples that leave something open, said of all of it: every start, every end, every N that has room.
 -- Definitions only.
 use mathlib.Core.Path.{_≡_}
-use mathlib.Core.Bool.{true}
+use mathlib.Core.Bool.{true, false}
 use mathlib.Core.List.{List, _∷_}
 use Prim.Native.Nat.{ℕ, _+_, _*_, _^_, _≤_}
 use lib.IntN.{ℤ, pos}
@@ -9,7 +9,7 @@ use lib.ListN.{length, drop}
 use Rattle.laws.specs.Units.{perHour}
 use Rattle.values.specs.Values.{midnight}
 use Rattle.axis.specs.declared.Axis.{Axis}
-use Rattle.axis.specs.Axes.{spanOf}
+use Rattle.axis.specs.Axes.{spanOf, excluded}
 use Rattle.axis.specs.Questions.{ends, inOrder}
 use Rattle.ticks.specs.Answers.{periodAnswer}
 use Rattle.ticks.specs.declared.PeriodAnswer.the-variants as period
@@ -34,10 +34,10 @@ TwoWeeks =
     → listedInto (datesApart day 14) (boldOf 1) d
     ≡ pos 0 ∷ (pos 2 ∷ (pos day ∷ (pos 0 ∷ (pos (day + 14) ∷ (pos 0 ∷ drop 4 d)))))
 
--- a span of kind 4 with N 100 has the period k, between any two date-times in order that are so far apart
+-- a span of kind 4 with N 100 has the period k, between any two date-times in order that are so far apart, the end included
 abbrev pub PeriodOf : ℕ → ℕ → Type 0
 PeriodOf span k =
-    (a : Axis) → a .kind ≡ pos 4 → ends a ≡ true → inOrder a ≡ true → spanOf a ≡ pos span
+    (a : Axis) → a .kind ≡ pos 4 → ends a ≡ true → inOrder a ≡ true → excluded a ≡ false → spanOf a ≡ pos span
     → periodAnswer a (record { n = pos 100 }) ≡ period.Is k
 
 -- 'span 10^15 − 1 ns, N 100, kind 4': 5 h

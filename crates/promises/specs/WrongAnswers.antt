@@ -1,5 +1,6 @@
--- For each exported operation two wrong answers to one request, and for three of them two of weeks. An export's statement says
--- that it answers what its definition does, so an answer that the definition does not give is ruled out. Definitions only.
+-- For each exported operation two wrong answers to one request, and for some of them two of weeks and of an excluded end. An
+-- export's statement says that it answers what its definition does, so an answer that the definition does not give is ruled
+-- out. Definitions only.
 use mathlib.Core.Path.{_≡_}
 use mathlib.Core.List.{List, [], _∷_, _++_}
 use Prim.Native.Nat.{ℕ}
@@ -24,6 +25,7 @@ use Rattle.ordered.specs.Replies.{dayReply, dateReply, pixelReply, countReply, 
 use Rattle.ordered.specs.Replies.{stepReply, segmentReply}
 use Rattle.promises.specs.Examples.{countNumbers, pixelNumbers, periodNumbers, valueNumbers, ymd, atNano}
 use Rattle.promises.specs.Examples.{axisFrom, boldOf, limitsOf, centreAt, listedInto, sevens}
+use Rattle.promises.specs.ExcludedEnds.{before, segmentPixel}
 use Rattle.promises.specs.Weeks.{dayOfWeekDate, weekDateOfDay, weekNumbers}
 
 -- the numbers of a date
@@ -306,6 +308,61 @@ value-of-weeks =
       other = pos 0 ∷ (pos 15 ∷ (pos 0 ∷ []));
     }
 
+-- ---- of an excluded end
+-- ordered_size, days 1 to 4, day 4 excluded: the end still counted; refused, as if no date axis had an excluded end
+abbrev pub size-excluded : Row
+size-excluded =
+    record {
+      answer = countNumbers (numberReply (sizeAnswer (before 1 1 4)));
+      wrong = pos 0 ∷ (pos 4 ∷ []);
+      other = pos 14 ∷ (pos 0 ∷ []);
+    }
+
+-- ordered_map, days 1 to 3, day 3 excluded, between 0 and 100, day 2: at the high limit, as if measured to the day before; 9
+abbrev pub map-excluded : Row
+map-excluded =
+    record {
+      answer = pixelNumbers (pixelReply (mapped (before 1 1 3) (limitsOf (pos 0) (pos 100)) (midnight (pos 2))));
+      wrong = pos 0 ∷ (pos 100 ∷ []);
+      other = pos 9 ∷ (pos 0 ∷ []);
+    }
+
+-- ordered_ticks_bold, days 1 to 3, day 3 excluded, N 10: a tick on the excluded end; the start alone
+abbrev pub ticks-excluded : Row
+ticks-excluded =
+    record {
+      answer = listedInto (before 1 1 3) (boldOf 10) sevens;
+      wrong = pos 0 ∷ (pos 3 ∷ (pos 1 ∷ (pos 0 ∷ (pos 2 ∷ (pos 0 ∷ (pos 3 ∷ (pos 0 ∷ [])))))));
+      other = pos 0 ∷ (pos 1 ∷ (pos 1 ∷ (pos 0 ∷ (pos 7 ∷ (pos 7 ∷ (pos 7 ∷ (pos 7 ∷ [])))))));
+    }
+
+-- ordered_period_per_point, kind 4, midnights of days 1 to 2, the end excluded, N 10: the period; none
+abbrev pub period-excluded : Row
+period-excluded =
+    record {
+      answer = periodNumbers (periodReply (periodAnswer (before 4 1 2) (record { n = pos 10 })));
+      wrong = pos 0 ∷ (pos 18000000000000 ∷ []);
+      other = minus 1 ∷ (pos 0 ∷ []);
+    }
+
+-- ordered_size, kind 5 from day 6 to day 5, the end excluded: 14 before 4; answered
+abbrev pub order-excluded : Row
+order-excluded =
+    record {
+      answer = countNumbers (numberReply (sizeAnswer (before 5 6 5)));
+      wrong = pos 14 ∷ (pos 0 ∷ []);
+      other = pos 0 ∷ (pos 0 ∷ []);
+    }
+
+-- ordered_segment_map, days 1 to 4, day 4 excluded, between 0 and 90, day 2: by the size with the end; to the day before
+abbrev pub segment-excluded : Row
+segment-excluded =
+    record {
+      answer = segmentPixel 1 2;
+      wrong = pos 0 ∷ (pos 22 ∷ []);
+      other = pos 0 ∷ (pos 30 ∷ []);
+    }
+
 -- ---- the wrongTable, and what is claimed of it: no row answers a wrong answer
 abbrev pub wrongTable : List Row
 wrongTable =
@@ -335,7 +392,13 @@ wrongTable =
     ∷ (ticks-of-weeks
     ∷ (index-of-weeks
     ∷ (value-of-weeks
-    ∷ [])))))))))))))))))))))))))
+    ∷ (size-excluded
+    ∷ (map-excluded
+    ∷ (ticks-excluded
+    ∷ (period-excluded
+    ∷ (order-excluded
+    ∷ (segment-excluded
+    ∷ [])))))))))))))))))))))))))))))))
 
 -- the answer is neither of the two
 abbrev pub RuledOut : Row → Type 0

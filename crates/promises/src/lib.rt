@@ -19,13 +19,23 @@ pub fn ticks_bold(
     start_tail: i64,
     end_head: i64,
     end_tail: i64,
+    end_excluded: i64,
     n: i64,
     lent: &mut [i64],
 ) -> OrderedNumber
-    ensures { λ r. ⌜ FineList (axisOf kind «start_head» «start_tail» «end_head» «end_tail»)
+    ensures { λ r. ⌜ FineList (axisOf kind «start_head» «start_tail» «end_head» «end_tail» «end_excluded»)
         (Hint.Bold (record { n = n })) r (now (lent .exit)) ⌝ }
 {
-    ordered::ordered_ticks_bold(kind, start_head, start_tail, end_head, end_tail, n, lent)
+    ordered::ordered_ticks_bold(
+        kind,
+        start_head,
+        start_tail,
+        end_head,
+        end_tail,
+        end_excluded,
+        n,
+        lent,
+    )
 }
 
 pub fn ticks_light(
@@ -34,11 +44,12 @@ pub fn ticks_light(
     start_tail: i64,
     end_head: i64,
     end_tail: i64,
+    end_excluded: i64,
     bold: i64,
     n: i64,
     lent: &mut [i64],
 ) -> OrderedNumber
-    ensures { λ r. ⌜ FineList (axisOf kind «start_head» «start_tail» «end_head» «end_tail»)
+    ensures { λ r. ⌜ FineList (axisOf kind «start_head» «start_tail» «end_head» «end_tail» «end_excluded»)
         (Hint.Light (record { bold = bold; n = n })) r (now (lent .exit)) ⌝ }
 {
     ordered::ordered_ticks_light(
@@ -47,6 +58,7 @@ pub fn ticks_light(
         start_tail,
         end_head,
         end_tail,
+        end_excluded,
         bold,
         n,
         lent,
@@ -59,13 +71,23 @@ pub fn segment_ticks_bold(
     start_tail: i64,
     end_head: i64,
     end_tail: i64,
+    end_excluded: i64,
     n: i64,
     lent: &mut [i64],
 ) -> OrderedNumber
-    ensures { λ r. ⌜ FineList (axisOf kind «start_head» «start_tail» «end_head» «end_tail»)
+    ensures { λ r. ⌜ FineList (axisOf kind «start_head» «start_tail» «end_head» «end_tail» «end_excluded»)
         (Hint.Bold (record { n = n })) r (now (lent .exit)) ⌝ }
 {
-    ordered::ordered_segment_ticks_bold(kind, start_head, start_tail, end_head, end_tail, n, lent)
+    ordered::ordered_segment_ticks_bold(
+        kind,
+        start_head,
+        start_tail,
+        end_head,
+        end_tail,
+        end_excluded,
+        n,
+        lent,
+    )
 }
 
 pub fn segment_ticks_light(
@@ -74,11 +96,12 @@ pub fn segment_ticks_light(
     start_tail: i64,
     end_head: i64,
     end_tail: i64,
+    end_excluded: i64,
     bold: i64,
     n: i64,
     lent: &mut [i64],
 ) -> OrderedNumber
-    ensures { λ r. ⌜ FineList (axisOf kind «start_head» «start_tail» «end_head» «end_tail»)
+    ensures { λ r. ⌜ FineList (axisOf kind «start_head» «start_tail» «end_head» «end_tail» «end_excluded»)
         (Hint.Light (record { bold = bold; n = n })) r (now (lent .exit)) ⌝ }
 {
     ordered::ordered_segment_ticks_light(
@@ -87,6 +110,7 @@ pub fn segment_ticks_light(
         start_tail,
         end_head,
         end_tail,
+        end_excluded,
         bold,
         n,
         lent,
@@ -107,12 +131,13 @@ pub fn map_days(
     start_tail: i64,
     end_head: i64,
     end_tail: i64,
+    end_excluded: i64,
     low: i64,
     high: i64,
     first: i64,
     second: i64,
 ) -> TwoPixels
-    ensures { λ r. ⌜ DaysApart (axisOf kind «start_head» «start_tail» «end_head» «end_tail»)
+    ensures { λ r. ⌜ DaysApart (axisOf kind «start_head» «start_tail» «end_head» «end_tail» «end_excluded»)
         (record { low = low; high = high }) first second (r .first) (r .second) ⌝ }
 {
     TwoPixels {
@@ -122,6 +147,7 @@ pub fn map_days(
             start_tail,
             end_head,
             end_tail,
+            end_excluded,
             low,
             high,
             first,
@@ -133,6 +159,7 @@ pub fn map_days(
             start_tail,
             end_head,
             end_tail,
+            end_excluded,
             low,
             high,
             second,

@@ -21,12 +21,12 @@ use Rattle.axis.specs.Questions.{known}
 use Rattle.steps.specs.Listing.{numbers, front}
 use Rattle.steps.specs.Promise.{nth, Later, Fine}
 use Rattle.steps.proofs.Order.{trans, irrefl}
-use Rattle.keypoints.specs.Hints.{keyPointsFor, limit}
-use Rattle.ticks.specs.Answers.{tickQuestions, ticksHanded}
+use Rattle.keypoints.specs.Hints.{limit}
+use Rattle.ticks.specs.Answers.{tickQuestions, ticksOf, ticksHanded}
 use Rattle.ticks.proofs.Hints.{accepted}
-use Rattle.ticks.proofs.Promise.{key-points-fine}
+use Rattle.ticks.proofs.Promise.{ticks-fine}
 use Rattle.ticks.proofs.Values.{tick-value, no-tail}
-use Rattle.axis.specs.Axes.{start, end}
+use Rattle.axis.specs.Axes.{start, last}
 use Rattle.text_line.specs.declared.Request.{Request}
 use Rattle.text_rows.specs.Answers.{listOf, hasFraction, fractionBefore, showsFractions}
 use Rattle.text_rows.proofs.Lists.{handed}
@@ -53,7 +53,7 @@ module _ (q : Request) where
   unfolding ticksHanded
   passed i l = go (firstNo (tickQuestions (q .axis) (Bold (q .hint)))) l
     where
-      go : (n : ℕ) → 2 * i < length (unless n (λ _. []) (front (keyPointsFor (q .axis) (Bold (q .hint))) 8194)) → n ≡ 0
+      go : (n : ℕ) → 2 * i < length (unless n (λ _. []) (front (ticksOf (q .axis) (Bold (q .hint))) 8194)) → n ≡ 0
       go zero l = refl
       go (suc n) l = absurd (let z : ⊥ = omega arith in z)
 
@@ -61,11 +61,11 @@ module _ (q : Request) where
     z : firstNo (tickQuestions (q .axis) (Bold (q .hint))) ≡ 0
     z = passed i l
 
-    same-list : list ≡ numbers (keyPointsFor (q .axis) (Bold (q .hint)))
+    same-list : list ≡ numbers (ticksOf (q .axis) (Bold (q .hint)))
     same-list = handed (q .axis) (q .hint) z
 
-    fine : Fine (limit (Bold (q .hint))) (start (q .axis)) (end (q .axis)) list
-    fine = rw same-list (key-points-fine (q .axis) (Bold (q .hint)) z)
+    fine : Fine (limit (Bold (q .hint))) (start (q .axis)) (last (q .axis)) list
+    fine = rw same-list (ticks-fine (q .axis) (Bold (q .hint)) z)
 
     is-value : isValue (q .axis .kind) (nth list i) ≡ true
     is-value = rw same-list (tick-value (q .axis) (Bold (q .hint)) z i (rw same-list at l))

@@ -3,7 +3,7 @@
 use mathlib.Core.Path.{_≡_, refl, sym, _∙_, ap}
 use mathlib.Core.Logic.{inl, inr}
 use mathlib.Core.Bool.{Bool, true, false, cond, _&&_}
-use mathlib.Core.List.{[], _∷_}
+use mathlib.Core.List.{[], _∷_, _++_}
 use Prim.Native.Nat.{ℕ, _+_, _≤_, _<_}
 use native.Mathlib.Omega.{arith}
 use lib.Dec.{ltb}
@@ -11,7 +11,7 @@ use borrow.Author.Tests.{ltb-true, lt-ltb, le-ltb, le-leb, lt-leb}
 use lib.IntN.{pos}
 use Rattle.laws.specs.Asking.{ask, thenAsk, firstNo, unless}
 use Rattle.laws.specs.Numbers.{within, isNumber}
-use Rattle.laws.proofs.Asked.{told, refuses, in-two}
+use Rattle.laws.proofs.Asked.{fewer, refuses, in-two}
 use Rattle.laws.proofs.Tests.{both-true}
 use Rattle.calendar.specs.Questions.{isDay}
 use Rattle.values.specs.declared.Value.{Value}
@@ -19,11 +19,12 @@ use Rattle.values.proofs.Numbers.{within-true, either-true}
 use Rattle.axis.specs.declared.Axis.{Axis}
 use Rattle.axis.specs.declared.Limits.{Limits}
 use Rattle.axis.specs.declared.ValueAnswer.the-variants as value
-use Rattle.axis.specs.Questions.{valueOn, mappable, checked}
+use Rattle.axis.specs.Axes.{closed}
+use Rattle.axis.specs.Questions.{pixels, valueOn, mappable, checked}
 use Rattle.mapping.specs.declared.Pixel.{Pixel}
 use Rattle.mapping.specs.declared.Pixel.the-variants as pixel
 use Rattle.counting.specs.Counting.{Dated, sizeOf}
-use Rattle.counting.proofs.Counting.{dated, size-most}
+use Rattle.counting.proofs.Counting.{size-most, value-on}
 use Rattle.discrete.specs.declared.NumberAnswer.the-variants as number
 use Rattle.discrete.specs.Indices.{indexOf, valueAt}
 use Rattle.discrete.specs.Answers.{sizeQuestions, indexIn}
@@ -34,7 +35,7 @@ use Rattle.segmented.specs.declared.SegmentValue.{SegmentValue}
 use Rattle.segmented.specs.declared.SegmentValue.the-variants.{Exact, CenterOf, Last}
 use Rattle.segmented.specs.declared.SegmentAnswer.the-variants as segment
 use Rattle.segmented.specs.declared.Segment.{Segment}
-use Rattle.segmented.specs.Segments.{headTail, SegmentOn, segmentOn, segmentOf, segmentMappable}
+use Rattle.segmented.specs.Segments.{headTail, SegmentOn, segmentOn, segmentOf, segments, segmentMappable}
 use Rattle.segmented.specs.Segments.{Worked, segmentWorked, pixelChecked}
 use Rattle.segmented.specs.Answers.{exactly, segmentAt, segmentChecked, segmentValueQuestions, segmentMapAnswer}
 use Rattle.segmented.specs.Answers.{segmentQuestions, segmentSizeAnswer, segmentIndexIn, segmentIndexAnswer}
@@ -85,16 +86,29 @@ module _ (a : Axis) (s : Segment) where
       (λ t. on-value 1 t (omega arith) e)
       (λ t. on-value 2 t (omega arith) e)
 
+-- on the axis by which it counts
+pub on-closed : (a : Axis) (v : SegmentValue) → SegmentOn a v → SegmentOn (closed a) v
+on-closed a (Exact v) o = value-on a v ∙ o
+on-closed a (CenterOf v) o = value-on a v ∙ o
+on-closed a Last o = tt
+
 -- ---- mapping: a refusal of the first questions, of question 9, and none
-pub some-size : (a : Axis) (v : SegmentValue) → segmentMappable a v ≡ true → 0 < sizeOf a
+pub some-size : (a : Axis) (v : SegmentValue) → segmentMappable a v ≡ true → 0 < segments a
 unfolding segmentMappable
-some-size a (Exact v) e = let (p, q) = both-true (ltb 0 (sizeOf a)) (mappable a v) e in ltb-true 0 (sizeOf a) p
-some-size a (CenterOf v) e = let (p, q) = both-true (ltb 0 (sizeOf a)) (mappable a v) e in ltb-true 0 (sizeOf a) p
-some-size a Last e = ltb-true 0 (sizeOf a) e
+some-size a (Exact v) e = let (p, q) = both-true (ltb 0 (segments a)) (mappable a v) e in ltb-true 0 (segments a) p
+some-size a (CenterOf v) e = let (p, q) = both-true (ltb 0 (segments a)) (mappable a v) e in ltb-true 0 (segments a) p
+some-size a Last e = ltb-true 0 (segments a) e
 
 module _ (a : Axis) (l : Limits) (s : Segment) where
   abbrev found : Worked
   found = segmentWorked a l (segmentOf s)
+
+  -- the first questions of mapping are those of the size
+  pub first-passed : firstNo (segmentValueQuestions a l s) ≡ 0 → firstNo (sizeQuestions a) ≡ 0
+  first-passed z =
+      let seven = sizeQuestions a ++ (ask 7 (pixels l) ∷ []) in
+      let y : firstNo (seven ++ (ask 8 (segmentOn a s) ∷ [])) ≡ 0 = z in
+      fewer (sizeQuestions a) (ask 7 (pixels l)) (omega arith) (fewer seven (ask 8 (segmentOn a s)) (omega arith) y .0) .0
 
   -- the questions 9 and 10 are left
   abbrev rest : Bool → Bool → Pixel
@@ -127,8 +141,8 @@ module _ (a : Axis) (l : Limits) (s : Segment) where
 pub segment-size-range : (a : Axis) (n : ℕ) → segmentSizeAnswer a ≡ number.Is n → n ≤ 3652060
 unfolding segmentSizeAnswer
 segment-size-range a n e =
-    let (r, f) = counted-as (sizeQuestions a) (number.Is (sizeOf a + 1)) n e in
-    omega (arith, size-most a (counted a r), one-number (sizeOf a + 1) n f)
+    let (r, f) = counted-as (sizeQuestions a) (number.Is (segments a + 1)) n e in
+    omega (arith, size-most (closed a) (counted a r), one-number (segments a + 1) n f)
 
 module _ (a : Axis) (c : Dated a) (n : ℕ) where
   index-most : (v : Value) → valueOn a v ≡ true → indexIn a v ≡ number.Is n → n ≤ 3652059
@@ -144,6 +158,6 @@ module _ (a : Axis) (c : Dated a) (n : ℕ) where
 pub segment-index-range : (a : Axis) (s : Segment) (n : ℕ) → segmentIndexAnswer a s ≡ number.Is n → n ≤ 3652059
 unfolding segmentIndexAnswer
 segment-index-range a s n e =
-    let (r, f) = counted-as (segmentQuestions a s) (segmentIndexIn a (segmentOf s)) n e in
-    let row = segmentQuestions a s in
-    within-size a (dated a (told 2 row tt r) (told 3 row tt r)) n (segmentOf s) (on-kind a s (told 8 row tt r)) f
+    let (r, f) = counted-as (segmentQuestions a s) (segmentIndexIn (closed a) (segmentOf s)) n e in
+    let (z, o) = fewer (sizeQuestions a) (ask 8 (segmentOn a s)) (omega arith) r in
+    within-size (closed a) (counted a z) n (segmentOf s) (on-closed a (segmentOf s) (on-kind a s o)) f

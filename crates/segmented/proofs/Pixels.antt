@@ -17,6 +17,7 @@ use Rattle.axis.specs.declared.Axis.{Axis}
 use Rattle.axis.specs.declared.Limits.{Limits}
 use Rattle.axis.specs.declared.ValueAnswer.{ValueAnswer}
 use Rattle.axis.specs.declared.ValueAnswer.the-variants as value
+use Rattle.axis.specs.Axes.{closed}
 use Rattle.axis.specs.Questions.{fitsI32, checked}
 use Rattle.axis.proofs.Questions.{i32-range}
 use Rattle.mapping.specs.declared.Pixel.{Pixel}
@@ -25,7 +26,7 @@ use Rattle.mapping.specs.Mapping.{placed}
 use Rattle.counting.specs.Counting.{sizeOf}
 use Rattle.discrete.specs.Indices.{isIndexed, indexOf, valueAt}
 use Rattle.discrete.specs.Answers.{nextIn}
-use Rattle.segmented.specs.Segments.{half, marginOf, inner, alone, between, beside, centred, pixelChecked}
+use Rattle.segmented.specs.Segments.{segments, half, marginOf, inner, alone, between, beside, centred, pixelChecked}
 
 -- two numbers that fit i32, and one with a half: the sum fits
 pub sum-fits : (x y : ℤ) → fitsI32 x ≡ true → fitsI32 y ≡ true → SFits w64 (x +ℤ y)
@@ -69,8 +70,8 @@ module _ (left margin : ℤ) where
 module _ (a : Axis) (l : Limits) (left : ℤ) where
   abbrev pub onward : ValueAnswer → Pixel
   onward (value.Refused q) = pixel.Refused q
-  onward value.None = pixelChecked (beside left (marginOf (sizeOf a) l))
-  onward (value.At w) = pixelChecked (between left (placed a (inner (sizeOf a) l) w))
+  onward value.None = pixelChecked (beside left (marginOf (segments a) l))
+  onward (value.At w) = pixelChecked (between left (placed a (inner (segments a) l) w))
 
   -- question 10 of the next value's date
   dated : (w : Value) (b : Bool) → isDay (w .head) ≡ b →
@@ -84,6 +85,8 @@ module _ (a : Axis) (l : Limits) (left : ℤ) where
   by-next true w = dated w (isDay (w .head)) refl
   by-next false w = refl
 
-  pub centre-is : (v : Value) → onward (checked (nextIn a v)) ≡ pixelChecked (centred a l left (nextIn a v))
+  pub centre-is : (v : Value) → let b = closed a in
+      onward (checked (nextIn b v)) ≡ pixelChecked (centred a l left (nextIn b v))
   unfolding nextIn
-  centre-is v = by-next (isIndexed a v && ltb (indexOf a v + 1) (sizeOf a)) (valueAt a (indexOf a v + 1))
+  centre-is v = let b = closed a in
+      by-next (isIndexed b v && ltb (indexOf b v + 1) (sizeOf b)) (valueAt b (indexOf b v + 1))

@@ -9,6 +9,7 @@ use Rattle.laws.specs.Numbers.{posPart}
 use Rattle.calendar.specs.Questions.{isDay}
 use Rattle.axis.specs.declared.Axis.{Axis}
 use Rattle.axis.specs.declared.Limits.{Limits}
+use Rattle.axis.specs.Axes.{closed}
 use Rattle.axis.specs.Questions.{known, hasIndex, pixels, plainQuestions}
 use Rattle.axis.specs.declared.ValueAnswer.{ValueAnswer}
 use Rattle.axis.specs.declared.ValueAnswer.the-variants as value
@@ -28,7 +29,7 @@ use Rattle.segmented.specs.declared.SegmentValue.{SegmentValue}
 use Rattle.segmented.specs.declared.SegmentValue.the-variants.{Exact, CenterOf, Last}
 use Rattle.segmented.specs.declared.SegmentAnswer.{SegmentAnswer}
 use Rattle.segmented.specs.declared.SegmentAnswer.the-variants as segment
-use Rattle.segmented.specs.Segments.{segmentOn, segmentOf, segmentMappable, segmentWorked}
+use Rattle.segmented.specs.Segments.{segmentOn, segmentOf, segments, segmentMappable, segmentWorked}
 
 -- ---- the questions
 abbrev pub segmentQuestions : Axis → Segment → List Question
@@ -56,7 +57,7 @@ segmentMapAnswer a l s = asked (segmentMapQuestions a l s) pixel.Refused (pixel.
 
 -- one more than the axis has: the last end
 unfoldable pub segmentSizeAnswer : Axis → NumberAnswer
-segmentSizeAnswer a = asked (sizeQuestions a) number.Refused (number.Is (sizeOf a + 1))
+segmentSizeAnswer a = asked (sizeQuestions a) number.Refused (number.Is (segments a + 1))
 
 -- the last end stands at the size
 unfoldable pub segmentIndexIn : Axis → SegmentValue → NumberAnswer
@@ -66,7 +67,7 @@ segmentIndexIn a Last = number.Is (sizeOf a)
 
 -- `index_of`
 unfoldable pub segmentIndexAnswer : Axis → Segment → NumberAnswer
-segmentIndexAnswer a s = asked (segmentQuestions a s) number.Refused (segmentIndexIn a (segmentOf s))
+segmentIndexAnswer a s = asked (segmentQuestions a s) number.Refused (segmentIndexIn (closed a) (segmentOf s))
 
 -- below the size a value, at the size the last end, beyond it none
 unfoldable pub segmentAt : Axis → ℕ → SegmentAnswer
@@ -96,7 +97,7 @@ segmentChecked v = asked (ask 10 (segmentInCalendar v) ∷ []) segment.Refused v
 -- `from_index`
 unfoldable pub segmentFromAnswer : Axis → ℤ → SegmentAnswer
 segmentFromAnswer a i =
-    let v = segmentAt a (posPart i) in
+    let v = segmentAt (closed a) (posPart i) in
     asked (indexQuestions a i ++ (ask 10 (segmentInCalendar v) ∷ [])) segment.Refused v
 
 -- ---- ticks: those of the axis, each the centre of its segment

@@ -1,5 +1,7 @@
 -- Segments: each value of an axis has the room up to the next one, and one room is left behind the last. Where an exact
 -- value, a centre and the last end stand between two limits. Definitions only.
+-- An excluded end has no segment: the limits part the size without it, and the next value is one before it. But a value is
+-- mapped to the end as written, so that a part stays blank before the last end.
 use mathlib.Core.Path.{_≡_}
 use mathlib.Core.Bool.{Bool, true, cond, _&&_, _||_}
 use mathlib.Core.List.{[], _∷_}
@@ -15,13 +17,14 @@ use Rattle.floats.specs.Rounding.{roundF}
 use Rattle.values.specs.declared.Value.{Value}
 use Rattle.axis.specs.declared.Axis.{Axis}
 use Rattle.axis.specs.declared.Limits.{Limits}
-use Rattle.axis.specs.Questions.{valueOn, mappable, fitsI32}
+use Rattle.axis.specs.Axes.{closed}
+use Rattle.axis.specs.Questions.{ends, valueOn, mappable, fitsI32}
 use Rattle.mapping.specs.declared.Pixel.{Pixel}
 use Rattle.mapping.specs.declared.Pixel.the-variants as pixel
 use Rattle.mapping.specs.Mapping.{placed}
 use Rattle.axis.specs.declared.ValueAnswer.{ValueAnswer}
 use Rattle.axis.specs.declared.ValueAnswer.the-variants as value
-use Rattle.counting.specs.Counting.{sizeOf}
+use Rattle.counting.specs.Counting.{Dated, sizeOf}
 use Rattle.discrete.specs.Answers.{nextIn}
 use Rattle.segmented.specs.declared.Segment.{Segment}
 use Rattle.segmented.specs.declared.SegmentValue.{SegmentValue}
@@ -48,11 +51,20 @@ SegmentOn a (Exact v) = valueOn a v ≡ true
 SegmentOn a (CenterOf v) = valueOn a v ≡ true
 SegmentOn a Last = Unit {0}
 
+-- how many segments an axis has, without the last end
+abbrev pub segments : Axis → ℕ
+segments a = sizeOf (closed a)
+
 -- 9. Is the size at least 1? Then the question of mapping; the last is asked only for the size.
 unfoldable pub segmentMappable : Axis → SegmentValue → Bool
-segmentMappable a (Exact v) = ltb 0 (sizeOf a) && mappable a v
-segmentMappable a (CenterOf v) = ltb 0 (sizeOf a) && mappable a v
-segmentMappable a Last = ltb 0 (sizeOf a)
+segmentMappable a (Exact v) = ltb 0 (segments a) && mappable a v
+segmentMappable a (CenterOf v) = ltb 0 (segments a) && mappable a v
+segmentMappable a Last = ltb 0 (segments a)
+
+-- an axis whose values are mapped, and by which its segments are counted
+pub record Countable (a : Axis) : Type 0 where
+  pub real : ends a ≡ true
+  pub counted : Dated (closed a)
 
 -- a size that has room for a segment
 pub record Some (size : ℕ) : Type 0 where
@@ -96,14 +108,14 @@ beside left margin = worked (left +ℤ half margin) (fitsI32 left && fitsI32 (le
 -- the centre of a segment that begins at a pixel, by the next value
 abbrev pub centred : Axis → Limits → ℤ → ValueAnswer → Worked
 centred a l left (value.At w) =
-    let c = between left (placed a (inner (sizeOf a) l) w) in worked (c .pixel) (isDay (w .head) && c .fits)
-centred a l left value.None = beside left (marginOf (sizeOf a) l)
-centred a l left (value.Refused q) = beside left (marginOf (sizeOf a) l)
+    let c = between left (placed a (inner (segments a) l) w) in worked (c .pixel) (isDay (w .head) && c .fits)
+centred a l left value.None = beside left (marginOf (segments a) l)
+centred a l left (value.Refused q) = beside left (marginOf (segments a) l)
 
 -- the pixel of a segment value
 unfoldable pub segmentWorked : Axis → Limits → SegmentValue → Worked
-segmentWorked a l (Exact v) = alone (placed a (inner (sizeOf a) l) v)
-segmentWorked a l (CenterOf v) = centred a l (placed a (inner (sizeOf a) l) v) (nextIn a v)
+segmentWorked a l (Exact v) = alone (placed a (inner (segments a) l) v)
+segmentWorked a l (CenterOf v) = centred a l (placed a (inner (segments a) l) v) (nextIn (closed a) v)
 segmentWorked a l Last = worked (l .high) true
 
 -- question 10 alone, as the code asks it

@@ -15,10 +15,11 @@ ghost use Prim.Native.Nat.{_≤_};
 ghost use lib.ListN.{length};
 ghost use Rattle.laws.specs.Asking.{firstNo};
 ghost use Rattle.calendar.specs.Questions.{lastDay};
-ghost use Rattle.axis.specs.Questions.{pixels, valueOn};
+ghost use Rattle.axis.specs.Questions.{ends, pixels, valueOn};
 ghost use Rattle.mapping.specs.Mapping.{scaleOf};
-ghost use Rattle.counting.specs.Counting.{Dated, sizeOf};
-ghost use Rattle.segmented.specs.Segments.{segmentOn, SegmentOn, segmentOf, segmentMappable, Some, marginOf, inner, half};
+ghost use Rattle.counting.specs.Counting.{Dated};
+ghost use Rattle.segmented.specs.Segments.{segmentOn, SegmentOn, segmentOf, segments, segmentMappable, Some};
+ghost use Rattle.segmented.specs.Segments.{Countable, marginOf, inner, half};
 ghost use Rattle.segmented.specs.Segments.{alone, between, beside, segmentWorked, pixelChecked};
 ghost use Rattle.segmented.specs.Answers.{segmentQuestions, segmentValueQuestions, segmentKindQuestions};
 ghost use Rattle.segmented.specs.Answers.{segmentMapAnswer, segmentSizeAnswer, segmentIndexIn, segmentIndexAnswer};
@@ -103,7 +104,7 @@ fn half(z: i64) -> i64
 fn segment_refusal(a: Axis, s: Segment) -> u8
     ensures { λ r. ⌜ r ≡ firstNo (segmentQuestions a s) ⌝ }
 {
-    let q = axis::plain_refusal(a, axis::has_index(a));
+    let q = discrete::size_refusal(a);
     axis::then_ask(q, 8, segment_on(a, s))
 }
 
@@ -115,7 +116,7 @@ pub fn size(a: Axis) -> NumberAnswer
     if q != 0 {
         return NumberAnswer::Refused(q);
     }
-    NumberAnswer::Is(counting::size_of(a) + 1)
+    NumberAnswer::Is(counting::size_of(axis::closed(a)) + 1)
 }
 
 fn index_in(a: Axis, v: SegmentValue) -> NumberAnswer
@@ -137,7 +138,7 @@ pub fn index_of(a: Axis, s: Segment) -> NumberAnswer
     if q != 0 {
         return NumberAnswer::Refused(q);
     }
-    index_in(a, segment_of(s))
+    index_in(axis::closed(a), segment_of(s))
 }
 
 // A value of the axis as a segment's exact one.
@@ -174,12 +175,12 @@ pub fn from_index(a: Axis, i: i64) -> SegmentAnswer
     if k.refusal != 0 {
         return SegmentAnswer::Refused(k.refusal);
     }
-    segment_at(a, k.index)
+    segment_at(axis::closed(a), k.index)
 }
 
 // Question 9: the size, and then the question of mapping; the last is asked only for the size.
 fn segment_mappable(a: Axis, size: u64, v: SegmentValue) -> bool
-    requires { ⌜ size ≡ sizeOf a ⌝ }
+    requires { ⌜ size ≡ segments a ⌝ }
     ensures { λ r. ⌜ r ≡ segmentMappable a v ⌝ }
 {
     let some = 0 < size;
@@ -229,20 +230,21 @@ fn beside(left: i64, margin: i64) -> Pixel
 
 // The scale of all values of a segmented axis.
 fn inner_scale(a: Axis, size: u64, l: Limits) -> Scale
-    requires { ⌜ Dated a × (pixels l ≡ true) × Some size ⌝ }
+    requires { ⌜ (ends a ≡ true) × (pixels l ≡ true) × Some size ⌝ }
     ensures { λ r. ⌜ r ≡ scaleOf a (inner size l) ⌝ }
 {
     mapping::scale_of(a, inner(size, l))
 }
 
-// The centre of a value's segment, which ends where the next value stands. Both are mapped with one scale.
+// The centre of a value's segment, which ends where the next value stands. Both are mapped with one scale, to the end as
+// written.
 fn centre(a: Axis, size: u64, l: Limits, v: Value) -> Pixel
-    requires { ⌜ Dated a × (pixels l ≡ true) × Some size × (valueOn a v ≡ true) × (size ≡ sizeOf a) ⌝ }
+    requires { ⌜ Countable a × (pixels l ≡ true) × Some size × (valueOn a v ≡ true) × (size ≡ segments a) ⌝ }
     ensures { λ r. ⌜ r ≡ pixelChecked (segmentWorked a l (SegmentValue.CenterOf v)) ⌝ }
 {
     let s = inner_scale(a, size, l);
     let left = mapping::pixel_by(s, a, v);
-    match discrete::next_in(a, v) {
+    match discrete::next_in(axis::closed(a), v) {
         ValueAnswer::Refused(q) => Pixel::Refused(q),
         ValueAnswer::None => beside(left, margin_of(size, l)),
         ValueAnswer::At(w) => between(left, mapping::pixel_by(s, a, w)),
@@ -250,7 +252,7 @@ fn centre(a: Axis, size: u64, l: Limits, v: Value) -> Pixel
 }
 
 fn segment_pixel(a: Axis, size: u64, l: Limits, v: SegmentValue) -> Pixel
-    requires { ⌜ Dated a × (pixels l ≡ true) × Some size × SegmentOn a v × (size ≡ sizeOf a) ⌝ }
+    requires { ⌜ Countable a × (pixels l ≡ true) × Some size × SegmentOn a v × (size ≡ segments a) ⌝ }
     ensures { λ r. ⌜ r ≡ pixelChecked (segmentWorked a l v) ⌝ }
 {
     match v {
@@ -263,7 +265,7 @@ fn segment_pixel(a: Axis, size: u64, l: Limits, v: SegmentValue) -> Pixel
 fn map_refusal(a: Axis, l: Limits, s: Segment) -> u8
     ensures { λ r. ⌜ r ≡ firstNo (segmentValueQuestions a l s) ⌝ }
 {
-    let q = axis::plain_refusal(a, axis::has_index(a));
+    let q = discrete::size_refusal(a);
     let q = axis::then_ask(q, 7, axis::pixels(l));
     axis::then_ask(q, 8, segment_on(a, s))
 }
@@ -277,7 +279,7 @@ pub fn map(a: Axis, l: Limits, s: Segment) -> Pixel
         return Pixel::Refused(q);
     }
     let v = segment_of(s);
-    let size = counting::size_of(a);
+    let size = counting::size_of(axis::closed(a));
     if !segment_mappable(a, size, v) {
         return Pixel::Refused(9);
     }

@@ -156,7 +156,7 @@ readValue kind s =
 -- ---- the line
 abbrev pub request : ℕ → Value → Value → ℤ → ℤ → ℤ → Request
 request kind a b n l h = record {
-  axis = axisOf (pos kind) (a .head) (a .tail) (b .head) (b .tail);
+  axis = axisOf (pos kind) (a .head) (a .tail) (b .head) (b .tail) (pos 0);
   hint = record { n = n };
   limits = record { low = l; high = h };
 }

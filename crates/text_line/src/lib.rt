@@ -246,7 +246,7 @@ fn together(
         return Line::Unread;
     };
     Line::Read(Request {
-        axis: axis::axis_of(kind as i64, a.head, a.tail, b.head, b.tail),
+        axis: axis::axis_of(kind as i64, a.head, a.tail, b.head, b.tail, 0),
         hint: BoldPoints { n: n },
         limits: Limits { low: l, high: h },
     })

@@ -21,10 +21,9 @@ use Rattle.steps.proofs.Pairs.{length-numbers}
 use Rattle.steps.specs.Promise.{nth}
 use Rattle.plans.specs.Plans.{Accepted}
 use Rattle.axis.specs.declared.Hint.the-variants.{Bold}
-use Rattle.keypoints.specs.Hints.{keyPointsFor}
-use Rattle.ticks.specs.Answers.{tickQuestions, ticksAnswer, ticksHanded}
+use Rattle.ticks.specs.Answers.{tickQuestions, ticksOf, ticksAnswer, ticksHanded}
 use Rattle.ticks.proofs.Hints.{accepted}
-use Rattle.ticks.proofs.Promise.{key-points-fine}
+use Rattle.ticks.proofs.Promise.{ticks-fine}
 use Rattle.ticks.proofs.Values.{tick-value}
 use Rattle.text_line.specs.declared.Request.{Request}
 use Rattle.text_line.specs.declared.Line.the-variants.{Read, Unread}
@@ -58,21 +57,21 @@ module _ (a : Axis) (h : BoldPoints) (z : firstNo (tickQuestions a (Bold h)) ≡
   fine-axis = accepted a (Bold h) z
 
   -- at most 4,097 ticks, so 8,194 numbers have room for them
-  room : 2 * length (keyPointsFor a (Bold h)) ≤ 8194
-  room = omega (arith, key-points-fine a (Bold h) z .few, length-numbers (keyPointsFor a (Bold h)), fine-axis .most)
+  room : 2 * length (ticksOf a (Bold h)) ≤ 8194
+  room = omega (arith, ticks-fine a (Bold h) z .few, length-numbers (ticksOf a (Bold h)), fine-axis .most)
 
-  pub has-list : ticksAnswer a (Bold h) 8194 ≡ Ticks (length (keyPointsFor a (Bold h)))
+  pub has-list : ticksAnswer a (Bold h) 8194 ≡ Ticks (length (ticksOf a (Bold h)))
   unfolding ticksAnswer
-  has-list = rw (z, le-leb (2 * length (keyPointsFor a (Bold h))) 8194 room)
+  has-list = rw (z, le-leb (2 * length (ticksOf a (Bold h))) 8194 room)
 
-  pub handed : ticksHanded a (Bold h) 8194 ≡ numbers (keyPointsFor a (Bold h))
+  pub handed : ticksHanded a (Bold h) 8194 ≡ numbers (ticksOf a (Bold h))
   unfolding ticksHanded
-  handed = rw (z, le-leb (2 * length (keyPointsFor a (Bold h))) 8194 room)
+  handed = rw (z, le-leb (2 * length (ticksOf a (Bold h))) 8194 room)
 
   -- and 75 bytes for each
   pub printable : (space : ℕ) → 307275 ≤ space → Printable (a .kind) (ticksHanded a (Bold h) 8194) space
   printable space l =
-      let f = key-points-fine a (Bold h) z in
+      let f = ticks-fine a (Bold h) z in
       rw handed (record { ticks = λ i k. tick-value a (Bold h) z i (omega arith); most = omega (arith, f .few, fine-axis .most) })
 
 -- ---- the lines that answer a request, and a line
@@ -80,7 +79,7 @@ module _ (number : ℕ) (q : Request) where
   pub request-refused : (n : ℕ) → n ≡ firstNo (tickQuestions (q .axis) (Bold (q .hint))) → (n ≡ 0 → ⊥) →
       requestText number q ≡ refusalText number n
   unfolding requestText ticksAnswer
-  request-refused n e k = rw (← refused-by Refused (listedOf (keyPointsFor (q .axis) (Bold (q .hint))) 8194) _ n e k)
+  request-refused n e k = rw (← refused-by Refused (listedOf (ticksOf (q .axis) (Bold (q .hint))) 8194) _ n e k)
 
   pub request-listed : firstNo (tickQuestions (q .axis) (Bold (q .hint))) ≡ 0 → requestText number q
       ≡ listText number (q .axis) (q .limits) (ticksHanded (q .axis) (Bold (q .hint)) 8194)

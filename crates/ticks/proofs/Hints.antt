@@ -12,7 +12,7 @@ use mir.Val.{SFits}
 use borrow.Author.Tests.{le-leb, lt-leb}
 use Rattle.laws.specs.Numbers.{within, posPart, negPart}
 use Rattle.laws.specs.Asking.{ask, firstNo}
-use Rattle.laws.proofs.Asked.{told}
+use Rattle.laws.proofs.Asked.{told, fewer, more}
 use Rattle.laws.proofs.Signed.{same, count-fits}
 use Rattle.laws.proofs.Tests.{both-true, and-false}
 use Rattle.values.specs.declared.Value.{Value}
@@ -23,9 +23,10 @@ use Rattle.axis.specs.declared.BoldPoints.{BoldPoints}
 use Rattle.axis.specs.declared.LightPoints.{LightPoints}
 use Rattle.axis.specs.declared.Hint.{Hint}
 use Rattle.axis.specs.declared.Hint.the-variants.{Bold, Light}
-use Rattle.axis.specs.Axes.{start, end}
-use Rattle.axis.specs.Questions.{isKind, known, ends, inOrder, hasPeriod, hintOn, axisQuestions}
+use Rattle.axis.specs.Axes.{start, end, closed}
+use Rattle.axis.specs.Questions.{isKind, known, ends, inOrder, hasPeriod, boldHint, lightHint, hintOn, axisQuestions}
 use Rattle.axis.proofs.Axes.{both-ends}
+use Rattle.axis.proofs.ClosedAxes.{same-kind, axis-passed}
 use Rattle.axis.proofs.Questions as asks
 use Rattle.axis.proofs.Questions.{other-kind, bold-range, light-range}
 use Rattle.counting.specs.Counting.{monthly, yearly, sizeOf}
@@ -155,6 +156,17 @@ module _ (a : Axis) where
   pub accepted : (h : Hint) → firstNo (tickQuestions a h) ≡ 0 → Accepted a (limit h)
   accepted (Bold h) e = row-accepted a true (hintOn a (Bold h)) (h .n) e (bold-range a h)
   accepted (Light h) e = row-accepted a true (hintOn a (Light h)) (h .n) e (λ y. light-range a h y .0)
+
+  -- the axis by which it lists passes what it passed
+  pub same-hint : (h : Hint) → hintOn (closed a) h ≡ hintOn a h
+  unfolding boldHint lightHint
+  same-hint (Bold h) = rw (same-kind a)
+  same-hint (Light h) = rw (same-kind a)
+
+  pub closed-passed : (h : Hint) → firstNo (tickQuestions a h) ≡ 0 → firstNo (tickQuestions (closed a) h) ≡ 0
+  closed-passed h z =
+      let (q, y) = fewer (axisQuestions true a) (ask 6 (hintOn a h)) (omega arith) z in
+      more (axisQuestions true (closed a)) (ask 6 (hintOn (closed a) h)) ∙ rw (axis-passed a true q, same-hint h, y)
 
   -- the hint's numbers
   pub bold-count : (h : BoldPoints) → firstNo (tickQuestions a (Bold h)) ≡ 0 → negPart (h .n) ≡ 0

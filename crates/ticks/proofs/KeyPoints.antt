@@ -18,6 +18,7 @@ use Rattle.axis.specs.declared.Axis.{Axis}
 use Rattle.axis.specs.declared.BoldPoints.{BoldPoints}
 use Rattle.axis.specs.declared.Hint.{Hint}
 use Rattle.axis.specs.declared.Hint.the-variants.{Bold, Light}
+use Rattle.axis.specs.Axes.{closed}
 use Rattle.axis.specs.Questions.{isKind}
 use Rattle.counting.specs.Counting.{monthly, yearly, sizeOf}
 use Rattle.steps.specs.Progression.{ticks}
@@ -28,9 +29,10 @@ use Rattle.keypoints.specs.Hints.{limit, finer, monthlyLight, yearlyLight, ligh
 use Rattle.keypoints.proofs.Periods.{optional}
 use Rattle.keypoints.proofs.KeyPoints.{period-on, key-points-same}
 use Rattle.ticks.specs.declared.PeriodAnswer.the-variants as period
-use Rattle.ticks.specs.Answers.{tickQuestions, periodQuestions, aPeriod, periodAnswer}
+use Rattle.ticks.specs.Answers.{tickQuestions, ticksOf, periodQuestions, aPeriod, periodAnswer}
 use Rattle.ticks.specs.Plans.{refined, axisFor, planFor}
-use Rattle.ticks.proofs.Hints.{kind-is, stays-fine, stays-coarse, goes-finer, listing-accepted, period-accepted}
+use Rattle.ticks.proofs.Hints.{kind-is, stays-fine, stays-coarse, goes-finer, listing-accepted, closed-passed}
+use Rattle.ticks.proofs.Hints.{period-accepted}
 
 -- ---- the finer kinds: of months none is finer still, and years go to months
 month-finer : (a : Axis) → monthly a ≡ true → monthly (finer a) || yearly (finer a) ≡ false
@@ -112,6 +114,11 @@ turns-enough turns a h z t = plan-in turns a h z t ∙ sym (plan-in (turnsFor (l
 pub plan-same : (a : Axis) (h : Hint) → firstNo (tickQuestions a h) ≡ 0 → keyPointsFor a h ≡ ticks (planFor a h)
 unfolding keyPointsFor
 plan-same a h z = plan-in (turnsFor (limit h)) a h z (omega arith)
+
+-- the list of the plan that the code makes
+pub ticks-same : (a : Axis) (h : Hint) → firstNo (tickQuestions a h) ≡ 0 → ticksOf a h ≡ ticks (planFor (closed a) h)
+unfolding ticksOf
+ticks-same a h z = plan-same (closed a) h (closed-passed a h z)
 
 pub period-is : (a : Axis) (h : BoldPoints) → firstNo (periodQuestions a h) ≡ 0 →
     periodOn (turnsFor (posPart (h .n))) a (posPart (h .n)) (not (isDuration (a .kind)))

@@ -10,7 +10,8 @@ use Rattle.laws.specs.Asking.{firstNo, unless}
 use Rattle.values.specs.declared.Value.{Value}
 use Rattle.axis.specs.declared.Axis.{Axis}
 use Rattle.axis.specs.declared.Hint.{Hint}
-use Rattle.axis.specs.Axes.{start, end}
+use Rattle.axis.specs.Axes.{start, end, closed, last}
+use Rattle.axis.proofs.ClosedAxes.{same-start}
 use Rattle.steps.specs.declared.Listed.the-variants.{Refused, Ticks}
 use Rattle.steps.specs.Progression.{ticks, Sound}
 use Rattle.steps.specs.Listing.{numbers, listedOf, lentAfter, front}
@@ -18,9 +19,9 @@ use Rattle.steps.specs.Promise.{Fine}
 use Rattle.steps.proofs.Demand.{none-fine, front-fine, read-fine}
 use Rattle.plans.proofs.Promise.{Good, plan-good}
 use Rattle.keypoints.specs.Hints.{limit, keyPointsFor}
-use Rattle.ticks.specs.Answers.{tickQuestions, ticksAnswer, ticksWritten, ticksHanded}
+use Rattle.ticks.specs.Answers.{tickQuestions, ticksOf, ticksAnswer, ticksWritten, ticksHanded}
 use Rattle.ticks.specs.Plans.{axisFor, planFor}
-use Rattle.ticks.proofs.Hints.{listing-accepted, listing-ends}
+use Rattle.ticks.proofs.Hints.{listing-accepted, listing-ends, closed-passed}
 use Rattle.ticks.proofs.KeyPoints.{plan-same}
 
 module _ (a : Axis) (h : Hint) (z : firstNo (tickQuestions a h) ≡ 0) where
@@ -39,24 +40,32 @@ module _ (a : Axis) (h : Hint) (z : firstNo (tickQuestions a h) ≡ 0) where
       rw (plan-same a h z) (subst (λ (v : Value). Fine (limit h) v (end a) l) s
       (subst (λ (v : Value). Fine (limit h) (start (axisFor a h)) v l) e (good .fine)))
 
+-- the same of an axis whose end may be excluded: none after the last value that belongs to it
+pub ticks-fine : (a : Axis) (h : Hint) → firstNo (tickQuestions a h) ≡ 0 →
+    Fine (limit h) (start a) (last a) (numbers (ticksOf a h))
+unfolding ticksOf
+ticks-fine a h z =
+    subst (λ (v : Value). Fine (limit h) v (last a) (numbers (keyPointsFor (closed a) h))) (same-start a)
+    (key-points-fine (closed a) h (closed-passed a h z))
+
 -- the ticks that are read from the lent numbers after an accepted call
 pub list-fine : (a : Axis) (h : Hint) (d : List ℤ) (c : ℕ) → ticksAnswer a h (length d) ≡ Ticks c →
-    Fine (limit h) (start a) (end a) (take (2 * c) (ticksWritten a h d))
+    Fine (limit h) (start a) (last a) (take (2 * c) (ticksWritten a h d))
 unfolding ticksAnswer ticksWritten
-list-fine a h d c = go (firstNo (tickQuestions a h)) (key-points-fine a h)
+list-fine a h d c = go (firstNo (tickQuestions a h)) (ticks-fine a h)
   where
-    go : (q : ℕ) → (q ≡ 0 → Fine (limit h) (start a) (end a) (numbers (keyPointsFor a h))) →
-        unless q Refused (listedOf (keyPointsFor a h) (length d)) ≡ Ticks c → Fine (limit h) (start a) (end a)
-        (take (2 * c) (unless q (λ n. d) (lentAfter (keyPointsFor a h) d)))
-    go zero f e = read-fine (keyPointsFor a h) d (limit h) c (start a) (end a) (f refl) e
+    go : (q : ℕ) → (q ≡ 0 → Fine (limit h) (start a) (last a) (numbers (ticksOf a h))) →
+        unless q Refused (listedOf (ticksOf a h) (length d)) ≡ Ticks c → Fine (limit h) (start a) (last a)
+        (take (2 * c) (unless q (λ n. d) (lentAfter (ticksOf a h) d)))
+    go zero f e = read-fine (ticksOf a h) d (limit h) c (start a) (last a) (f refl) e
     go (suc q) f e = let w : _≡_ {A = ℕ} 0 1 = cc in absurd (let x : ⊥ = omega arith in x)
 
 -- the part that is handed back, which is empty after a refused call
-pub handed-fine : (a : Axis) (h : Hint) (k : ℕ) → Fine (limit h) (start a) (end a) (ticksHanded a h k)
+pub handed-fine : (a : Axis) (h : Hint) (k : ℕ) → Fine (limit h) (start a) (last a) (ticksHanded a h k)
 unfolding ticksHanded
-handed-fine a h k = go (firstNo (tickQuestions a h)) (key-points-fine a h)
+handed-fine a h k = go (firstNo (tickQuestions a h)) (ticks-fine a h)
   where
-    go : (q : ℕ) → (q ≡ 0 → Fine (limit h) (start a) (end a) (numbers (keyPointsFor a h))) →
-        Fine (limit h) (start a) (end a) (unless q (λ n. []) (front (keyPointsFor a h) k))
-    go zero f = front-fine (keyPointsFor a h) k (limit h) (start a) (end a) (f refl)
-    go (suc q) f = none-fine (limit h) (start a) (end a)
+    go : (q : ℕ) → (q ≡ 0 → Fine (limit h) (start a) (last a) (numbers (ticksOf a h))) →
+        Fine (limit h) (start a) (last a) (unless q (λ n. []) (front (ticksOf a h) k))
+    go zero f = front-fine (ticksOf a h) k (limit h) (start a) (last a) (f refl)
+    go (suc q) f = none-fine (limit h) (start a) (last a)

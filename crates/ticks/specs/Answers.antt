@@ -7,11 +7,13 @@ use Prim.Native.Nat.{ℕ}
 use lib.IntN.{ℤ}
 use Rattle.laws.specs.Asking.{Question, ask, asked}
 use Rattle.laws.specs.Numbers.{posPart}
+use Rattle.values.specs.declared.Value.{Value}
 use Rattle.values.specs.Values.{isDuration}
 use Rattle.axis.specs.declared.Axis.{Axis}
 use Rattle.axis.specs.declared.BoldPoints.{BoldPoints}
 use Rattle.axis.specs.declared.Hint.{Hint}
 use Rattle.axis.specs.declared.Hint.the-variants.{Bold}
+use Rattle.axis.specs.Axes.{closed}
 use Rattle.axis.specs.Questions.{axisQuestions, hasPeriod, hintOn}
 use Rattle.steps.specs.declared.Listed.{Listed}
 use Rattle.steps.specs.declared.Listed.the-variants.{Refused}
@@ -25,17 +27,21 @@ use Rattle.ticks.specs.declared.PeriodAnswer.the-variants as period
 abbrev pub tickQuestions : Axis → Hint → List Question
 tickQuestions a h = axisQuestions true a ++ (ask 6 (hintOn a h) ∷ [])
 
+-- the ticks of an axis for a hint: those of the axis that ends a day earlier, where the end is excluded
+unfoldable pub ticksOf : Axis → Hint → List Value
+ticksOf a h = keyPointsFor (closed a) h
+
 -- the count of ticks, or a refusal
 unfoldable pub ticksAnswer : Axis → Hint → ℕ → Listed
-ticksAnswer a h k = asked (tickQuestions a h) Refused (listedOf (keyPointsFor a h) k)
+ticksAnswer a h k = asked (tickQuestions a h) Refused (listedOf (ticksOf a h) k)
 
 -- all lent numbers after the call
 unfoldable pub ticksWritten : Axis → Hint → List ℤ → List ℤ
-ticksWritten a h d = asked (tickQuestions a h) (λ q. d) (lentAfter (keyPointsFor a h) d)
+ticksWritten a h d = asked (tickQuestions a h) (λ q. d) (lentAfter (ticksOf a h) d)
 
 -- the part that is handed back
 unfoldable pub ticksHanded : Axis → Hint → ℕ → List ℤ
-ticksHanded a h k = asked (tickQuestions a h) (λ q. []) (front (keyPointsFor a h) k)
+ticksHanded a h k = asked (tickQuestions a h) (λ q. []) (front (ticksOf a h) k)
 
 -- ---- the period of kinds 4 and 7
 abbrev pub periodQuestions : Axis → BoldPoints → List Question

@@ -9,6 +9,7 @@ use Rattle.laws.specs.Numbers.{posPart}
 use Rattle.axis.specs.declared.Axis.{Axis}
 use Rattle.axis.specs.declared.Hint.{Hint}
 use Rattle.axis.specs.declared.Hint.the-variants.{Bold, Light}
+use Rattle.axis.specs.Axes.{closed}
 use Rattle.counting.specs.Counting.{monthly, yearly, sizeOf}
 use Rattle.steps.specs.declared.Steps.{Steps}
 use Rattle.steps.specs.Progression.{Sound}
@@ -33,7 +34,7 @@ planFor a h = planOf (axisFor a h) (limit h)
 -- what was asked, and the plan where nothing was refused
 pub record PlannedFor (a : Axis) (h : Hint) (p : Planned) : Type 0 where
   pub refusal : p .refusal ≡ firstNo (tickQuestions a h)
-  pub plan : p .refusal ≡ 0 → p .plan ≡ planFor a h
+  pub plan : p .refusal ≡ 0 → p .plan ≡ planFor (closed a) h
 
 -- a plan that is listed is in the ranges of the listing
 pub record Listable (p : Planned) : Type 0 where

@@ -48,6 +48,7 @@ fn refined(bold: u64, a: Axis) -> Axis
         a.start_tail,
         a.end_head,
         a.end_tail,
+        a.end_excluded,
     )
 }
 
@@ -98,7 +99,7 @@ fn no_plan() -> Steps {
     }
 }
 
-// Asks the questions before the list's length is known, and makes the plan.
+// Asks the questions before the list's length is known, and makes the plan of the axis by which the axis lists.
 pub fn plan(a: Axis, h: Hint) -> Planned
     ensures { λ r. ⌜ PlannedFor a h r ⌝ }
 {
@@ -111,7 +112,7 @@ pub fn plan(a: Axis, h: Hint) -> Planned
     }
     Planned {
         refusal: 0,
-        plan: plan_for(a, h),
+        plan: plan_for(axis::closed(a), h),
     }
 }
 

@@ -4,11 +4,13 @@ use mathlib.Core.Path.{_≡_, sym, _∙_, ap}
 use native.Mathlib.Omega.{arith}
 use mir.Facts.{toZ-ofZ}
 use Rattle.laws.specs.Numbers.{posPart}
-use Rattle.laws.specs.Asking.{firstNo}
-use Rattle.laws.proofs.Asked.{told}
+use Rattle.laws.specs.Asking.{ask, firstNo}
+use Rattle.laws.proofs.Asked.{told, fewer}
+use Rattle.axis.specs.Questions.{isIndex}
 use Rattle.axis.proofs.Questions.{index-range}
-use Rattle.counting.proofs.Counting.{dated, no-less}
-use Rattle.discrete.specs.Answers.{indexQuestions}
+use Rattle.counting.proofs.Counting.{no-less}
+use Rattle.discrete.specs.Answers.{sizeQuestions, indexQuestions}
+use Rattle.discrete.proofs.Answers.{counted}
 use Rattle.discrete.proofs.asked_index.Statement.{statement}
 use Rattle.discrete.proofs.asked_index.Tie as tie
 
@@ -28,8 +30,8 @@ as-count-requires c κs =
     let row = indexQuestions (s .args .a) (s .args .i) in
     rw (toZ-ofZ (s .fits .i)) (no-less (s .args .i) (index-range (s .args .i) (told 8 row tt (none c)) .0))
 
-counted : (c : tie.After-as-count) → c .as-count .result ≡ posPart (c .before .before .before .args .i)
-counted c = c .as-count .ensures ∙ ap posPart (toZ-ofZ (c .before .before .before .fits .i))
+count : (c : tie.After-as-count) → c .as-count .result ≡ posPart (c .before .before .before .args .i)
+count c = c .as-count .ensures ∙ ap posPart (toZ-ofZ (c .before .before .before .fits .i))
 
 returns-2 : tie.Need-returns-2
 returns-2 c =
@@ -40,10 +42,11 @@ returns-2 c =
     record {
       refusal = sym (none e);
       indexed = λ z. record {
-        dated = dated (x .a) (told 2 row tt (none e)) (told 3 row tt (none e));
+        real = told 3 row tt (none e);
+        dated = counted (x .a) (fewer (sizeQuestions (x .a)) (ask 8 (isIndex (x .i))) (omega arith) (none e) .0);
         index = i;
-        count = counted c;
-        most = omega (arith, counted c, index-range (x .i) i .1);
+        count = count c;
+        most = omega (arith, count c, index-range (x .i) i .1);
       };
     }
 

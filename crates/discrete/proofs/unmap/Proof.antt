@@ -1,20 +1,18 @@
--- `discrete::unmap` meets its contract: kind 4 by unmap_coord, the others by their index. Assumes nothing.
+-- `discrete::unmap` meets its contract. Assumes nothing.
 use borrow.Author.Needs.{needs}
-use mathlib.Core.Path.{_≡_, sym, _∙_, ap}
-use mathlib.Core.Bool.{Bool, true, false, cond}
+use mathlib.Core.Path.{_≡_, sym, _∙_}
 use mathlib.Core.List.{List}
-use lib.IntN.{ℤ}
-use mir.Syntax.{w64}
-use mir.Val.{SFits}
+use native.Mathlib.Omega.{arith}
 use mir.Facts.{toZ-ofZ}
-use Rattle.laws.specs.Asking.{Question, firstNo}
-use Rattle.laws.proofs.Asked.{told}
+use Rattle.laws.specs.Asking.{Question, ask, firstNo}
+use Rattle.laws.proofs.Asked.{told, fewer}
 use Rattle.axis.specs.declared.ValueAnswer.the-variants as value
-use Rattle.axis.specs.Questions.{isKind, checked}
+use Rattle.axis.specs.Axes.{closed}
+use Rattle.axis.specs.Questions.{hasUnmap, unmapPixels, checked, plainQuestions}
 use Rattle.axis.proofs.Checked.{value-refused, passed}
-use Rattle.counting.proofs.Counting.{unmap-dated}
-use Rattle.unmapping.specs.Unmapping.{unmapCoord}
-use Rattle.discrete.specs.Indices.{valueAt, indexUnder}
+use Rattle.axis.proofs.ClosedAxes.{plain-passed}
+use Rattle.counting.proofs.Counting.{unmap-dated, closed-dated}
+use Rattle.unmapping.specs.Unmapping.{Unmappable}
 use Rattle.discrete.specs.Answers.{unmapQuestions, valueUnder, unmapAnswer}
 use Rattle.discrete.proofs.unmap.Statement.{statement}
 use Rattle.discrete.proofs.unmap.Tie as tie
@@ -30,67 +28,44 @@ unfolding unmapAnswer
 returns c =
     let r = c .before in
     let x = r .before .args in
-    value-refused (row (r .before)) (r .unmap-refusal .result) (value.At (valueUnder (x .a) (x .l) (x .p))) (asked-of r)
+    value-refused (row (r .before)) (r .unmap-refusal .result) (value.At (valueUnder (closed (x .a)) (x .l) (x .p))) (asked-of r)
     (c .if1 .taken)
 
 none : (c : tie.Else1) → firstNo (row (c .before .before)) ≡ 0
 none c = sym (asked-of (c .before)) ∙ c .if1 .left
 
-kind-fits : (c : tie.Start) → SFits w64 (c .args .a .kind)
-kind-fits c = search needs
+closed-requires : tie.Need-closed-requires
+closed-requires c κs = told 3 (row (c .before .before)) tt (none c)
 
--- no question before 10 refuses
-left : (s : tie.Start) → firstNo (row s) ≡ 0 → (b : Bool) → isKind 4 (s .args .a) ≡ b → let x = s .args in
-    checked (value.At (cond b (unmapCoord (x .a) (x .l) (x .p)) (valueAt (x .a) (indexUnder (x .a) (x .l) (x .p)))))
-    ≡ unmapAnswer (x .a) (x .l) (x .p)
-unfolding unmapAnswer valueUnder
-left s z b e =
-    let x = s .args in
-    sym (passed (row s) (value.At (valueUnder (x .a) (x .l) (x .p))) z
-    ∙ ap (λ (t : Bool). checked (value.At (cond t (unmapCoord (x .a) (x .l) (x .p))
-    (valueAt (x .a) (indexUnder (x .a) (x .l) (x .p)))))) e)
+-- the axis by which it counts passed the questions too
+unmappable : (c : tie.Else1) → let x = c .before .before .args in
+    Unmappable (closed (x .a)) (x .l) (x .p)
+unmappable c =
+    let s = c .before .before in
+    let a = s .args .a in
+    let (z, page) = fewer (plainQuestions (hasUnmap a) a) (ask 7 (unmapPixels (s .args .l) (s .args .p))) (omega arith)
+    (none c) in
+    let d = closed-dated a (hasUnmap a) (unmap-dated a (told 2 (row s) tt (none c))) z in
+    record {
+      dated = d .dates;
+      real = d .real;
+      order = told 4 (plainQuestions (hasUnmap a) (closed a)) tt (plain-passed a (hasUnmap a) z);
+      page = page;
+    }
 
-unmap-coord-requires : tie.Need-unmap-coord-requires
-unmap-coord-requires c κs =
-    let e = c .before .before .before .before .before in
-    let s = e .before .before in
-    rw (toZ-ofZ (s .fits .p)) (record {
-      dated = unmap-dated (s .args .a) (told 2 (row s) tt (none e));
-      real = told 3 (row s) tt (none e);
-      order = told 4 (row s) tt (none e);
-      page = told 7 (row s) tt (none e);
-    })
+value-under-requires : tie.Need-value-under-requires
+value-under-requires c κs = let s = c .before .before .before in
+    rw (toZ-ofZ (s .fits .p), c .closed .ensures) (unmappable (c .before))
 
 returns-2 : tie.Need-returns-2
+unfolding unmapAnswer
 returns-2 c =
-    let t = c .before in
-    let e = t .before .before .before .before .before in
+    let e = c .before .before in
     let s = e .before .before in
-    let four : isKind 4 (s .args .a) ≡ true = rw (toZ-ofZ (kind-fits s)) at (t .if2 .taken) in
-    c .unmap-coord .ensures
-    ∙ (ap (λ (z : ℤ). checked (value.At (unmapCoord (s .args .a) (s .args .l) z))) (toZ-ofZ (s .fits .p))
-    ∙ left s (none e) true four)
-
-unmap-in-requires : tie.Need-unmap-in-requires
-unmap-in-requires c κs =
-    let e = c .before .before .before .before .before in
-    let s = e .before .before in
-    rw (toZ-ofZ (s .fits .p)) (
-      record { real = told 3 (row s) tt (none e); dates = unmap-dated (s .args .a) (told 2 (row s) tt (none e)) },
-      told 7 (row s) tt (none e),
-    )
-
-returns-3 : tie.Need-returns-3
-returns-3 c =
-    let t = c .before in
-    let e = t .before .before .before .before .before in
-    let s = e .before .before in
-    let other : isKind 4 (s .args .a) ≡ false = rw (toZ-ofZ (kind-fits s)) at (t .if2 .left) in
-    c .unmap-in .ensures
-    ∙ (ap (λ (z : ℤ). checked (value.At (valueAt (s .args .a) (indexUnder (s .args .a) (s .args .l) z)))) (toZ-ofZ (s .fits .p))
-    ∙ left s (none e) false other)
+    let x = s .args in
+    c .value-under .ensures
+    ∙ (λ j. checked (value.At (valueUnder (c .before .closed .ensures j) (x .l) (toZ-ofZ (s .fits .p) j))))
+    ∙ sym (passed (row s) (value.At (valueUnder (closed (x .a)) (x .l) (x .p))) (none e))
 
 pub unmap-spec : {M : Type 1} → statement M
-unmap-spec =
-    tie.close
-    (tie.spec (λ c κs. search needs) returns unmap-coord-requires returns-2 unmap-in-requires returns-3)
+unmap-spec = tie.close (tie.spec (λ c κs. search needs) returns closed-requires value-under-requires returns-2)

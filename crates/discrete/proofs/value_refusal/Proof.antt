@@ -8,6 +8,4 @@ returns c = cc
 
 pub value-refusal-spec : {M : Type 1} → statement M
 value-refusal-spec =
-    tie.close
-    (tie.spec (λ c κs. search needs) (λ c κs. search needs) (λ c κs. search needs) (λ c κs. search needs)
-    returns)
+    tie.close (tie.spec (λ c κs. search needs) (λ c κs. search needs) (λ c κs. search needs) returns)

@@ -3,14 +3,16 @@ use borrow.Author.Needs.{needs}
 use mathlib.Core.Path.{_∙_}
 use Rattle.ticks.specs.Answers.{ticksAnswer}
 use Rattle.ordered.specs.Replies.{countReply}
-use Rattle.ordered.proofs.Axes.{axis-read, light-read}
+use Rattle.axis.proofs.Axes.{axis-read}
+use Rattle.ordered.proofs.Axes.{light-read}
 use Rattle.ordered.proofs.ordered_count_light.Statement.{statement}
 use Rattle.ordered.proofs.ordered_count_light.Tie as tie
 
 returns : tie.Need-returns
 returns c =
     let f = c .before .before .fits in
-    let a = c .before .axis-of .ensures ∙ axis-read (f .kind) (f .start-head) (f .start-tail) (f .end-head) (f .end-tail) in
+    let a = c .before .axis-of .ensures ∙ axis-read (f .kind) (f .start-head) (f .start-tail) (f .end-head) (f .end-tail)
+    (f .end-excluded) in
     c .count-ticks .ensures
     ∙ (λ i. countReply (ticksAnswer (a i) (light-read (f .bold) (f .n) i) (c .before .before .args .lent-len)))
 

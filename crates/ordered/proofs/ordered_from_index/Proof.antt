@@ -4,7 +4,7 @@ use mathlib.Core.Path.{_∙_, ap}
 use mir.Facts.{toZ-ofZ}
 use Rattle.discrete.specs.Answers.{fromIndexAnswer}
 use Rattle.ordered.specs.Replies.{valueReply}
-use Rattle.ordered.proofs.Axes.{axis-read}
+use Rattle.axis.proofs.Axes.{axis-read}
 use Rattle.ordered.proofs.ordered_from_index.Statement.{statement}
 use Rattle.ordered.proofs.ordered_from_index.Tie as tie
 
@@ -14,7 +14,7 @@ returns c =
     c .value-reply .ensures
     ∙ ap valueReply (c .before .from-index .ensures
     ∙ (λ i. fromIndexAnswer ((c .before .before .axis-of .ensures ∙ axis-read (f .kind) (f .start-head) (f .start-tail)
-    (f .end-head) (f .end-tail)) i)
+    (f .end-head) (f .end-tail) (f .end-excluded)) i)
     (toZ-ofZ (f .index) i)))
 
 pub ordered-from-index-spec : {M : Type 1} → statement M

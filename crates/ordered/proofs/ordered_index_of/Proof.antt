@@ -7,19 +7,20 @@ use Rattle.axis.specs.Axes.{axisOf}
 use Rattle.discrete.specs.declared.NumberAnswer.{NumberAnswer}
 use Rattle.discrete.specs.Answers.{indexAnswer}
 use Rattle.ordered.specs.Replies.{numberIn, numberReply}
-use Rattle.ordered.proofs.Axes.{axis-read}
+use Rattle.axis.proofs.Axes.{axis-read}
 use Rattle.ordered.proofs.Counts.{index-fits}
 use Rattle.ordered.proofs.ordered_index_of.Statement.{statement}
 use Rattle.ordered.proofs.ordered_index_of.Tie as tie
 
 said : (c : tie.After-index-of) → let x = c .before .before .args in
-    c .index-of .result ≡ indexAnswer (axisOf (x .kind) (x .start-head) (x .start-tail) (x .end-head) (x .end-tail))
+    c .index-of .result
+    ≡ indexAnswer (axisOf (x .kind) (x .start-head) (x .start-tail) (x .end-head) (x .end-tail) (x .end-excluded))
     (record { head = x .head; tail = x .tail })
 said c =
     let f = c .before .before .fits in
     c .index-of .ensures ∙
     (λ i. indexAnswer ((c .before .axis-of .ensures ∙ axis-read (f .kind) (f .start-head) (f .start-tail) (f .end-head)
-    (f .end-tail)) i)
+    (f .end-tail) (f .end-excluded)) i)
     (record { head = toZ-ofZ (f .head) i; tail = toZ-ofZ (f .tail) i }))
 
 number-reply-requires : tie.Need-number-reply-requires

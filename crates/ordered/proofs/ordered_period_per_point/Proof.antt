@@ -10,21 +10,22 @@ use Rattle.axis.specs.Axes.{axisOf}
 use Rattle.ticks.specs.declared.PeriodAnswer.{PeriodAnswer}
 use Rattle.ticks.specs.Answers.{periodAnswer}
 use Rattle.ordered.specs.Replies.{periodReply}
-use Rattle.ordered.proofs.Axes.{axis-read}
+use Rattle.axis.proofs.Axes.{axis-read}
 use Rattle.ordered.proofs.Counts.{period-most}
 use Rattle.ordered.proofs.ordered_period_per_point.Statement.{statement}
 use Rattle.ordered.proofs.ordered_period_per_point.Tie as tie
 
 abbrev answer : tie.Start → PeriodAnswer
 answer s = let x = s .args in
-    periodAnswer (axisOf (x .kind) (x .start-head) (x .start-tail) (x .end-head) (x .end-tail)) (record { n = x .n })
+    periodAnswer (axisOf (x .kind) (x .start-head) (x .start-tail) (x .end-head) (x .end-tail) (x .end-excluded))
+    (record { n = x .n })
 
 said : (c : tie.After-period-per-point) → c .period-per-point .result ≡ answer (c .before .before)
 said c =
     let f = c .before .before .fits in
     c .period-per-point .ensures
     ∙ (λ i. periodAnswer ((c .before .axis-of .ensures ∙ axis-read (f .kind) (f .start-head) (f .start-tail) (f .end-head)
-    (f .end-tail)) i) (record { n = toZ-ofZ (f .n) i }))
+    (f .end-tail) (f .end-excluded)) i) (record { n = toZ-ofZ (f .n) i }))
 
 fits : (c : tie.After-known-told) → c .before .k .given .0 .0 < 2 ^ 63
 fits c =
@@ -32,8 +33,8 @@ fits c =
     let p = c .before .before .before in
     period-most _ _ (g .0 .0) (sym (said p) ∙ g .1)
 
-cast-t13 : tie.Need-cast-t13
-cast-t13 c = count-fits _ (fits c)
+cast-t14 : tie.Need-cast-t14
+cast-t14 c = count-fits _ (fits c)
 
 returns : tie.Need-returns
 returns c =
@@ -53,5 +54,5 @@ returns-3 c =
 pub ordered-period-per-point-spec : {M : Type 1} → statement M
 ordered-period-per-point-spec =
     tie.close
-    (tie.spec (λ c κs. search needs) (λ c κs. search needs) (λ c. search needs) cast-t13 (λ c. search needs) (λ c. search needs)
+    (tie.spec (λ c κs. search needs) (λ c κs. search needs) (λ c. search needs) cast-t14 (λ c. search needs) (λ c. search needs)
     (λ c. search needs) returns returns-2 returns-3)

@@ -4,7 +4,7 @@ use mathlib.Core.Path.{_∙_, ap}
 use mir.Facts.{toZ-ofZ}
 use Rattle.segmented.specs.Answers.{segmentFromAnswer}
 use Rattle.ordered.specs.Replies.{segmentReply}
-use Rattle.ordered.proofs.Axes.{axis-read}
+use Rattle.axis.proofs.Axes.{axis-read}
 use Rattle.ordered.proofs.ordered_segment_from_index.Statement.{statement}
 use Rattle.ordered.proofs.ordered_segment_from_index.Tie as tie
 
@@ -14,7 +14,7 @@ returns c =
     c .segment-reply .ensures
     ∙ ap segmentReply (c .before .from-index .ensures
     ∙ (λ i. segmentFromAnswer ((c .before .before .axis-of .ensures ∙ axis-read (f .kind) (f .start-head) (f .start-tail)
-    (f .end-head) (f .end-tail)) i)
+    (f .end-head) (f .end-tail) (f .end-excluded)) i)
     (toZ-ofZ (f .index) i)))
 
 pub ordered-segment-from-index-spec : {M : Type 1} → statement M

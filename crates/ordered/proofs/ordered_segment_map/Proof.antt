@@ -4,7 +4,7 @@ use mathlib.Core.Path.{_∙_, ap}
 use mir.Facts.{toZ-ofZ}
 use Rattle.segmented.specs.Answers.{segmentMapAnswer}
 use Rattle.ordered.specs.Replies.{pixelReply}
-use Rattle.ordered.proofs.Axes.{axis-read}
+use Rattle.axis.proofs.Axes.{axis-read}
 use Rattle.ordered.proofs.ordered_segment_map.Statement.{statement}
 use Rattle.ordered.proofs.ordered_segment_map.Tie as tie
 
@@ -14,7 +14,7 @@ returns c =
     c .pixel-reply .ensures
     ∙ ap pixelReply (c .before .map .ensures
     ∙ (λ i. segmentMapAnswer ((c .before .before .axis-of .ensures ∙ axis-read (f .kind) (f .start-head) (f .start-tail)
-    (f .end-head) (f .end-tail)) i)
+    (f .end-head) (f .end-tail) (f .end-excluded)) i)
     (record { low = toZ-ofZ (f .low) i; high = toZ-ofZ (f .high) i }) (record {
       case = toZ-ofZ (f .segment) i;
       head =

@@ -6,17 +6,17 @@ use Rattle.axis.specs.Axes.{axisOf}
 use Rattle.discrete.specs.declared.NumberAnswer.{NumberAnswer}
 use Rattle.discrete.specs.Answers.{sizeAnswer}
 use Rattle.ordered.specs.Replies.{numberIn, numberReply}
-use Rattle.ordered.proofs.Axes.{axis-read}
+use Rattle.axis.proofs.Axes.{axis-read}
 use Rattle.ordered.proofs.Counts.{size-fits}
 use Rattle.ordered.proofs.ordered_size.Statement.{statement}
 use Rattle.ordered.proofs.ordered_size.Tie as tie
 
 said : (c : tie.After-size) → let x = c .before .before .args in
-    c .size .result ≡ sizeAnswer (axisOf (x .kind) (x .start-head) (x .start-tail) (x .end-head) (x .end-tail))
+    c .size .result ≡ sizeAnswer (axisOf (x .kind) (x .start-head) (x .start-tail) (x .end-head) (x .end-tail) (x .end-excluded))
 said c =
     let f = c .before .before .fits in
     c .size .ensures ∙ (λ i. sizeAnswer ((c .before .axis-of .ensures ∙ axis-read (f .kind) (f .start-head) (f .start-tail)
-    (f .end-head) (f .end-tail)) i))
+    (f .end-head) (f .end-tail) (f .end-excluded)) i))
 
 number-reply-requires : tie.Need-number-reply-requires
 number-reply-requires c κs = subst (λ (n : NumberAnswer). numberIn n < 2 ^ 63) (sym (said c)) (size-fits _)

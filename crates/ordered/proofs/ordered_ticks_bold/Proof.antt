@@ -4,7 +4,8 @@ use mathlib.Core.Path.{_∙_}
 use lib.ListN.{length}
 use Rattle.ticks.specs.Answers.{ticksAnswer, ticksWritten}
 use Rattle.ordered.specs.Replies.{countReply}
-use Rattle.ordered.proofs.Axes.{axis-read, bold-read, both-read}
+use Rattle.axis.proofs.Axes.{axis-read}
+use Rattle.ordered.proofs.Axes.{bold-read, both-read}
 use Rattle.ordered.proofs.ordered_ticks_bold.Statement.{statement}
 use Rattle.ordered.proofs.ordered_ticks_bold.Tie as tie
 
@@ -14,7 +15,7 @@ returns c =
     let f = a .before .fits in
     let d = a .before .args .lent .now in
     both-read (λ x h. countReply (ticksAnswer x h (length d))) (λ x h. ticksWritten x h d)
-    (a .axis-of .ensures ∙ axis-read (f .kind) (f .start-head) (f .start-tail) (f .end-head) (f .end-tail))
+    (a .axis-of .ensures ∙ axis-read (f .kind) (f .start-head) (f .start-tail) (f .end-head) (f .end-tail) (f .end-excluded))
     (bold-read (f .n)) (c .before .list-ticks .ensures)
 
 pub ordered-ticks-bold-spec : {M : Type 1} → statement M

@@ -4,7 +4,7 @@ use mathlib.Core.Path.{_∙_, ap}
 use mir.Facts.{toZ-ofZ}
 use Rattle.discrete.specs.Answers.{unmapAnswer}
 use Rattle.ordered.specs.Replies.{valueReply}
-use Rattle.ordered.proofs.Axes.{axis-read}
+use Rattle.axis.proofs.Axes.{axis-read}
 use Rattle.ordered.proofs.ordered_unmap.Statement.{statement}
 use Rattle.ordered.proofs.ordered_unmap.Tie as tie
 
@@ -14,7 +14,7 @@ returns c =
     c .value-reply .ensures
     ∙ ap valueReply (c .before .unmap .ensures
     ∙ (λ i. unmapAnswer ((c .before .before .axis-of .ensures ∙ axis-read (f .kind) (f .start-head) (f .start-tail)
-    (f .end-head) (f .end-tail)) i)
+    (f .end-head) (f .end-tail) (f .end-excluded)) i)
     (record { low = toZ-ofZ (f .low) i; high = toZ-ofZ (f .high) i }) (toZ-ofZ (f .pixel) i)))
 
 pub ordered-unmap-spec : {M : Type 1} → statement M

@@ -4,7 +4,7 @@ use mathlib.Core.Path.{_∙_, ap}
 use mir.Facts.{toZ-ofZ}
 use Rattle.discrete.specs.Answers.{valuesAnswer}
 use Rattle.ordered.specs.Replies.{stepReply}
-use Rattle.ordered.proofs.Axes.{axis-read}
+use Rattle.axis.proofs.Axes.{axis-read}
 use Rattle.ordered.proofs.ordered_values.Statement.{statement}
 use Rattle.ordered.proofs.ordered_values.Tie as tie
 
@@ -14,7 +14,7 @@ returns c =
     c .step-reply .ensures
     ∙ ap stepReply (c .before .values .ensures
     ∙ (λ i. valuesAnswer ((c .before .before .axis-of .ensures ∙ axis-read (f .kind) (f .start-head) (f .start-tail)
-    (f .end-head) (f .end-tail)) i)
+    (f .end-head) (f .end-tail) (f .end-excluded)) i)
     (record { place = toZ-ofZ (f .place) i })))
 
 pub ordered-values-spec : {M : Type 1} → statement M

@@ -12,7 +12,7 @@ use Rattle.mapping.specs.Mapping.{mapped}
 use Rattle.values.specs.Values.{midnight}
 use Rattle.ordered.specs.declared.OrderedPixel.{OrderedPixel}
 use Rattle.ordered.specs.Replies.{pixelReply}
-use Rattle.ordered.proofs.Axes.{axis-read}
+use Rattle.axis.proofs.Axes.{axis-read}
 use Rattle.promises.proofs.Demand.{days-apart, pixels-as}
 use Rattle.promises.proofs.map_days.Statement.{statement}
 use Rattle.promises.proofs.map_days.Tie as tie
@@ -30,9 +30,9 @@ returns c =
     let s = c .before .before in
     let x = s .args in
     let f = s .fits in
-    let a = axisOf (x .kind) (x .start-head) (x .start-tail) (x .end-head) (x .end-tail) in
+    let a = axisOf (x .kind) (x .start-head) (x .start-tail) (x .end-head) (x .end-tail) (x .end-excluded) in
     let l : Limits = record { low = x .low; high = x .high } in
-    let axis = axis-read (f .kind) (f .start-head) (f .start-tail) (f .end-head) (f .end-tail) in
+    let axis = axis-read (f .kind) (f .start-head) (f .start-tail) (f .end-head) (f .end-tail) (f .end-excluded) in
     pixels-as a l (x .first) (x .second) (day-read axis (f .low) (f .high) (f .first) (c .before .ordered-map .ensures))
     (day-read axis (f .low) (f .high) (f .second) (c .ordered-map2 .ensures)) (days-apart a l (x .first) (x .second))
 

@@ -5,7 +5,8 @@ use Rattle.axis.specs.declared.Hint.the-variants.{Light}
 use Rattle.axis.specs.Axes.{axisOf}
 use Rattle.ticks.specs.Answers.{ticksAnswer, ticksWritten}
 use Rattle.ordered.specs.Replies.{countReply}
-use Rattle.ordered.proofs.Axes.{axis-read, light-read, both-read}
+use Rattle.axis.proofs.Axes.{axis-read}
+use Rattle.ordered.proofs.Axes.{light-read, both-read}
 use Rattle.promises.proofs.Demand.{ticks-fine, list-as}
 use Rattle.promises.proofs.ticks_light.Statement.{statement}
 use Rattle.promises.proofs.ticks_light.Tie as tie
@@ -15,12 +16,13 @@ returns c =
     let s = c .before .before .before in
     let x = s .args in
     let f = s .fits in
-    let a = axisOf (x .kind) (x .start-head) (x .start-tail) (x .end-head) (x .end-tail) in
+    let a = axisOf (x .kind) (x .start-head) (x .start-tail) (x .end-head) (x .end-tail) (x .end-excluded) in
     let d = x .lent .now in
     let h = Light (record { bold = x .bold; n = x .n }) in
     list-as a h
     (both-read (λ y h. countReply (ticksAnswer y h (length d))) (λ y h. ticksWritten y h d)
-    (axis-read (f .kind) (f .start-head) (f .start-tail) (f .end-head) (f .end-tail)) (light-read (f .bold) (f .n))
+    (axis-read (f .kind) (f .start-head) (f .start-tail) (f .end-head) (f .end-tail) (f .end-excluded))
+    (light-read (f .bold) (f .n))
     (c .before .ordered-ticks-light .ensures)) (ticks-fine a h d)
 
 pub ticks-light-spec : {M : Type 1} → statement M

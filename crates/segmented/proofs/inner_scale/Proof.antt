@@ -12,7 +12,7 @@ use Rattle.segmented.proofs.inner_scale.Tie as tie
 scale-of-requires : tie.Need-scale-of-requires
 scale-of-requires c κs =
     let s = c .before in (
-      s .pre .0 .real,
+      s .pre .0,
       subst (λ (l : Limits). pixels l ≡ true) (sym (c .inner .ensures))
           (inner-pixels (s .args .size) (s .args .l) (s .pre .2) (s .pre .1)),
     )

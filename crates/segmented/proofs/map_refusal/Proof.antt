@@ -10,4 +10,4 @@ pub map-refusal-spec : {M : Type 1} → statement M
 map-refusal-spec =
     tie.close
     (tie.spec (λ c κs. search needs) (λ c κs. search needs) (λ c κs. search needs) (λ c κs. search needs)
-    (λ c κs. search needs) (λ c κs. search needs) returns)
+    (λ c κs. search needs) returns)

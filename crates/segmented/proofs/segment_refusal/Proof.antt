@@ -8,6 +8,4 @@ returns c = cc
 
 pub segment-refusal-spec : {M : Type 1} → statement M
 segment-refusal-spec =
-    tie.close
-    (tie.spec (λ c κs. search needs) (λ c κs. search needs) (λ c κs. search needs) (λ c κs. search needs)
-    returns)
+    tie.close (tie.spec (λ c κs. search needs) (λ c κs. search needs) (λ c κs. search needs) returns)

@@ -27,6 +27,9 @@ end-head-fits c = search needs
 end-tail-fits : (c : tie.Start) → SFits w64 (c .args .a .«end_tail»)
 end-tail-fits c = search needs
 
+excluded-fits : (c : tie.Start) → SFits w64 (c .args .a .«end_excluded»)
+excluded-fits c = search needs
+
 tests : (c : tie.After-yearly) → monthly (c .before .before .args .a) || yearly (c .before .before .args .a)
     ≡ c .before .monthly .result || c .yearly .result
 tests c = rw (c .before .monthly .ensures, c .yearly .ensures)
@@ -52,7 +55,7 @@ sub-axis-of c = let t = c .before .before .before .before in let x = t .before .
 
 returns-3 : tie.Need-returns-3
 returns-3 c =
-    let e = c .before .before .before .before .before .before .before in
+    let e = c .before .before .before .before .before .before .before .before in
     let t = e .before .before in
     let x = t .before .before .before in
     rw (
@@ -62,6 +65,7 @@ returns-3 c =
       toZ-ofZ (start-tail-fits x),
       toZ-ofZ (end-head-fits x),
       toZ-ofZ (end-tail-fits x),
+      toZ-ofZ (excluded-fits x),
     ) at (c .axis-of .ensures)
     ∙ goes-finer (x .args .a) (x .args .bold) (coarse t) (omega (arith, e .before .size-of .ensures))
 
