@@ -15,6 +15,16 @@ typedef int call(const int64_t *in, int64_t *out);
 typedef ordered_number list_call(const int64_t *in, int64_t *lent, size_t lent_len);
 typedef ordered_number count_call(const int64_t *in, size_t lent_len);
 
+/* What stands in the lent numbers before a call: never a tick. */
+static inline int64_t pattern(size_t place) {
+    return INT64_MIN + (int64_t)place;
+}
+
+static inline void fill(int64_t *block, size_t count) {
+    for (size_t i = 0; i < count; i++)
+        block[i] = pattern(i);
+}
+
 #define AXIS_OF(in) (in)[0], (in)[1], (in)[2], (in)[3], (in)[4], (in)[5]
 
 static inline int numbers_of(ordered_number r, int64_t *out) {

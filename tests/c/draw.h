@@ -1,5 +1,5 @@
-/* Random numbers for the clients, the same for the same seed, and axes, values, limits and hints made of them. Boundaries come
-   often. */
+/* Random numbers for the clients, the same for the same seed, and axes, values, limits, hints and lengths made of them.
+   Boundaries come often. */
 #ifndef DRAW_H
 #define DRAW_H
 
@@ -211,6 +211,12 @@ static inline int64_t hint_on(int64_t kind) {
     default: n = from(0, 12);
     }
     return n == 0 && !of_dates(kind) && !chance(20) ? 1 : n;
+}
+
+/* How many numbers to lend for a list: just as many as it has, a few less or more, or none. */
+static inline size_t lent_for(int64_t count) {
+    int64_t length = 2 * count + ONE_OF(0, 0, 0, 0, 1, 2, 7, -1, -2);
+    return length < 0 || chance(20) ? 0 : (size_t)length;
 }
 
 #endif

@@ -260,18 +260,10 @@ static void compare_call(const struct operation *o, const struct asked *a) {
     printf("\n");
 }
 
-/* What stands in the lent numbers before a call: never a tick. */
-static void fill(int64_t *block, size_t count) {
-    for (size_t i = 0; i < count; i++)
-        block[i] = INT64_MIN + (int64_t)i;
-}
-
-/* Just as long as the list, a little shorter or longer, or nothing. */
+/* By the list of the shorter axis. */
 static size_t length_for(const struct operation *o, const struct asked *a) {
     bool light = !strcmp(o->takes, "hh");
-    int64_t count = (light ? count_light(a->shorter, SIZE_MAX) : count_bold(a->shorter, SIZE_MAX)).value;
-    int64_t length = 2 * count + ONE_OF(0, 0, 0, 0, 1, 2, 7, -1, -2);
-    return length < 0 || chance(20) ? 0 : (size_t)length;
+    return lent_for((light ? count_light(a->shorter, SIZE_MAX) : count_bold(a->shorter, SIZE_MAX)).value);
 }
 
 static void compare_list(const struct operation *o, const struct asked *a) {

@@ -230,11 +230,6 @@ static bool fine_list(const int64_t *in, int arguments, const int64_t *list, int
     return in_range(0, count, in[arguments - 1] + 1);
 }
 
-/* What stands in a block before a call: never a tick. */
-static int64_t pattern(size_t place) {
-    return INT64_MIN + (int64_t)place;
-}
-
 /* The slice is a block of its own, or the middle of one; nothing lent is also NULL. */
 static void compare_list(const struct operation *o, const int64_t *in, int arguments, size_t lent_len) {
     size_t guard = chance(2) ? GUARD : 0, all = lent_len + 2 * guard;
@@ -244,8 +239,7 @@ static void compare_list(const struct operation *o, const int64_t *in, int argum
         perror("raw");
         exit(1);
     }
-    for (size_t i = 0; i < all; i++)
-        block[i] = pattern(i);
+    fill(block, all);
     ordered_number r = o->list(in, none ? NULL : block + guard, lent_len);
     size_t listed = r.status == 0 ? 2 * (size_t)r.value : 0;
     if (!fine_status(o, in, r.status) || (r.status && r.value))

@@ -33,19 +33,13 @@ static void print_numbers(const int64_t *numbers, int count) {
         printf(" ..");
 }
 
-/* What stands in the lent numbers before a call: never a tick. */
-static int64_t pattern(size_t place) {
-    return INT64_MIN + 7 * (int64_t)place;
-}
-
 /* One call each of list and count (where there is one) with a lent slice of this length; want is 0, the count and the list, or
    a refusal.
    False: one of them says otherwise, or a number behind the list has changed; then got is what the archive said. */
 static bool same_list(const struct row *row, const int64_t *in, const int64_t *want, size_t lent_len, int64_t *got) {
     static int64_t lent[NUMBERS + 2 * BEHIND];
     size_t listed = want[0] ? 0 : 2 * (size_t)want[1], all = lent_len + BEHIND;
-    for (size_t i = 0; i < all; i++)
-        lent[i] = pattern(i);
+    fill(lent, all);
     ordered_number list = row->list(in, lent, lent_len), count = row->count ? row->count(in, lent_len) : list;
     calls++;
     bool same = list.status == want[0] && list.value == want[1] && count.status == want[0] && count.value == want[1] &&

@@ -35,12 +35,6 @@ static void *checked(void *memory) {
     return memory;
 }
 
-/* What stands in the lent numbers before a call: never a tick. */
-static void fill(int64_t *lent, size_t count) {
-    for (size_t i = 0; i < count; i++)
-        lent[i] = INT64_MIN + (int64_t)i;
-}
-
 /* Never inlined: the stack of all calls is counted from the same place. */
 __attribute__((noinline)) static void perform(const struct asked *a, int64_t *out, int64_t *lent) {
     if (a->counts)

@@ -10,8 +10,8 @@
 #include <string.h>
 #include <time.h>
 
+#include "calls.h"
 #include "draw.h"
-#include "ordered.h"
 
 enum { DAYS = 3652059, EPOCH = 719163, YEARS = 9999, GUARD = 5, SHOWN = 5 };
 enum { WEEKS = 8, DATES = 1 }; /* kinds */
@@ -194,22 +194,16 @@ static int64_t ticks_by_walk(int64_t n, int64_t *to) {
     return listed;
 }
 
-/* What stands in the lent numbers before a call: never a tick. */
-static int64_t pattern(size_t place) {
-    return INT64_MIN + (int64_t)place;
-}
-
 enum list { BOLD, LIGHT, SEGMENT_BOLD, SEGMENT_LIGHT, LISTS };
 
 /* One list with guards on both sides of the lent numbers, and its count without one. */
 static void expect_list(enum list list, int64_t bold, int64_t n, const int64_t *want, int64_t listed) {
     static int64_t block[ORDERED_LENT_MOST + 2 * GUARD + 8];
     static const char *const names[] = {"ticks_bold", "ticks_light", "segment_ticks_bold", "segment_ticks_light"};
-    int64_t length = 2 * listed + ONE_OF(0, 0, 0, 1, 2, 7, -1, -2), *lent = block + GUARD;
-    size_t lent_len = length < 0 || chance(20) ? 0 : (size_t)length, all = lent_len + 2 * GUARD;
+    int64_t *lent = block + GUARD;
+    size_t lent_len = lent_for(listed), all = lent_len + 2 * GUARD;
     bool room = lent_len >= 2 * (size_t)listed;
-    for (size_t i = 0; i < all; i++)
-        block[i] = pattern(i);
+    fill(block, all);
     ordered_number got = list == BOLD           ? ordered_ticks_bold(AXIS, n, lent, lent_len)
                          : list == LIGHT        ? ordered_ticks_light(AXIS, bold, n, lent, lent_len)
                          : list == SEGMENT_BOLD ? ordered_segment_ticks_bold(AXIS, n, lent, lent_len)
