@@ -87,11 +87,12 @@ dates-by from d n =
     go false false true e = for-days from d 7 0 (e refl) (λ i. from) (λ i h. omega arith)
     go false false false e = few-is from d p
 
--- ---- the law
-pub dates-same : (a : Axis) (n : ℕ) → fromDay a ≤ toDay a → dateKeyPoints a n ≡ ticks (dayPlan a n)
+-- ---- the law: an axis of dates lists the days between its ends, which are those of the axis a
+pub dates-same : (a b : Axis) (n : ℕ) → b .«start_head» ≡ pos (fromDay a) → b .«end_head» ≡ pos (toDay a) →
+    fromDay a ≤ toDay a → dateKeyPoints b n ≡ ticks (dayPlan a n)
 unfolding dateKeyPoints dayPlan
-dates-same a n o =
+dates-same a b n s e o =
     let d = toDay a - fromDay a in
     let z = pos (toDay a) -ℤ pos (fromDay a) in
-    let e : z ≡ pos d = same z (pos d) (omega (arith, sub (pos (toDay a)) (pos (fromDay a)))) in
-    rw e (dates-by (fromDay a) d n)
+    let f : z ≡ pos d = same z (pos d) (omega (arith, sub (pos (toDay a)) (pos (fromDay a)))) in
+    rw (s, e, f) (dates-by (fromDay a) d n)

@@ -3,40 +3,42 @@ use mathlib.Core.Path.{_≡_, refl}
 use mathlib.Core.Bool.{Bool, true, false, cond, not}
 use mathlib.Core.List.{List}
 use mathlib.Core.Option.{none}
-use Prim.Native.Nat.{ℕ, zero, suc, _+_, _≤_, _<_}
+use Prim.Native.Nat.{ℕ, zero, suc, _+_, _*_, _^_, _≤_, _<_}
 use native.Mathlib.Omega.{arith}
 use lib.Dec.{ltb}
 use lib.IntN.{pos}
 use lib.Signed.{leZ}
 use borrow.Author.Tests.{lt-ltb}
-use Rattle.laws.specs.Numbers.{posPart, asU64}
-use Rattle.laws.proofs.Signed.{as-u64}
+use Rattle.laws.specs.Numbers.{posPart, negPart, asU64}
+use Rattle.laws.proofs.Signed.{same, as-u64}
 use Rattle.values.specs.declared.Value.{Value}
-use Rattle.values.specs.Values.{isDuration}
+use Rattle.values.specs.Values.{overDates, isDuration}
 use Rattle.values.specs.Differences.{fitsI64}
 use Rattle.values.proofs.Fits.{fits-range}
+use Rattle.values.proofs.Values.{date-value}
 use Rattle.axis.specs.declared.Axis.{Axis}
-use Rattle.axis.specs.Axes.{spanOf}
-use Rattle.axis.proofs.Axes.{span-from-0}
-use Rattle.counting.specs.Counting.{Dated, monthly, yearly, weekly}
-use Rattle.counting.proofs.Counting.{one-dates, monthly-dated, yearly-dated, weekly-dated}
+use Rattle.axis.specs.Axes.{start, end, spanOf}
+use Rattle.axis.proofs.Axes.{both-ends, span-from-0}
+use Rattle.counting.specs.Counting.{Dated, monthly, yearly, weekly, fromDay, toDay}
+use Rattle.counting.proofs.Counting.{one-dates, monthly-dated, yearly-dated, weekly-dated, date-from, to-is}
 use Rattle.period.specs.Periods.{periodOf}
 use Rattle.steps.specs.declared.Steps.{Steps}
 use Rattle.steps.specs.Progression.{ticks}
+use Rattle.plans.specs.Days.{dayPlan}
 use Rattle.plans.specs.Times.{periodIn}
 use Rattle.plans.specs.Plans.{Accepted, periodPlan, planOf}
 use Rattle.plans.proofs.Cases.{by-test}
 use Rattle.plans.proofs.Plans.{four-or-seven}
-use Rattle.plans.proofs.Spans.{long}
+use Rattle.plans.proofs.Spans.{not-fitting, long}
 use Rattle.plans.proofs.Promise.{date-order, day-order}
-use Rattle.keypoints.specs.Dates.{dateKeyPoints}
+use Rattle.keypoints.specs.Dates.{dateKeyPoints, dateRange}
 use Rattle.keypoints.specs.Periods.{computePeriodPerPoint}
 use Rattle.keypoints.specs.Times.{periodOn, ifSome, dateTimesBy, dateTimeKeyPoints, durationsBy, durationKeyPoints}
 use Rattle.keypoints.specs.KeyPoints.{keyPoints}
 use Rattle.keypoints.proofs.Dates.{dates-same}
 use Rattle.keypoints.proofs.Months.{months-same, years-same}
 use Rattle.keypoints.proofs.Weeks.{weeks-same}
-use Rattle.keypoints.proofs.Periods.{optional, period-same}
+use Rattle.keypoints.proofs.Periods.{optional, period-same, from-none, none-from}
 use Rattle.keypoints.proofs.Times.{date-times-same, durations-same}
 use Rattle.keypoints.proofs.Spans.{whole-days-same}
 
@@ -67,6 +69,26 @@ module _ (turns n : ℕ) (a : Axis) (q : Accepted a n) (t : n + 30 ≤ turns) wh
           (period-same turns (posPart (spanOf a)) n (not (isDuration (a .kind))) (omega arith) some (q .most) (omega arith))
       go false e = refl
 
+  -- and where steps below a day alone are asked for, the span from which there is none
+  pub none-just-from : 1 ≤ n → (periodOn turns a n true ≡ none → 10 ^ 14 * n ≤ posPart (spanOf a))
+      × (10 ^ 14 * n ≤ posPart (spanOf a) → periodOn turns a n true ≡ none)
+  unfolding periodOn
+  none-just-from some = go (fitsI64 (spanOf a)) refl
+    where
+      above : negPart (spanOf a) ≡ 0
+      above = span-from-0 a (q .real) (q .order)
+
+      go : (b : Bool) → fitsI64 (spanOf a) ≡ b →
+          let period = cond b (computePeriodPerPoint turns (asU64 (spanOf a)) n true) none in
+          (period ≡ none → 10 ^ 14 * n ≤ posPart (spanOf a)) × (10 ^ 14 * n ≤ posPart (spanOf a) → period ≡ none)
+      go true e =
+          let r = fits-range (spanOf a) e in
+          rw (as-u64 (spanOf a) above) (
+            from-none turns (posPart (spanOf a)) n (omega arith) some (omega arith),
+            none-from turns (posPart (spanOf a)) n (omega arith) some (omega arith),
+          )
+      go false e = (λ _. let m = q .most in omega (arith, not-fitting (spanOf a) above e), λ _. refl)
+
   dated : isDuration (a .kind) ≡ false → Dated a
   dated d = record { real = q .real; dates = d }
 
@@ -79,15 +101,25 @@ module _ (turns n : ℕ) (a : Axis) (q : Accepted a n) (t : n + 30 ≤ turns) wh
       rw (d, e) (with-period (periodIn a n) (durationsBy turns a) _ _ _ (λ h. durations-same a n turns q some h t d)
       (λ h. whole-days-same a n turns (long a n q some d h) t)))
       (λ d. let e : periodOn turns a n true ≡ optional (periodIn a n) = rw d at (period-on some) in
-      rw (d, e) (with-period (periodIn a n) (dateTimesBy turns a) (dateKeyPoints a n) _ _
+      rw (d, e) (with-period (periodIn a n) (dateTimesBy turns a) (dateKeyPoints (dateRange a) n) _ _
       (λ h. date-times-same a n turns q some h t d)
-      (λ h. dates-same a n (day-order a n q some d h))))
+      (λ h. dates-same a (dateRange a) n refl refl (day-order a n q some d h))))
+
+  -- kind 1, whose ends are its days
+  one : overDates (a .kind) ≡ true → dateKeyPoints a n ≡ ticks (dayPlan a n)
+  one d =
+      let v = date-value (a .kind) (start a) (both-ends a (q .real) .first) d in
+      let w = date-value (a .kind) (end a) (both-ends a (q .real) .second) d in
+      dates-same a a n
+      (same (a .«start_head») (pos (fromDay a)) (omega (arith, date-from a (q .real) d)))
+      (same (a .«end_head») (pos (toDay a)) (omega (arith, to-is a)))
+      (date-order a n q d)
 
   -- ---- the law: on every accepted axis the Rust's list is the plan's, for any number of turns from n + 30 on
   pub key-points-same : keyPoints turns a n ≡ ticks (planOf a n)
   unfolding keyPoints planOf
   key-points-same =
-      both _ _ (leZ (a .kind) (pos 1)) (λ o. dates-same a n (date-order a n q (one-dates a (q .kind) o)))
+      both _ _ (leZ (a .kind) (pos 1)) (λ o. one (one-dates a (q .kind) o))
       (λ o. both _ _ (monthly a)
       (λ m. months-same a (dated (monthly-dated a m)) n turns (q .order) (omega arith) (q .most))
       (λ m. both _ _ (yearly a) (λ y. years-same a (dated (yearly-dated a y)) n turns (q .order) (omega arith))

@@ -5,11 +5,12 @@ use mathlib.Core.List.{List, [], _∷_}
 use lib.Dec.{leb}
 use lib.IntN.{ℤ, pos, _-ℤ_}
 use lib.Signed.{ltZ, quotZ}
-use Rattle.laws.specs.Numbers.{isNumber, asU64}
+use Rattle.laws.specs.Numbers.{isNumber, posPart, asU64}
 use Rattle.floats.specs.Rounding.{ceilOf}
 use Rattle.values.specs.declared.Value.{Value}
 use Rattle.values.specs.Values.{midnight}
 use Rattle.axis.specs.declared.Axis.{Axis}
+use Rattle.axis.specs.Axes.{axisOf}
 use Rattle.counting.specs.Counting.{fromDay, toDay}
 use Rattle.keypoints.specs.Loops.{forTo}
 
@@ -28,9 +29,12 @@ datesFrom start totalDays totalWeeks maxPoints =
     (cond (isNumber totalWeeks 0) (midnight (pos start) ∷ [])
     (everyFew start (asU64 totalWeeks) (ceilOf (asU64 totalWeeks) maxPoints))))
 
--- num_days() and num_weeks() of the end less the start. Where a date-time axis lists days, it is
--- RangedDate(self.0.date_ceil(), self.1.date_floor()); of a date both are the date itself
+-- num_days() and num_weeks() of self.1 - self.0
 unfoldable pub dateKeyPoints : Axis → ℕ → List Value
 dateKeyPoints a maxPoints =
-    let totalDays = pos (toDay a) -ℤ pos (fromDay a) in
-    datesFrom (fromDay a) totalDays (quotZ totalDays (pos 7)) maxPoints
+    let totalDays = a .«end_head» -ℤ a .«start_head» in
+    datesFrom (posPart (a .«start_head»)) totalDays (quotZ totalDays (pos 7)) maxPoints
+
+-- of a date-time axis: RangedDate(self.0.date_ceil(), self.1.date_floor()), both included
+abbrev pub dateRange : Axis → Axis
+dateRange a = axisOf (pos 1) (pos (fromDay a)) (pos 0) (pos (toDay a)) (pos 0) (pos 0)

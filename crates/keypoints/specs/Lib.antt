@@ -7,3 +7,4 @@ pub mod Periods
 pub mod Times
 pub mod KeyPoints
 pub mod Hints
+pub mod AsDates

@@ -17,7 +17,7 @@ use Rattle.axis.specs.declared.Axis.{Axis}
 use Rattle.axis.specs.Axes.{start, end, spanOf}
 use Rattle.axis.specs.Questions.{equals}
 use Rattle.keypoints.specs.Loops.{while}
-use Rattle.keypoints.specs.Dates.{dateKeyPoints}
+use Rattle.keypoints.specs.Dates.{dateKeyPoints, dateRange}
 use Rattle.keypoints.specs.Periods.{computePeriodPerPoint}
 
 -- value + Duration::nanoseconds(ns), where `per` nanoseconds are a head
@@ -49,9 +49,10 @@ unfoldable pub dateTimesBy : ℕ → Axis → ℕ → List Value
 dateTimesBy turns a period =
     listFrom turns a perDay period (plus perDay (midnight (a .«start_head»)) (alignedUp (posPart (a .«start_tail»)) period))
 
--- with a period below a day, else as dates
+-- with a period below a day; "otherwise, it actually behaves like a date": date_range.key_points(max_points)
 unfoldable pub dateTimeKeyPoints : ℕ → Axis → ℕ → List Value
-dateTimeKeyPoints turns a maxPoints = ifSome (periodOn turns a maxPoints true) (dateTimesBy turns a) (dateKeyPoints a maxPoints)
+dateTimeKeyPoints turns a maxPoints =
+    ifSome (periodOn turns a maxPoints true) (dateTimesBy turns a) (dateKeyPoints (dateRange a) maxPoints)
 
 -- ---- RangedDuration
 -- if start_ns as u64 % period > 0 {

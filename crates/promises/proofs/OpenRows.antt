@@ -21,7 +21,8 @@ use Rattle.values.specs.Differences.{fitsI64}
 use Rattle.axis.specs.declared.Axis.{Axis}
 use Rattle.axis.specs.declared.Hint.{Hint}
 use Rattle.axis.specs.Axes.{excluded, closed}
-use Rattle.axis.specs.Questions.{known, hasIndex, hasPeriod, ends, inOrder, excludable, nearOrLong, hintOn, boldHint, valueOn}
+use Rattle.axis.specs.Questions.{known, hasIndex, hasPeriod, ends, inOrder, excludable, nearOrLong, isCount, hintOn}
+use Rattle.axis.specs.Questions.{boldHint, valueOn}
 use Rattle.axis.proofs.Questions.{other-kind}
 use Rattle.counting.specs.Counting.{fromDay, toDay, monthly, yearly, firstDate, dateOn, origin, position, sizeOf}
 use Rattle.steps.specs.Months.{monthOf, wholeMonth}
@@ -42,6 +43,7 @@ use Rattle.promises.specs.Examples.{boldOf, listedInto, new-year}
 use Rattle.promises.specs.OpenRows.{datesApart, SixDays, TwoWeeks, PeriodOf, BelowThePower, AtThePower, EarlierYear}
 use Rattle.promises.specs.OpenRows.{NoWholeMonth}
 use Rattle.promises.proofs.DayNumbers.{december-2019, january-2020, december-2021, january-2022}
+use Rattle.promises.proofs.DateAxes.{dates-accepted}
 
 -- ---- a list that the questions accept and the lent numbers have room for
 listed : (a : Axis) (h : Hint) (l : List Value) (d : List ℤ) → firstNo (tickQuestions a h) ≡ 0 → ticksOf a h ≡ l →
@@ -54,32 +56,17 @@ module _ (day k n : ℕ) (first : 1 ≤ day) (last : day + k ≤ 3652059) (few :
   abbrev a : Axis
   a = datesApart day k
 
-  real : ends a ≡ true
-  unfolding ends isValue
-  real =
-      let x = le-leb day 3652059 (omega arith) in
-      let y = le-leb 1 (day + k) (omega arith) in
-      rw (le-leb 1 day first, x, y, le-leb (day + k) 3652059 last)
-
-  order : inOrder a ≡ true
-  unfolding inOrder earlier
-  order = rw (le-ltb (day + k) day (omega arith), and-false (leb (day + k) day))
-
-  hint : hintOn a (boldOf n) ≡ true
-  unfolding boldHint
-  hint = rw (le-leb 0 n (omega arith), le-leb n 4096 few)
-
   accepted : firstNo (tickQuestions a (boldOf n)) ≡ 0
-  unfolding known excludable nearOrLong
-  accepted = rw (real, order, hint)
+  accepted =
+      let c : isCount (pos n) ≡ true = rw (le-leb 0 n (omega arith), le-leb n 4096 few) in
+      dates-accepted day (day + k) first (omega arith) last (record { n = pos n }) c
 
   days : ticksOf a (boldOf n) ≡ datesFrom day (pos k) (pos (k / 7)) n
-  unfolding closed ticksOf keyPointsFor keyPoints dateKeyPoints fromDay toDay
+  unfolding closed ticksOf keyPointsFor keyPoints dateKeyPoints
   days =
-      let e : pos (day + k) -ℤ pos (day + 0) ≡ pos k = same (pos (day + k) -ℤ pos (day + 0)) (pos k)
-      (omega (arith, sub (pos (day + k)) (pos (day + 0)))) in
-      let f : day + 0 ≡ day = omega arith in
-      rw (e, f)
+      let e : pos (day + k) -ℤ pos day ≡ pos k = same (pos (day + k) -ℤ pos day) (pos k)
+      (omega (arith, sub (pos (day + k)) (pos day))) in
+      rw e
 
 pub six-days : SixDays
 unfolding datesFrom

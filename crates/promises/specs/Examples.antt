@@ -11,7 +11,7 @@ use Rattle.axis.specs.declared.Limits.{Limits}
 use Rattle.calendar.specs.declared.Ymd.{Ymd}
 use Rattle.calendar.specs.Questions.{numberOf}
 use Rattle.axis.specs.declared.Hint.{Hint}
-use Rattle.axis.specs.declared.Hint.the-variants.{Bold}
+use Rattle.axis.specs.declared.Hint.the-variants.{Bold, Light}
 use Rattle.axis.specs.Axes.{axisOf}
 use Rattle.laws.specs.Numbers.{minus}
 use Rattle.values.specs.Values.{midnight}
@@ -56,6 +56,10 @@ axisFrom kind s e = axisOf kind (s .head) (s .tail) (e .head) (e .tail) (pos 0)
 -- a bold hint
 abbrev pub boldOf : ℕ → Hint
 boldOf n = Bold (record { n = pos n })
+
+-- a light hint
+abbrev pub lightOf : ℕ → ℕ → Hint
+lightOf b n = Light (record { bold = pos b; n = pos n })
 
 -- two limits
 abbrev pub limitsOf : ℤ → ℤ → Limits

@@ -5,4 +5,5 @@ pub mod OpenRows
 pub mod Misreadings
 pub mod Weeks
 pub mod ExcludedEnds
+pub mod OneList
 pub mod WrongAnswers

@@ -10,7 +10,6 @@ use Rattle.axis.specs.declared.Axis.{Axis}
 use Rattle.calendar.specs.Questions.{numberOf, dateAt}
 use Rattle.mapping.specs.Mapping.{mapped}
 use Rattle.axis.specs.declared.Hint.{Hint}
-use Rattle.axis.specs.declared.Hint.the-variants.{Light}
 use Rattle.laws.specs.Numbers.{minus}
 use Rattle.values.specs.Values.{midnight}
 use Rattle.ticks.specs.Answers.{ticksAnswer, periodAnswer}
@@ -24,7 +23,7 @@ use Rattle.ordered.specs.declared.OrderedSegment.{OrderedSegment}
 use Rattle.ordered.specs.Replies.{dayReply, dateReply, pixelReply, countReply, periodReply, numberReply, valueReply}
 use Rattle.ordered.specs.Replies.{stepReply, segmentReply}
 use Rattle.promises.specs.Examples.{countNumbers, pixelNumbers, periodNumbers, valueNumbers, ymd, atNano}
-use Rattle.promises.specs.Examples.{axisFrom, boldOf, limitsOf, centreAt, listedInto, sevens}
+use Rattle.promises.specs.Examples.{axisFrom, boldOf, lightOf, limitsOf, centreAt, listedInto, sevens}
 use Rattle.promises.specs.ExcludedEnds.{before, segmentPixel}
 use Rattle.promises.specs.Weeks.{dayOfWeekDate, weekDateOfDay, weekNumbers}
 
@@ -43,10 +42,6 @@ segmentNumbers r = r .status ∷ (r .segment ∷ (r .head ∷ (r .tail ∷ [])))
 -- a list of segments in six lent numbers
 abbrev pub segmentsInto : Axis → Hint → List ℤ
 segmentsInto a h = countNumbers (countReply (segmentTicksAnswer a h (length sevens))) ++ segmentTicksWritten a h sevens
-
--- a light hint
-abbrev pub lightOf : ℕ → ℕ → Hint
-lightOf b n = Light (record { bold = pos b; n = pos n })
 
 -- ---- the rows
 pub record Row : Type 0 where

@@ -1,16 +1,25 @@
-// Demand 3 as one claim about what the calls of C hand back: functions that make the calls, and ensure it of their answers.
-// specs/Demand.antt has the claim, proofs/Demand.antt its theorem.
+// Claims about what the calls of C hand back: functions that make the calls, and ensure the claim of their answers.
+// Demand 3 stands in specs/Demand.antt, one list for date-times and dates in specs/OneList.antt; theorems in proofs/.
 use axis::Axis;
 use axis::Hint;
 use ordered::OrderedNumber;
+use ordered::OrderedPeriod;
 use ordered::OrderedPixel;
 ghost use Rattle.axis.specs.Axes.{axisOf};
 ghost use Rattle.promises.specs.Demand.{FineList, FinePart, DaysApart};
+ghost use Rattle.promises.specs.OneList.{SameLists};
 
 // What the mappings of two days answered.
 pub struct TwoPixels {
     pub first: OrderedPixel,
     pub second: OrderedPixel,
+}
+
+// What the calls of a period, of a list of date-times and of a list of dates answered.
+pub struct Lists {
+    pub period: OrderedPeriod,
+    pub times: OrderedNumber,
+    pub dates: OrderedNumber,
 }
 
 pub fn ticks_bold(
@@ -165,5 +174,91 @@ pub fn map_days(
             second,
             0,
         ),
+    }
+}
+
+// A list with a bold hint, the period of kind 4 beside it, and the list of the dates between two days with the same N.
+pub fn lists_bold(
+    kind: i64,
+    start_head: i64,
+    start_tail: i64,
+    end_head: i64,
+    end_tail: i64,
+    end_excluded: i64,
+    n: i64,
+    from: i64,
+    to: i64,
+    lent: &mut [i64],
+    beside: &mut [i64],
+) -> Lists
+    ensures { λ r. ⌜ SameLists (axisOf kind «start_head» «start_tail» «end_head» «end_tail» «end_excluded»)
+        (Hint.Bold (record { n = n })) from to (now (lent .entry)) (now (beside .entry))
+        r (now (lent .exit)) (now (beside .exit)) ⌝ }
+{
+    Lists {
+        period: ordered::ordered_period_per_point(
+            4,
+            start_head,
+            start_tail,
+            end_head,
+            end_tail,
+            end_excluded,
+            n,
+        ),
+        times: ordered::ordered_ticks_bold(
+            kind,
+            start_head,
+            start_tail,
+            end_head,
+            end_tail,
+            end_excluded,
+            n,
+            lent,
+        ),
+        dates: ordered::ordered_ticks_bold(1, from, 0, to, 0, 0, n, beside),
+    }
+}
+
+// The same with a light hint.
+pub fn lists_light(
+    kind: i64,
+    start_head: i64,
+    start_tail: i64,
+    end_head: i64,
+    end_tail: i64,
+    end_excluded: i64,
+    bold: i64,
+    n: i64,
+    from: i64,
+    to: i64,
+    lent: &mut [i64],
+    beside: &mut [i64],
+) -> Lists
+    ensures { λ r. ⌜ SameLists (axisOf kind «start_head» «start_tail» «end_head» «end_tail» «end_excluded»)
+        (Hint.Light (record { bold = bold; n = n })) from to (now (lent .entry)) (now (beside .entry))
+        r (now (lent .exit)) (now (beside .exit)) ⌝ }
+{
+    Lists {
+        period: ordered::ordered_period_per_point(
+            4,
+            start_head,
+            start_tail,
+            end_head,
+            end_tail,
+            end_excluded,
+            n,
+        ),
+        times: ordered::ordered_ticks_light(
+            kind,
+            start_head,
+            start_tail,
+            end_head,
+            end_tail,
+            end_excluded,
+            bold,
+            n,
+            lent,
+        ),
+        dates: ordered::ordered_ticks_bold(1, from, 0, to, 0, 0, n, beside),
     }
 }
