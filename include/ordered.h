@@ -125,13 +125,13 @@ ordered_period ordered_period_per_point(ORDERED_AXIS, int64_t n);
 /* The ticks of an axis for a bold hint of n, at most n + 1: their count. Head and tail of each stand at the front of the lent
    numbers, in order; the numbers behind them are unchanged. No tick stands on an excluded end or after it. Kind 8 lists the first
    Monday of the span and every m-th after it, with the least m from 1 on that has at most n + 1 of them; without a Monday none.
-   Kind 4 without a period lists what kind 1 lists for n, to the date of the end, from that of the start, or from the day after
-   where its time is 00:00:01 or later. Refused by 1, 3, 4, 14, 5, 6, 11. */
+   Kind 4 without a period lists what kind 1 lists for n: from the date of the start, or from the day after it where the start's
+   time is 00:00:01 or later, to the date of the end. Refused by 1, 3, 4, 14, 5, 6, 11. */
 ordered_number ordered_ticks_bold(ORDERED_AXIS, int64_t n, int64_t *lent, size_t lent_len);
 
 /* The same for a light hint, a bold count and a limit n: the ticks of the finer axis where the size is at most twice the
-   bold count, from years to months, from months to days or times. Kinds 1, 4, 7 and 8 go to no other axis: the bold count
-   changes nothing there. Refused by 1, 3, 4, 14, 5, 6, 11. */
+   bold count, from years to months, from months to days (kind 2 to 1) or times (5 to 4). Kinds 1, 4, 7 and 8 go to no other
+   axis: the bold count changes nothing there. Refused by 1, 3, 4, 14, 5, 6, 11. */
 ordered_number ordered_ticks_light(ORDERED_AXIS, int64_t bold, int64_t n, int64_t *lent, size_t lent_len);
 
 /* The answers of the two above for a lent slice of that length, with nothing lent; on kinds 1, 2, 3, 5, 6 and 8 also those of

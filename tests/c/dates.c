@@ -10,10 +10,11 @@
 
 #include "calls.h"
 #include "draw.h"
+#include "expect.h"
 
-enum { ARGUMENTS = 8, GUARD = 5, SHOWN = 5, ENOUGH = 20000, DRAWS = 200, MONTHS = 8192 };
+enum { ARGUMENTS = 8, GUARD = 5, ENOUGH = 20000, DRAWS = 200, MONTHS = 8192 };
 
-static int64_t compared, ticks, differences;
+static int64_t ticks;
 
 /* A call, and where its N stands behind the axis: after a light hint's bold count. */
 static const struct listing {
@@ -44,14 +45,8 @@ static const char *const met_texts[] = {
 };
 static int64_t met[LISTINGS][METS];
 
-static void expect(bool same, const struct listing *c, const int64_t *in, const char *what) {
-    compared++;
-    if (same || differences++ >= SHOWN)
-        return;
-    printf("  %s", c->name);
-    for (int i = 0; i <= c->n; i++)
-        printf(" %" PRId64, in[i]);
-    printf(": %s\n", what);
+static void check(bool same, const struct listing *c, const int64_t *in, const char *otherwise) {
+    expect(same, c->name, in, c->n + 1, otherwise);
 }
 
 static wide span_of(const int64_t *in) {
@@ -108,7 +103,7 @@ static void draw_call(const struct listing *c, int64_t *in) {
 static bool lists_dates(const struct listing *c, const int64_t *in) {
     int64_t n = in[c->n];
     bool none = ordered_period_per_point(4, in[1], in[2], in[3], in[4], 0, n).status == ORDERED_NONE;
-    expect(none == (n >= 1 && span_of(in) >= least_span(n)), c, in, "a period from the shortest span on, or none before it");
+    check(none == (n >= 1 && span_of(in) >= least_span(n)), c, in, "a period from the shortest span on, or none before it");
     if (!none)
         return false;
     return c->kind == 4 || (size_of(5, in) <= 2 * in[6] && (c->kind == 5 || size_of(6, in) <= 2 * in[6]));
@@ -135,12 +130,12 @@ static void compare(const struct listing *c, const int64_t *in) {
     fill(want_block, all);
     ordered_number got = c->list(in, none ? NULL : got_block + GUARD, lent_len);
     ordered_number want = list_bold(dates, none ? NULL : want_block + GUARD, lent_len);
-    expect(got.status == want.status && got.value == want.value, c, in, "another answer than of its dates");
-    expect(!memcmp(got_block, want_block, all * sizeof got_block[0]), c, in, "other lent numbers than of its dates");
-    expect(want.status == (lent_len < 2 * (size_t)count ? 11 : 0), c, in, "its dates are refused");
+    check(got.status == want.status && got.value == want.value, c, in, "another answer than of its dates");
+    check(!memcmp(got_block, want_block, all * sizeof got_block[0]), c, in, "other lent numbers than of its dates");
+    check(want.status == (lent_len < 2 * (size_t)count ? 11 : 0), c, in, "its dates are refused");
     if (c->count) {
         got = c->count(in, lent_len);
-        expect(got.status == want.status && got.value == want.value, c, in, "another count than of its dates");
+        check(got.status == want.status && got.value == want.value, c, in, "another count than of its dates");
     }
     ticks += want.value;
     note(c, in, dates, got.status, none ? NULL : got_block);
@@ -156,7 +151,7 @@ static void compare_next(const struct listing *c) {
         compare(c, in);
         return;
     }
-    expect(false, c, in, "so many draws, and none lists dates");
+    check(false, c, in, "so many draws, and none lists dates");
 }
 
 static void expect_all_met(int64_t axes) {
@@ -167,13 +162,7 @@ static void expect_all_met(int64_t axes) {
 }
 
 int main(int argc, char **argv) {
-    setvbuf(stdout, NULL, _IOLBF, 0); /* what was printed stays if a sanitizer ends the run */
-    if (argc != 3) {
-        fprintf(stderr, "usage: dates AXES SEED\n");
-        return 1;
-    }
-    int64_t axes = strtoll(argv[1], NULL, 10);
-    seed_with(strtoull(argv[2], NULL, 10));
+    int64_t axes = count_and_seed(argc, argv);
     for (int64_t i = 0; i < axes; i++)
         for (int listing = 0; listing < LISTINGS; listing++)
             compare_next(&listings[listing]);

@@ -6,6 +6,8 @@
 #include <stdbool.h>
 #include <stddef.h>
 #include <stdint.h>
+#include <stdio.h>
+#include <stdlib.h>
 
 #include "months.h"
 
@@ -31,6 +33,17 @@ static inline void seed_with(uint64_t seed) {
     seed = (seed ^ seed >> 30) * UINT64_C(0xbf58476d1ce4e5b9);
     seed = (seed ^ seed >> 27) * UINT64_C(0x94d049bb133111eb);
     state = (seed ^ seed >> 31) | 1;
+}
+
+/* For a client whose arguments are COUNT and SEED: seeds the draws and gives the count. */
+static inline int64_t count_and_seed(int argc, char **argv) {
+    setvbuf(stdout, NULL, _IOLBF, 0); /* what was printed stays if a sanitizer ends the run */
+    if (argc != 3) {
+        fprintf(stderr, "usage: %s COUNT SEED\n", argv[0]);
+        exit(1);
+    }
+    seed_with(strtoull(argv[2], NULL, 10));
+    return strtoll(argv[1], NULL, 10);
 }
 
 static inline int64_t from(int64_t low, int64_t high) {

@@ -9,11 +9,12 @@
 
 #include "calls.h"
 #include "draw.h"
+#include "expect.h"
 
-enum { ARGUMENTS = 11, NUMBERS = 4, QUESTIONS = 15, GUARD = 5, SHOWN = 5, ENOUGH = 20000, WALKED = 40 };
+enum { ARGUMENTS = 11, NUMBERS = 4, QUESTIONS = 15, GUARD = 5, ENOUGH = 20000, WALKED = 40 };
 enum { LOW = 6, HIGH, SEGMENT, HEAD, TAIL }; /* the arguments of segment_map after the axis */
 
-static int64_t compared, ticks, differences;
+static int64_t ticks;
 
 /* What an answer must equal: that of the axis that ends a day earlier, that of the written one with its end, or the definition of
    a segment's pixel. */
@@ -56,26 +57,6 @@ static const struct operation {
 enum { OPERATIONS = sizeof operations / sizeof operations[0] };
 
 static int64_t seen[OPERATIONS][QUESTIONS + 1]; /* by status, -1 first */
-
-static void print_numbers(const int64_t *numbers, int count) {
-    for (int i = 0; i < count; i++)
-        printf(" %" PRId64, numbers[i]);
-}
-
-/* False: it is one of the first differences, and its line has been begun. */
-static bool is_fine(bool same, const char *name, const int64_t *in, int arguments) {
-    compared++;
-    if (same || differences++ >= SHOWN)
-        return true;
-    printf("  %s", name);
-    print_numbers(in, arguments);
-    return false;
-}
-
-static void expect(bool same, const char *name, const int64_t *in, int arguments, const char *what) {
-    if (!is_fine(same, name, in, arguments))
-        printf(": %s\n", what);
-}
 
 /* The first days of months, years and weeks, and any other; now and then beside it. */
 static int64_t boundary(void) {
@@ -251,13 +232,7 @@ static void compare_call(const struct operation *o, const struct asked *a) {
         segment_defined(a->shorter, a->written, want);
     else
         o->call(o->like == WRITTEN ? a->written : a->shorter, want);
-    if (is_fine(!memcmp(got, want, (size_t)count * sizeof got[0]), o->name, a->excluded, a->arguments))
-        return;
-    printf(": %s", likes[o->like]);
-    print_numbers(want, count);
-    printf(", got");
-    print_numbers(got, count);
-    printf("\n");
+    expect_numbers(o->name, a->excluded, a->arguments, got, likes[o->like], want, count);
 }
 
 /* By the list of the shorter axis. */
@@ -362,13 +337,7 @@ static void expect_all_seen(int64_t axes) {
 }
 
 int main(int argc, char **argv) {
-    setvbuf(stdout, NULL, _IOLBF, 0); /* what was printed stays if a sanitizer ends the run */
-    if (argc != 3) {
-        fprintf(stderr, "usage: excluded AXES SEED\n");
-        return 1;
-    }
-    int64_t axes = strtoll(argv[1], NULL, 10);
-    seed_with(strtoull(argv[2], NULL, 10));
+    int64_t axes = count_and_seed(argc, argv);
     examples();
     for (int64_t i = 0; i < axes; i++)
         for (int kind = 0; kind < 4; kind++)

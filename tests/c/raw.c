@@ -9,10 +9,11 @@
 
 #include "calls.h"
 #include "draw.h"
+#include "expect.h"
 #include "months.h"
 #include "questions.h"
 
-enum { ARGUMENTS = 11, NUMBERS = 4, QUESTIONS = 15, GUARD = 5, SHOWN = 5, ENOUGH = 10000 };
+enum { ARGUMENTS = 11, NUMBERS = 4, QUESTIONS = 15, GUARD = 5, ENOUGH = 10000 };
 
 /* May these numbers, the status first, be an answer to these arguments? */
 typedef bool fine(const int64_t *in, const int64_t *out);
@@ -123,17 +124,7 @@ static const struct operation {
 };
 enum { OPERATIONS = sizeof operations / sizeof operations[0] };
 
-static int64_t differences;
 static int64_t seen[OPERATIONS][QUESTIONS + 1]; /* by status, -1 first */
-
-static void differ(const struct operation *o, const int64_t *in, int arguments, const char *why) {
-    if (differences++ >= SHOWN)
-        return;
-    printf("  %s", o->name);
-    for (int i = 0; i < arguments; i++)
-        printf(" %" PRId64, in[i]);
-    printf(": %s\n", why);
-}
 
 /* Any bits; any number of bits; a bound of some question or of a type, or beside one. */
 static int64_t hostile(void) {
@@ -208,12 +199,12 @@ static void compare_call(const struct operation *o, const int64_t *in, int argum
     int64_t out[NUMBERS];
     int count = o->call(in, out);
     if (!fine_status(o, in, out[0]))
-        differ(o, in, arguments, "the status");
+        expect(false, o->name, in, arguments, "the status");
     else if (out[0] == 0 && !o->fine(in, out))
-        differ(o, in, arguments, "the answer");
+        expect(false, o->name, in, arguments, "the answer");
     for (int i = 1; i < count && out[0]; i++)
         if (out[i] != (out[0] == -1 && o->place && i == count - 1 ? in[o->place] : 0))
-            differ(o, in, arguments, "a field beside no answer");
+            expect(false, o->name, in, arguments, "a field beside no answer");
 }
 
 static bool later(const int64_t *a, const int64_t *b) {
@@ -243,23 +234,23 @@ static void compare_list(const struct operation *o, const int64_t *in, int argum
     ordered_number r = o->list(in, none ? NULL : block + guard, lent_len);
     size_t listed = r.status == 0 ? 2 * (size_t)r.value : 0;
     if (!fine_status(o, in, r.status) || (r.status && r.value))
-        differ(o, in, arguments, "the status, or a count beside no answer");
+        expect(false, o->name, in, arguments, "the status, or a count beside no answer");
     else if (listed > lent_len || (listed && !fine_list(in, arguments, block + guard, r.value)))
-        differ(o, in, arguments, "the list"), listed = 0;
+        expect(false, o->name, in, arguments, "the list"), listed = 0;
     bool kept = true;
     for (size_t i = 0; i < all; i++)
         kept = kept && (block[i] == pattern(i) || (i >= guard && i < guard + listed));
     if (!kept)
-        differ(o, in, arguments, "a number that is no tick was written");
+        expect(false, o->name, in, arguments, "a number that is no tick was written");
     free(block);
 }
 
 static void compare_count(const struct operation *o, const int64_t *in, int arguments, size_t lent_len) {
     ordered_number r = o->count(in, lent_len);
     if (!fine_status(o, in, r.status) || (r.status && r.value))
-        differ(o, in, arguments, "the status, or a count beside no answer");
+        expect(false, o->name, in, arguments, "the status, or a count beside no answer");
     else if (r.status == 0 && (!in_range(0, r.value, in[arguments - 1] + 1) || (size_t)r.value > lent_len / 2))
-        differ(o, in, arguments, "the count");
+        expect(false, o->name, in, arguments, "the count");
 }
 
 /* No more than the list needs by much: just enough, a little less or more, or any few. */
@@ -291,12 +282,7 @@ static void expect_all_seen(int64_t count) {
 }
 
 int main(int argc, char **argv) {
-    if (argc != 3) {
-        fprintf(stderr, "usage: raw COUNT SEED\n");
-        return 1;
-    }
-    int64_t count = strtoll(argv[1], NULL, 10);
-    seed_with(strtoull(argv[2], NULL, 10));
+    int64_t count = count_and_seed(argc, argv);
     for (int64_t i = 0; i < count; i++)
         compare(&operations[draw() % OPERATIONS]);
     expect_all_seen(count);

@@ -12,11 +12,10 @@
 
 #include "calls.h"
 #include "draw.h"
+#include "expect.h"
 
-enum { DAYS = 3652059, EPOCH = 719163, YEARS = 9999, GUARD = 5, SHOWN = 5 };
+enum { DAYS = 3652059, EPOCH = 719163, YEARS = 9999, GUARD = 5 };
 enum { WEEKS = 8, DATES = 1 }; /* kinds */
-
-static int64_t compared, differences;
 
 /* The walk: of each day the week date, and how many Mondays there are up to it; of each year its weeks. */
 static struct {
@@ -53,23 +52,12 @@ static void walk(void) {
     }
 }
 
-/* What a call answered beside what it must answer: up to four numbers, the status first. */
-static void expect(const char *call, const int64_t *in, int arguments, const void *answer, const int64_t *want, size_t count) {
+/* What a call answered, up to four numbers, the status first. */
+static void expect_answer(const char *call, const int64_t *in, int arguments, const void *answer, const int64_t *want,
+                          size_t count) {
     int64_t got[4];
     memcpy(got, answer, count * sizeof got[0]);
-    compared++;
-    if (!memcmp(got, want, count * sizeof got[0]) || differences++ >= SHOWN)
-        return;
-    printf("  %s", call);
-    for (int i = 0; i < arguments; i++)
-        printf(" %" PRId64, in[i]);
-    printf(": expected");
-    for (size_t i = 0; i < count; i++)
-        printf(" %" PRId64, want[i]);
-    printf(", got");
-    for (size_t i = 0; i < count; i++)
-        printf(" %" PRId64, got[i]);
-    printf("\n");
+    expect_numbers(call, in, arguments, got, "expected", want, (int)count);
 }
 
 /* The numbers of a row, and its count. */
@@ -77,12 +65,12 @@ static void expect(const char *call, const int64_t *in, int arguments, const voi
 
 static void expect_week_date(int64_t number, int64_t status, int64_t year, int64_t week, int64_t weekday) {
     ordered_week_date got = ordered_week_date_of(number);
-    expect("week_date_of", &number, 1, &got, ROW(status, year, week, weekday));
+    expect_answer("week_date_of", &number, 1, &got, ROW(status, year, week, weekday));
 }
 
 static void expect_day_number(int64_t year, int64_t week, int64_t weekday, int64_t status, int64_t number) {
     ordered_number got = ordered_week_day_number(year, week, weekday);
-    expect("week_day_number", (const int64_t[]){year, week, weekday}, 3, &got, ROW(status, number));
+    expect_answer("week_day_number", (const int64_t[]){year, week, weekday}, 3, &got, ROW(status, number));
 }
 
 /* Each day both ways, and each year, week and weekday in order: each that is accepted has the number after the last one's. */
@@ -209,18 +197,18 @@ static void expect_list(enum list list, int64_t bold, int64_t n, const int64_t *
                          : list == SEGMENT_BOLD ? ordered_segment_ticks_bold(AXIS, n, lent, lent_len)
                                                 : ordered_segment_ticks_light(AXIS, bold, n, lent, lent_len);
     const int64_t in[] = {AXIS, bold, n, (int64_t)lent_len};
-    expect(names[list], in, 9, &got, ROW(room ? 0 : 11, room ? listed : 0));
+    expect_answer(names[list], in, 9, &got, ROW(room ? 0 : 11, room ? listed : 0));
     if (list == BOLD || list == LIGHT) {
         ordered_number count =
             list == BOLD ? ordered_count_bold(AXIS, n, lent_len) : ordered_count_light(AXIS, bold, n, lent_len);
-        expect("the count", in, 9, &count, ROW(room ? 0 : 11, room ? listed : 0));
+        expect_answer("the count", in, 9, &count, ROW(room ? 0 : 11, room ? listed : 0));
     }
     bool same = true;
     size_t written = room ? 2 * (size_t)listed : 0;
     for (size_t i = 0; i < all; i++)
         same = same && block[i] == (i >= GUARD && i < GUARD + written ? want[i - GUARD] : pattern(i));
     int64_t kept = same;
-    expect("the lent numbers", in, 9, &kept, ROW(1));
+    expect_answer("the lent numbers", in, 9, &kept, ROW(1));
 }
 
 static void expect_lists(void) {
@@ -253,7 +241,7 @@ static int64_t draw_day(void) {
 }
 
 static void expect_value(const char *call, int64_t at, ordered_value got, ordered_value want) {
-    expect(call, (const int64_t[]){AXIS, at}, 7, &got, ROW(want.status, want.head, want.tail));
+    expect_answer(call, (const int64_t[]){AXIS, at}, 7, &got, ROW(want.status, want.head, want.tail));
 }
 
 static void expect_by_value(void) {
@@ -261,9 +249,9 @@ static void expect_by_value(void) {
     int64_t day = draw_day(), index = mondays_to[day] - mondays_to[start], size = size_by_walk();
     const int64_t in[] = {AXIS, day, 0};
     ordered_number got = ordered_index_of(AXIS, day, 0);
-    expect("index_of", in, 8, &got, ROW(index < 0 ? -1 : 0, index < 0 ? 0 : index));
+    expect_answer("index_of", in, 8, &got, ROW(index < 0 ? -1 : 0, index < 0 ? 0 : index));
     got = ordered_segment_index_of(AXIS, from(1, 2), day, 0);
-    expect("segment_index_of", in, 8, &got, ROW(index < 0 ? -1 : 0, index < 0 ? 0 : index));
+    expect_answer("segment_index_of", in, 8, &got, ROW(index < 0 ? -1 : 0, index < 0 ? 0 : index));
     bool before = index > 0, after = index >= 0 && index + 1 < size;
     expect_value("next", day, ordered_next(AXIS, day, 0), after ? value_by_walk(index + 1) : none);
     expect_value("previous", day, ordered_previous(AXIS, day, 0), before ? value_by_walk(index - 1) : none);
@@ -277,20 +265,20 @@ static void expect_by_index(void) {
     expect_value("from_index", index, ordered_from_index(AXIS, index), v);
     ordered_step values = ordered_values(AXIS, index);
     if (index < size)
-        expect("values", in, 7, &values, ROW(v.status, v.head, v.tail, index + 1));
+        expect_answer("values", in, 7, &values, ROW(v.status, v.head, v.tail, index + 1));
     else
-        expect("values", in, 7, &values, ROW(-1, 0, 0, index));
+        expect_answer("values", in, 7, &values, ROW(-1, 0, 0, index));
     ordered_segment segment = ordered_segment_from_index(AXIS, index);
     if (index < size)
-        expect("segment_from_index", in, 7, &segment, ROW(v.status, 1, v.head, v.tail));
+        expect_answer("segment_from_index", in, 7, &segment, ROW(v.status, 1, v.head, v.tail));
     else
-        expect("segment_from_index", in, 7, &segment, ROW(index > size ? -1 : 0, index > size ? 0 : 3, 0, 0));
+        expect_answer("segment_from_index", in, 7, &segment, ROW(index > size ? -1 : 0, index > size ? 0 : 3, 0, 0));
     ordered_number got = ordered_size(AXIS);
-    expect("size", in, 6, &got, ROW(0, size));
+    expect_answer("size", in, 6, &got, ROW(0, size));
     got = ordered_segment_size(AXIS);
-    expect("segment_size", in, 6, &got, ROW(0, size + 1));
+    expect_answer("segment_size", in, 6, &got, ROW(0, size + 1));
     got = ordered_segment_index_of(AXIS, 3, 0, 0);
-    expect("segment_index_of the last", in, 6, &got, ROW(0, size));
+    expect_answer("segment_index_of the last", in, 6, &got, ROW(0, size));
 }
 
 /* Between limits: the value under a pixel, and the pixels of a day and of its segment, both by those of kind 1. */
@@ -305,13 +293,13 @@ static void expect_pixels(void) {
 
     const int64_t in[] = {AXIS, low, high, day, 0};
     ordered_pixel got = ordered_map(AXIS, low, high, day, 0), dates = ordered_map(DATES, start, 0, end, 0, 0, low, high, day, 0);
-    expect("map", in, 10, &got, ROW(dates.status, dates.pixel));
+    expect_answer("map", in, 10, &got, ROW(dates.status, dates.pixel));
 
     /* The width parted by the size, rounded half away from zero, is left for the last. */
     int64_t margin = (2 * wide + size) / (2 * size) * (width < 0 ? -1 : 1), follower = mondays_to[day] - mondays_to[start] + 1;
     ordered_pixel left = ordered_map(DATES, start, 0, end, 0, 0, low, high - margin, day, 0), right = left;
     got = ordered_segment_map(AXIS, low, high, 1, day, 0);
-    expect("segment_map, exact", in, 10, &got, ROW(left.status, left.pixel));
+    expect_answer("segment_map, exact", in, 10, &got, ROW(left.status, left.pixel));
     bool followed = follower > 0 && follower < size;
     if (followed)
         right = ordered_map(DATES, start, 0, end, 0, 0, low, high - margin, value_by_walk(follower).head, 0);
@@ -319,9 +307,9 @@ static void expect_pixels(void) {
     bool fits = sum >= INT32_MIN && sum <= INT32_MAX;
     int64_t status = left.status ? left.status : right.status ? right.status : fits ? 0 : 10;
     got = ordered_segment_map(AXIS, low, high, 2, day, 0);
-    expect("segment_map, centre", in, 10, &got, ROW(status, status ? 0 : followed ? sum / 2 : sum));
+    expect_answer("segment_map, centre", in, 10, &got, ROW(status, status ? 0 : followed ? sum / 2 : sum));
     got = ordered_segment_map(AXIS, low, high, 3, day, 0);
-    expect("segment_map, last", in, 10, &got, ROW(0, high));
+    expect_answer("segment_map, last", in, 10, &got, ROW(0, high));
 }
 
 static void axes(int64_t count) {

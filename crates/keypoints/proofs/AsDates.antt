@@ -10,12 +10,11 @@ use Rattle.axis.specs.declared.Axis.{Axis}
 use Rattle.axis.specs.declared.LightPoints.{LightPoints}
 use Rattle.axis.specs.declared.Hint.{Hint}
 use Rattle.axis.specs.declared.Hint.the-variants.{Bold, Light}
-use Rattle.axis.specs.Axes.{axisOf}
 use Rattle.counting.specs.Counting.{monthly, yearly, weekly, fromDay, toDay, sizeOf}
 use Rattle.keypoints.specs.Dates.{dateRange}
 use Rattle.keypoints.specs.Times.{periodOn, dateTimeKeyPoints}
 use Rattle.keypoints.specs.KeyPoints.{keyPoints}
-use Rattle.keypoints.specs.Hints.{finer, monthlyLight, yearlyLight, lightKeyPoints, keyPointsIn}
+use Rattle.keypoints.specs.Hints.{ofKind, finer, monthlyLight, yearlyLight, lightKeyPoints, keyPointsIn}
 use Rattle.keypoints.specs.AsDates.{dateTimes, ListsTimes, times, months, years, boldPoints}
 
 module _ (turns : ℕ) (a : Axis) where
@@ -26,31 +25,28 @@ module _ (turns : ℕ) (a : Axis) where
   as-dates n e = rw e
 
   -- an axis by its kind
-  abbrev of-kind : ℤ → Axis
-  of-kind k = axisOf k (a .«start_head») (a .«start_tail») (a .«end_head») (a .«end_tail») (a .«end_excluded»)
-
-  is-kind : (k : ℤ) → a .kind ≡ k → a ≡ of-kind k
-  is-kind k e = λ i. of-kind (e i)
+  is-kind : (k : ℤ) → a .kind ≡ k → a ≡ ofKind k a
+  is-kind k e = λ i. ofKind (e i) a
 
   -- what a light hint lists
-  light-times : (b n : ℕ) → lightKeyPoints turns (of-kind (pos 4)) b n ≡ keyPoints turns (dateTimes a) n
+  light-times : (b n : ℕ) → lightKeyPoints turns (dateTimes a) b n ≡ keyPoints turns (dateTimes a) n
   unfolding lightKeyPoints monthly yearly
   light-times b n = refl
 
-  light-months : (b n : ℕ) → sizeOf (of-kind (pos 5)) ≤ b * 2 →
-      lightKeyPoints turns (of-kind (pos 5)) b n ≡ keyPoints turns (dateTimes a) n
+  light-months : (b n : ℕ) → sizeOf (ofKind (pos 5) a) ≤ b * 2 →
+      lightKeyPoints turns (ofKind (pos 5) a) b n ≡ keyPoints turns (dateTimes a) n
   unfolding lightKeyPoints monthlyLight monthly yearly
-  light-months b n f = rw (le-leb (sizeOf (of-kind (pos 5))) (b * 2) f)
+  light-months b n f = rw (le-leb (sizeOf (ofKind (pos 5) a)) (b * 2) f)
 
-  light-years : (b n : ℕ) → sizeOf (of-kind (pos 6)) ≤ b * 2 → sizeOf (of-kind (pos 5)) ≤ b * 2 →
-      lightKeyPoints turns (of-kind (pos 6)) b n ≡ keyPoints turns (dateTimes a) n
+  light-years : (b n : ℕ) → sizeOf (ofKind (pos 6) a) ≤ b * 2 → sizeOf (ofKind (pos 5) a) ≤ b * 2 →
+      lightKeyPoints turns (ofKind (pos 6) a) b n ≡ keyPoints turns (dateTimes a) n
   unfolding lightKeyPoints monthlyLight yearlyLight monthly yearly
   light-years b n f g =
-      rw (le-leb (sizeOf (of-kind (pos 6))) (b * 2) f, le-leb (sizeOf (of-kind (pos 5))) (b * 2) g)
+      rw (le-leb (sizeOf (ofKind (pos 6) a)) (b * 2) f, le-leb (sizeOf (ofKind (pos 5) a)) (b * 2) g)
 
   -- an axis that lists as kind 4
   by-light : (h : Hint) (l : LightPoints) (k : ℤ) → h ≡ Light l → a .kind ≡ k →
-      lightKeyPoints turns (of-kind k) (posPart (l .bold)) (posPart (l .n)) ≡ keyPoints turns (dateTimes a) (posPart (l .n)) →
+      lightKeyPoints turns (ofKind k a) (posPart (l .bold)) (posPart (l .n)) ≡ keyPoints turns (dateTimes a) (posPart (l .n)) →
       keyPointsIn turns a h ≡ keyPoints turns (dateTimes a) (posPart (boldPoints h .n))
   by-light h l k e s p =
       subst (λ x. keyPointsIn turns a x ≡ keyPoints turns (dateTimes a) (posPart (boldPoints x .n))) (sym e)

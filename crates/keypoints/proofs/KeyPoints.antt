@@ -3,13 +3,13 @@ use mathlib.Core.Path.{_≡_, refl}
 use mathlib.Core.Bool.{Bool, true, false, cond, not}
 use mathlib.Core.List.{List}
 use mathlib.Core.Option.{none}
-use Prim.Native.Nat.{ℕ, zero, suc, _+_, _*_, _^_, _≤_, _<_}
+use Prim.Native.Nat.{ℕ, zero, suc, _+_, _≤_, _<_}
 use native.Mathlib.Omega.{arith}
 use lib.Dec.{ltb}
 use lib.IntN.{pos}
 use lib.Signed.{leZ}
 use borrow.Author.Tests.{lt-ltb}
-use Rattle.laws.specs.Numbers.{posPart, negPart, asU64}
+use Rattle.laws.specs.Numbers.{posPart, asU64}
 use Rattle.laws.proofs.Signed.{same, as-u64}
 use Rattle.values.specs.declared.Value.{Value}
 use Rattle.values.specs.Values.{overDates, isDuration}
@@ -29,7 +29,7 @@ use Rattle.plans.specs.Times.{periodIn}
 use Rattle.plans.specs.Plans.{Accepted, periodPlan, planOf}
 use Rattle.plans.proofs.Cases.{by-test}
 use Rattle.plans.proofs.Plans.{four-or-seven}
-use Rattle.plans.proofs.Spans.{not-fitting, long}
+use Rattle.plans.proofs.Spans.{long}
 use Rattle.plans.proofs.Promise.{date-order, day-order}
 use Rattle.keypoints.specs.Dates.{dateKeyPoints, dateRange}
 use Rattle.keypoints.specs.Periods.{computePeriodPerPoint}
@@ -38,7 +38,7 @@ use Rattle.keypoints.specs.KeyPoints.{keyPoints}
 use Rattle.keypoints.proofs.Dates.{dates-same}
 use Rattle.keypoints.proofs.Months.{months-same, years-same}
 use Rattle.keypoints.proofs.Weeks.{weeks-same}
-use Rattle.keypoints.proofs.Periods.{optional, period-same, from-none, none-from}
+use Rattle.keypoints.proofs.Periods.{optional, period-same}
 use Rattle.keypoints.proofs.Times.{date-times-same, durations-same}
 use Rattle.keypoints.proofs.Spans.{whole-days-same}
 
@@ -68,26 +68,6 @@ module _ (turns n : ℕ) (a : Axis) (q : Accepted a n) (t : n + 30 ≤ turns) wh
           rw (as-u64 (spanOf a) (span-from-0 a (q .real) (q .order)))
           (period-same turns (posPart (spanOf a)) n (not (isDuration (a .kind))) (omega arith) some (q .most) (omega arith))
       go false e = refl
-
-  -- and where steps below a day alone are asked for, the span from which there is none
-  pub none-just-from : 1 ≤ n → (periodOn turns a n true ≡ none → 10 ^ 14 * n ≤ posPart (spanOf a))
-      × (10 ^ 14 * n ≤ posPart (spanOf a) → periodOn turns a n true ≡ none)
-  unfolding periodOn
-  none-just-from some = go (fitsI64 (spanOf a)) refl
-    where
-      above : negPart (spanOf a) ≡ 0
-      above = span-from-0 a (q .real) (q .order)
-
-      go : (b : Bool) → fitsI64 (spanOf a) ≡ b →
-          let period = cond b (computePeriodPerPoint turns (asU64 (spanOf a)) n true) none in
-          (period ≡ none → 10 ^ 14 * n ≤ posPart (spanOf a)) × (10 ^ 14 * n ≤ posPart (spanOf a) → period ≡ none)
-      go true e =
-          let r = fits-range (spanOf a) e in
-          rw (as-u64 (spanOf a) above) (
-            from-none turns (posPart (spanOf a)) n (omega arith) some (omega arith),
-            none-from turns (posPart (spanOf a)) n (omega arith) some (omega arith),
-          )
-      go false e = (λ _. let m = q .most in omega (arith, not-fitting (spanOf a) above e), λ _. refl)
 
   dated : isDuration (a .kind) ≡ false → Dated a
   dated d = record { real = q .real; dates = d }

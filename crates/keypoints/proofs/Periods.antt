@@ -1,6 +1,6 @@
 -- The loop's exponent is document 01's, and the loop over units finds the period. Assumes nothing.
-use mathlib.Core.Path.{_≡_, refl, ap}
-use mathlib.Core.Bool.{Bool, true, false, cond, not}
+use mathlib.Core.Path.{_≡_, refl}
+use mathlib.Core.Bool.{Bool, false, cond, not}
 use mathlib.Core.Logic.{_⊎_, inl, inr}
 use mathlib.Core.Option.{Option, none, some}
 use Prim.Native.Nat.{ℕ, zero, suc, _+_, _*_, _/_, _^_, _≤_, _<_}
@@ -10,7 +10,7 @@ use native.Mathlib.Decide.{decLe}
 use native.Mathlib.Omega.{arith}
 use lib.Dec.{leb, ltb, eqb, lit<}
 use lib.ListN.{length, getD}
-use borrow.Author.Tests.{leb-true, leb-false, le-ltb, lt-ltb, ltb-true, ltb-false, eqb-true, eqb-false, not-true, not-false}
+use borrow.Author.Tests.{leb-true, leb-false, ltb-true, ltb-false, eqb-true, eqb-false, not-true, not-false}
 use Rattle.laws.specs.Units.{perSecond, perHour, perDay}
 use Rattle.period.specs.Ladders.{Ladder, decimalLadder, Climbable, firstWide}
 use Rattle.period.specs.Periods.{exponentOf, powerOf, tenDays, secondLadder, hourLadder, dayLadder, ladderOf, noPeriod, periodOf}
@@ -109,13 +109,6 @@ abbrev pub optional : ℕ → Option ℕ
 optional zero = none
 optional (suc x) = some (suc x)
 
-pub not-none : (x : ℕ) → some x ≡ none → ⊥
-not-none x e = let z = ap sized e in omega arith
-  where
-    sized : Option ℕ → ℕ
-    sized none = 0
-    sized (some k) = 1
-
 some-is : (x : ℕ) → 0 < x → some x ≡ optional x
 some-is zero h = absurd (let z : ⊥ = omega arith in z)
 some-is (suc x) h = refl
@@ -156,43 +149,3 @@ module _ (turns span n : ℕ) (s : Bool) (small : span < 2 ^ 63) (N : 1 ≤ n) (
   pub period-same : computePeriodPerPoint turns span n s ≡ optional (periodOf span n s)
   unfolding computePeriodPerPoint
   period-same = rw (exponent-same span n small N turns t) (chosen (powerOf span n) refl)
-
--- ---- where there is none, if only steps below a day are asked for: from 10^14 ns for each of the n on
-module _ (turns span n : ℕ) (small : span < 2 ^ 63) (N : 1 ≤ n) (t : 19 ≤ turns) where
-  abbrev e : ℕ
-  e = exponentFrom turns span n 0
-
-  -- 10^14 ns are the first power of ten above a day
-  day-power : 14 ≤ e → perDay ≤ 10 ^ e
-  day-power h = let z : 10 ^ 14 ≤ 10 ^ e = pow-le-pow-right (lit< tt) h in omega arith
-
-  below-power : e ≤ 13 → 10 ^ e < perDay
-  below-power h = let z : 10 ^ e ≤ 10 ^ 13 = pow-le-pow-right (lit< tt) h in omega arith
-
-  is-none : perDay ≤ 10 ^ e → computePeriodPerPoint turns span n true ≡ none
-  unfolding computePeriodPerPoint periodFrom
-  is-none h =
-      let x = le-ltb (10 ^ e) perSecond (omega arith) in
-      let y = le-ltb (10 ^ e) perHour (omega arith) in
-      rw (x, y, le-ltb (10 ^ e) perDay h)
-
-  pub none-from : 10 ^ 14 * n ≤ span → computePeriodPerPoint turns span n true ≡ none
-  none-from h = is-none (day-power (exponent-is span n small N turns t .largest 14 h))
-
-  is-some : 10 ^ e < perDay → computePeriodPerPoint turns span n true ≡ none → ⊥
-  unfolding computePeriodPerPoint periodFrom
-  is-some h z = go (ltb (10 ^ e) perSecond) (ltb (10 ^ e) perHour) _ _ _ (rw (lt-ltb (10 ^ e) perDay h) at z)
-    where
-      go : (b c : Bool) (x y w : ℕ) → cond b (some x) (cond c (some y) (some w)) ≡ none → ⊥
-      go true c x y w z = not-none x z
-      go false true x y w z = not-none y z
-      go false false x y w z = not-none w z
-
-  pub from-none : computePeriodPerPoint turns span n true ≡ none → 10 ^ 14 * n ≤ span
-  from-none z =
-      elim (decLe 14 e) [
-        | yes l ↦
-            let m : 10 ^ 14 * n ≤ 10 ^ e * n = mul-le-mul-right n (pow-le-pow-right (lit< tt) l) in
-            elim (exponent-is span n small N turns t .fits) [ inl q ↦ absurd (let w : ⊥ = omega arith in w) | inr f ↦ omega arith ]
-        | no l ↦ absurd (is-some (below-power (omega arith)) z)
-      ]

@@ -8,19 +8,18 @@ use Rattle.axis.specs.declared.BoldPoints.{BoldPoints}
 use Rattle.axis.specs.declared.LightPoints.{LightPoints}
 use Rattle.axis.specs.declared.Hint.{Hint}
 use Rattle.axis.specs.declared.Hint.the-variants.{Bold, Light}
-use Rattle.axis.specs.Axes.{axisOf}
 use Rattle.counting.specs.Counting.{sizeOf}
-use Rattle.keypoints.specs.Hints.{finer}
+use Rattle.keypoints.specs.Hints.{ofKind, finer}
 
 -- kind 4 with the ends of an axis
 abbrev pub dateTimes : Axis → Axis
-dateTimes a = axisOf (pos 4) (a .«start_head») (a .«start_tail») (a .«end_head») (a .«end_tail») (a .«end_excluded»)
+dateTimes a = ofKind (pos 4) a
 
 -- self.size() <= hint.bold_points() * 2
 abbrev pub Refined : Axis → LightPoints → Type 0
 Refined a l = sizeOf a ≤ posPart (l .bold) * 2
 
--- the axes that list as kind 4: kind 4 itself, and with a light hint Monthly and Yearly over date-times, Yearly by way of Monthly
+-- the axes that list as kind 4: kind 4 itself; with a light hint Monthly over date-times, and Yearly, by way of Monthly
 pub data ListsTimes (a : Axis) (h : Hint) : Type 0 where
   times : a .kind ≡ pos 4 → ListsTimes a h
   months : (l : LightPoints) → h ≡ Light l → a .kind ≡ pos 5 → Refined a l → ListsTimes a h

@@ -3,7 +3,7 @@ use Prim.Native.Nat.{ℕ, _+_, _*_}
 use mathlib.Core.Bool.{cond}
 use mathlib.Core.List.{List}
 use lib.Dec.{leb}
-use lib.IntN.{pos, _-ℤ_}
+use lib.IntN.{ℤ, pos, _-ℤ_}
 use Rattle.laws.specs.Numbers.{posPart}
 use Rattle.values.specs.declared.Value.{Value}
 use Rattle.axis.specs.declared.Axis.{Axis}
@@ -18,10 +18,13 @@ abbrev pub limit : Hint → ℕ
 limit (Bold h) = posPart (h .n)
 limit (Light h) = posPart (h .n)
 
--- the same ends: months for years, and dates or date-times for months
+-- the same ends on another kind
+abbrev pub ofKind : ℤ → Axis → Axis
+ofKind k a = axisOf k (a .«start_head») (a .«start_tail») (a .«end_head») (a .«end_tail») (a .«end_excluded»)
+
+-- months for years, and dates or date-times for months
 abbrev pub finer : Axis → Axis
-finer a =
-    axisOf (a .kind -ℤ pos 1) (a .«start_head») (a .«start_tail») (a .«end_head») (a .«end_tail») (a .«end_excluded»)
+finer a = ofKind (a .kind -ℤ pos 1) a
 
 -- Monthly: if hint.weight().allow_light_points() && self.size() <= hint.bold_points() * 2 {
 --     return coord.key_points(hint.max_num_points()); } self.bold_key_points(&hint)

@@ -4,15 +4,16 @@ use mathlib.Core.Path.{_≡_, refl}
 use mathlib.Core.Bool.{Bool, true, false, cond}
 use mathlib.Core.Logic.{inl, inr}
 use Prim.Native.Nat.{ℕ, zero, suc, _+_, _*_, _/_, _^_, _≤_, _<_, suc-le-suc}
-use native.Mathlib.Nat.{mul-le-mul-left, lt-of-lt-of-le, lt-irrefl, div-lt-iff-lt-mul, zero-lt-suc}
+use native.Mathlib.Nat.{mul-le-mul-right, pow-le-pow-right, lt-of-lt-of-le, lt-irrefl, div-lt-iff-lt-mul, zero-lt-suc}
+use native.Mathlib.Decide.{decLe}
 use native.Mathlib.Omega.{arith}
 use lib.Dec.{leb, leb→le, lit<}
 use borrow.Author.Tests.{leb-true, le-leb, lt-leb}
 use Rattle.laws.specs.Units.{perDay}
 use Rattle.laws.proofs.Tests.{both-true, and-false}
 use Rattle.period.specs.Ladders.{Ladder, unitAt, countAt, rungOf, Climbable, firstWide}
-use Rattle.period.specs.Periods.{ladderOf, noPeriod, periodOf, testedOf, powerOf}
-use Rattle.period.proofs.Exponents.{from-top, power-in}
+use Rattle.period.specs.Periods.{exponentOf, ladderOf, noPeriod, periodOf, testedOf, powerOf}
+use Rattle.period.proofs.Exponents.{from-top, largest, power-in}
 use Rattle.period.proofs.Ladders.{chosen-ends}
 
 -- ---- whether there is a period
@@ -79,19 +80,44 @@ module _ (span n : ℕ) (s : Bool) where
     period-room h = none-or (λ (x : ℕ). 0 < x → span < (n + 1) * x) (λ t z. absurd (lt-irrefl 0 z))
         (λ z. omega (arith, in-steps found)) h
 
--- where only steps below a day are asked for and there is none, the span is a day at least
-pub day-long : (span n : ℕ) → span < 2 ^ 63 → 0 < n → n ≤ 4096 → periodOf span n true ≤ 0 → perDay ≤ span
-day-long span n fits N hint h =
-    let p = powerOf span n in
-    let q = leb-true perDay p (both-true (leb perDay p) true (none (noPeriod p true) refl) .0) in
-    elim (rw (from-top span n) at (power-in span n 18)) [
-      | inl e ↦ absurd (one (rw e at q))
-      | inr l ↦ (let m : p * 1 ≤ p * n = mul-le-mul-left p N in omega arith)
-    ]
-  where
-    none : (b : Bool) → noPeriod (powerOf span n) true ≡ b → noPeriod (powerOf span n) true ≡ true
-    none true e = e
-    none false e = absurd (let z : ⊥ = omega (arith, period-above span n true fits N hint e) in z)
+-- where only steps below a day are asked for, there is none just from 10^14 ns, the first power of ten above a day, for each n on
+module _ (span n : ℕ) (fits : span < 2 ^ 63) (N : 0 < n) (hint : n ≤ 4096) where
+  abbrev e : ℕ
+  e = exponentOf span n
 
-    one : perDay ≤ 1 → ⊥
-    one g = omega arith
+  below : e ≤ 13 → 10 ^ e < perDay
+  below h = let z : 10 ^ e ≤ 10 ^ 13 = pow-le-pow-right (lit< tt) h in omega arith
+
+  pub from-none : periodOf span n true ≤ 0 → 10 ^ 14 * n ≤ span
+  from-none h =
+      let q = leb-true perDay (10 ^ e) (both-true (leb perDay (10 ^ e)) true (none (noPeriod (10 ^ e) true) refl) .0) in
+      elim (decLe 14 e) [
+        | yes l ↦
+            let m : 10 ^ 14 * n ≤ 10 ^ e * n = mul-le-mul-right n (pow-le-pow-right (lit< tt) l) in
+            elim (rw (from-top span n) at (power-in span n 18)) [
+              | inl z ↦ absurd (let w : ⊥ = omega arith in w)
+              | inr g ↦ omega arith
+            ]
+        | no l ↦ absurd (let w : ⊥ = omega (arith, below (omega arith)) in w)
+      ]
+    where
+      none : (b : Bool) → noPeriod (powerOf span n) true ≡ b → noPeriod (powerOf span n) true ≡ true
+      none true e = e
+      none false e = absurd (let z : ⊥ = omega (arith, period-above span n true fits N hint e) in z)
+
+  -- the next power would be no larger
+  far : 10 ^ 14 * n ≤ span → 14 ≤ e
+  far h =
+      let (most, next) = rw (from-top span n) at (largest span n 18) in
+      elim (decLe 14 e) [
+        | yes l ↦ l
+        | no l ↦
+            let less : suc e ≤ 14 = omega arith in
+            let m : 10 ^ suc e * n ≤ 10 ^ 14 * n = mul-le-mul-right n (pow-le-pow-right (lit< tt) less) in
+            absurd (elim next [ inl z ↦ (let w : ⊥ = omega arith in w) | inr g ↦ (let w : ⊥ = omega arith in w) ])
+      ]
+
+  pub none-from : 10 ^ 14 * n ≤ span → 0 ≡ periodOf span n true
+  none-from h =
+      let day : 10 ^ 14 ≤ 10 ^ e = pow-le-pow-right (lit< tt) (far h) in
+      answers-none span n true (10 ^ e) refl (days-listed (10 ^ e) true (omega arith) refl) .0

@@ -34,7 +34,8 @@ use Rattle.weeks.proofs.Mondays.{first-monday}
 use Rattle.period.specs.Ladders.{firstFit}
 use Rattle.period.specs.Periods.{periodOf}
 use Rattle.period.proofs.Fits.{fit-above, fit-most, fit-room}
-use Rattle.period.proofs.Periods.{period-room, day-long}
+use Rattle.period.proofs.Periods as periods
+use Rattle.period.proofs.Periods.{period-room}
 use Rattle.steps.specs.declared.Steps.{Steps}
 use Rattle.steps.specs.Months.{firstDay}
 use Rattle.steps.specs.Progression.{fitting, tickOfNumber, ticks, Sound}
@@ -54,7 +55,7 @@ use Rattle.plans.proofs.Days.{step-wide, days-kept}
 use Rattle.plans.proofs.Weeks.{week-wide, weeks-kept}
 use Rattle.plans.proofs.Months.{Wide, last-month, first-month, last-most, first-most, year-wide, month-wide, months-kept}
 use Rattle.plans.proofs.Plans.{four-or-seven}
-use Rattle.plans.proofs.Spans.{start-duration, end-duration, shift-small, some-period, timed, long}
+use Rattle.plans.proofs.Spans.{start-duration, end-duration, shift-small, no-period, some-period, timed, long}
 use Rattle.plans.proofs.Spans.{from, to, begins, not-fitting, left-dn, left-small, left-most, left-last}
 use Rattle.plans.proofs.Spans.{total-range}
 
@@ -394,18 +395,26 @@ date-order a n q d =
     let w = date-value (a .kind) (end a) (both-ends a (q .real) .second) d in
     omega (arith, date-from a (q .real) d, to-is a, heads-in-order a (q .order))
 
--- where date-times have no period, the span is a day at least
-module _ (a : Axis) (n : ℕ) (q : Accepted a n) (some : 1 ≤ n) (d : isDuration (a .kind) ≡ false) (h : periodIn a n ≤ 0) where
-  long-day : perDay ≤ posPart (spanOf a)
-  long-day = by-test (fitsI64 (spanOf a))
-      (λ e. let r = fits-range (spanOf a) e in
-      let s : not (isDuration (a .kind)) ≡ true = rw d in
-      let p : periodOf (posPart (spanOf a)) n true ≤ 0 = rw (← some-period a n e, s) at h in
-      day-long (posPart (spanOf a)) n (omega arith) some (q .most) p)
-      (λ e. omega (arith, not-fitting (spanOf a) (span-from-0 a (q .real) (q .order)) e))
+-- date-times have no period just from 10^14 ns for each of the n on
+module _ (a : Axis) (n : ℕ) (q : Accepted a n) (some : 1 ≤ n) (d : isDuration (a .kind) ≡ false) where
+  period-is : fitsI64 (spanOf a) ≡ true → periodOf (posPart (spanOf a)) n true ≡ periodIn a n
+  period-is e = let s : not (isDuration (a .kind)) ≡ true = rw d in rw s at (some-period a n e)
 
-  pub day-order : fromDay a ≤ toDay a
-  day-order =
+  pub from-none : periodIn a n ≤ 0 → 10 ^ 14 * n ≤ posPart (spanOf a)
+  from-none h = by-test (fitsI64 (spanOf a))
+      (λ e. let r = fits-range (spanOf a) e in
+      periods.from-none (posPart (spanOf a)) n (omega arith) some (q .most) (omega (arith, period-is e)))
+      (λ e. omega (arith, not-fitting (spanOf a) (span-from-0 a (q .real) (q .order)) e, q .most))
+
+  pub none-from : 10 ^ 14 * n ≤ posPart (spanOf a) → 0 ≡ periodIn a n
+  none-from h = by-test (fitsI64 (spanOf a))
+      (λ e. let r = fits-range (spanOf a) e in
+      periods.none-from (posPart (spanOf a)) n (omega arith) some (q .most) h ∙ period-is e)
+      (λ e. no-period a n e)
+
+  -- so that a whole day lies between the ends
+  pub day-order : periodIn a n ≤ 0 → fromDay a ≤ toDay a
+  day-order h =
       let c = counts a (q .real) in
       let dated : Dated a = record { real = q .real; dates = d } in
       let v = starts a dated in
@@ -415,7 +424,7 @@ module _ (a : Axis) (n : ℕ) (q : Accepted a n) (some : 1 ≤ n) (d : isDuratio
       let e = at-end a o (unit (a .kind)) (c .parts) (span-from-0 a (q .real) o) (c .start-dn) (c .end-dn) in
       let f : posPart (a .«start_tail») + posPart (spanOf a) ≡ posPart (heads a o) * perDay + posPart (a .«end_tail») =
       rw per at e in
-      omega (arith, long-day, from-next a, to-is a, sub (a .«end_head») (a .«start_head»), heads-dn a o)
+      omega (arith, from-none h, from-next a, to-is a, sub (a .«end_head») (a .«start_head»), heads-dn a o)
 
 -- ---- every plan
 module _ (a : Axis) (n : ℕ) (q : Accepted a n) where

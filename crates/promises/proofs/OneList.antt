@@ -4,6 +4,7 @@ use mathlib.Core.Bool.{Bool, true, false, not, _||_}
 use mathlib.Core.List.{List, []}
 use mathlib.Core.Option.{Option, none, some}
 use Prim.Native.Nat.{ℕ, zero, suc, _≤_}
+use native.Mathlib.Decide.{decLe}
 use native.Mathlib.Omega.{arith}
 use lib.IntN.{ℤ, pos}
 use lib.ListN.{length}
@@ -14,6 +15,7 @@ use Rattle.laws.proofs.Tests.{both-true}
 use Rattle.values.specs.declared.Value.{Value}
 use Rattle.values.specs.Values.{overDates}
 use Rattle.axis.specs.declared.Axis.{Axis}
+use Rattle.axis.specs.declared.BoldPoints.{BoldPoints}
 use Rattle.axis.specs.declared.Hint.{Hint}
 use Rattle.axis.specs.declared.Hint.the-variants.{Bold, Light}
 use Rattle.axis.specs.Axes.{axisOf, excluded, closed}
@@ -24,19 +26,17 @@ use Rattle.counting.proofs.Counting.{from-range, to-range}
 use Rattle.steps.specs.declared.Listed.the-variants as listed
 use Rattle.steps.specs.Listing.{listedOf, lentAfter, front}
 use Rattle.plans.specs.Times.{periodIn}
-use Rattle.plans.proofs.Promise.{day-order}
+use Rattle.plans.proofs.Promise.{from-none, none-from, day-order}
 use Rattle.keypoints.specs.Times.{periodOn}
 use Rattle.keypoints.specs.Hints.{limit, turnsFor, keyPointsFor}
 use Rattle.keypoints.specs.AsDates.{dateTimes, boldPoints}
-use Rattle.keypoints.proofs.Periods.{optional, not-none}
-use Rattle.keypoints.proofs.KeyPoints.{none-just-from}
 use Rattle.keypoints.proofs.AsDates.{lists-dates}
 use Rattle.ticks.specs.declared.PeriodAnswer.{PeriodAnswer}
 use Rattle.ticks.specs.declared.PeriodAnswer.the-variants as period
 use Rattle.ticks.specs.Answers.{tickQuestions, ticksOf, ticksAnswer, ticksWritten, ticksHanded}
 use Rattle.ticks.specs.Answers.{periodQuestions, aPeriod, periodAnswer}
 use Rattle.ticks.proofs.Hints.{period-accepted}
-use Rattle.ticks.proofs.KeyPoints.{period-is}
+use Rattle.ticks.proofs.KeyPoints.{period-some, period-none}
 use Rattle.segmented.specs.Answers.{segmentKindQuestions, segmentTicksAnswer, segmentTicksWritten}
 use Rattle.ordered.specs.declared.OrderedPeriod.{OrderedPeriod}
 use Rattle.ordered.specs.Replies.{countReply, periodReply}
@@ -55,9 +55,13 @@ none-told zero none e = (refl, refl)
 none-told zero (some k) e = absurd (let z : ⊥ = omega (arith, ap tag e) in z)
 none-told (suc q) o e = absurd (let z : ⊥ = omega (arith, ap tag e) in z)
 
-no-step : (k : ℕ) → optional k ≡ none → k ≤ 0
-no-step zero e = omega arith
-no-step (suc k) e = absurd (not-none (suc k) e)
+none-in : (a : Axis) (h : BoldPoints) → firstNo (periodQuestions a h) ≡ 0 → periodAnswer a h ≡ period.None →
+    periodIn a (posPart (h .n)) ≤ 0
+none-in a h z e =
+    elim (decLe (periodIn a (posPart (h .n))) 0) [
+      | yes l ↦ l
+      | no l ↦ absurd (let y : ⊥ = omega (arith, ap tag (sym (period-some a h z (omega arith)) ∙ e)) in y)
+    ]
 
 same-limit : (h : Hint) → limit h ≡ posPart (boldPoints h .n)
 same-limit (Bold h) = refl
@@ -84,9 +88,9 @@ module _ (a : Axis) (h : Hint) (l : ListsDates a h) where
   order : fromDay a ≤ toDay a
   unfolding fromDay toDay
   order =
-      let (z, e) = asked-none in
+      let z = asked-none .0 in
       let (q, many, _) = period-accepted t (boldPoints h) z in
-      day-order t n q many refl (no-step (periodIn t n) (sym (period-is t (boldPoints h) z) ∙ e))
+      day-order t n q many refl (none-in t (boldPoints h) z (l .no-period))
 
   accepted : firstNo (tickQuestions b g) ≡ 0
   unfolding fromDay toDay boldHint
@@ -164,15 +168,13 @@ one-list k sh st eh et x h l = alike (axisOf k sh st eh et x) h l
 
 -- ---- where dates are listed, in numbers
 pub none-from-span : NoneFrom
-unfolding periodAnswer
 none-from-span sh st eh et x h z =
     let a = axisOf (pos 4) sh st eh et x in
     let n = posPart (h .n) in
-    let (q, many, _) = period-accepted a h z in
-    let (to, from) = none-just-from (turnsFor n) n a q (omega arith) many in
-    let o = periodOn (turnsFor n) a n true in
-    let is = passed-by period.Refused (aPeriod o) (periodQuestions a h) z in
-    (λ e. to (none-told 0 o (is ∙ e) .1), λ l. sym is ∙ ap aPeriod (from l))
+    let (q, many, _) = period-accepted a h z in (
+      λ e. from-none a n q many refl (none-in a h z e),
+      λ l. let e = none-from a n q many refl l in period-none a h z (omega arith),
+    )
 
 -- ---- of what three calls handed back, each as defined
 status-none : (p : PeriodAnswer) → periodReply p .status ≡ minus 1 → p ≡ period.None

@@ -78,9 +78,9 @@ SameLists a h from to d e r l m =
 abbrev pub NoneFrom : Type 0
 NoneFrom =
     (sh st eh et x : ℤ) (h : BoldPoints) → let a = axisOf (pos 4) sh st eh et x in
-    let least = 10 ^ 14 * posPart (h .n) in
-    firstNo (periodQuestions a h) ≡ 0
-    → (periodAnswer a h ≡ period.None → least ≤ posPart (spanOf a)) × (least ≤ posPart (spanOf a) → periodAnswer a h ≡ period.None)
+    let none = periodAnswer a h ≡ period.None in
+    let long = 10 ^ 14 * posPart (h .n) ≤ posPart (spanOf a) in
+    firstNo (periodQuestions a h) ≡ 0 → (none → long) × (long → none)
 
 -- ---- the claim of other dates or another hint, each of them false
 abbrev pub Writes : (Axis → Axis) → (Hint → Hint) → Type 0
