@@ -8,6 +8,7 @@ use Prim.Native.Nat.{Ordering·eq, Ordering·gt}
 use native.Mathlib.Nat.{le-trans, le-of-eq, lt-of-le-of-lt, mul-assoc, mul-comm, mul-left-comm, mul-le-mul-right}
 use native.Mathlib.Nat.{mul-le-mul-left, le-of-mul-le-mul-right, mul-pos, zero-mul, mod-lt, div-add-mod'}
 use native.Mathlib.Nat.{le-div-iff-mul-le}
+use native.Mathlib.Decide.{decLe}
 use native.Mathlib.Omega.{arith}
 use lib.Dec.{T, isLe, isEq, lit≤, leb→le, nleb→lt, eqb→eq}
 use lib.Pow.{pow-add, pow-pos}
@@ -52,6 +53,16 @@ near-of K n u z h t = (above (mul-le-mul-left K (t .0)), below (mul-le-mul-left 
 
     below : K * (2 * n) ≤ K * (2 * (z * u) + u) → 2 * K * n ≤ 2 * K * (z * u) + n
     below a = omega arith
+
+-- without a common factor
+pub near-by : (P g n u : ℕ) → 0 < u → Near P (g * u) (n * u) → Near P g n
+near-by P g n u U h = (le-of-mul-le-mul-right (above (h .0)) U, le-of-mul-le-mul-right (below (h .1)) U)
+  where
+    above : P * (g * u) ≤ P * (n * u) + n * u → P * g * u ≤ (P * n + n) * u
+    above x = omega arith
+
+    below : P * (n * u) ≤ P * (g * u) + n * u → P * n * u ≤ (P * g + n) * u
+    below x = omega arith
 
 leaves-room : (z p : ℕ) → 0 < p → p ≤ z → p - 1 + (z - p) < z
 leaves-room z p P h = omega arith
@@ -123,6 +134,38 @@ round-near f a b B (inr e) =
   where
     go : (P l : ℕ) → Near P (0 * b) (0 * l)
     go P l = omega arith
+
+-- and any fraction by that and a unit: 2 ^ -low, which is b here
+abbrev pub Close : ℕ → ℕ → ℕ → ℕ → Type 0
+Close P b g n = (P * g ≤ P * n + n + P * b) × (P * n ≤ P * g + n + P * b)
+
+pub round-close : (f : Format) (a b : ℕ) → 0 < b → Close (2 ^ prec f) b (grid f a b * b) (a * 2 ^ low f)
+round-close f a b B =
+    elim (decLe (prec f) (size (a * 2 ^ low f / b))) [
+      | yes h ↦ subst (λ (P : ℕ). Close P b (grid f a b * b) (a * 2 ^ low f)) (twice-half f)
+          (weaker (2 * half f) (grid f a b * b) (a * 2 ^ low f) (near-normal f a b B h))
+      | no h ↦ by-unit (2 ^ prec f) (kept (prec f) (a * 2 ^ low f) b) (a * 2 ^ low f) (drop (prec f) (a * 2 ^ low f) b)
+          (none-dropped (size (a * 2 ^ low f / b)) (prec f) h)
+          (closest-half (a * 2 ^ low f) (b * 2 ^ drop (prec f) (a * 2 ^ low f) b) (mul-pos B (pow-pos _)))
+    ]
+  where
+    weaker : (P g n : ℕ) → Near P g n → Close P b g n
+    weaker P g n h = omega arith
+
+    none-dropped : (z p : ℕ) → ¬ (p ≤ z) → z - p ≡ 0
+    none-dropped z p h = omega arith
+
+    by-unit : (P z n k : ℕ) → k ≡ 0 → Half n (b * 2 ^ k) z → Close P b (z * 2 ^ k * b) n
+    by-unit P z n k e h = subst (λ (x : ℕ). Half n (b * 2 ^ x) z → Close P b (z * 2 ^ x * b) n) (sym e) whole h
+      where
+        whole : Half n (b * 2 ^ 0) z → Close P b (z * 2 ^ 0 * b) n
+        whole x = (above (mul-le-mul-left P (x .0)), below (mul-le-mul-left P (x .1)))
+          where
+            above : P * (2 * (z * (b * 1))) ≤ P * (2 * n + b * 1) → P * (z * 1 * b) ≤ P * n + n + P * b
+            above y = omega arith
+
+            below : P * (2 * n) ≤ P * (2 * (z * (b * 1)) + b * 1) → P * n ≤ P * (z * 1 * b) + n + P * b
+            below y = omega arith
 
 -- what is near n is at most twice n
 pub near-twice : (P g n : ℕ) → 0 < P → P * g ≤ P * n + n → g ≤ 2 * n

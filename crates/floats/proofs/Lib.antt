@@ -7,4 +7,6 @@ pub mod Casts
 pub mod Order
 pub mod Quotients
 pub mod Rounds
-pub mod Growth
+pub mod FourRoundings
+pub mod NearCuts
+pub mod Cuts

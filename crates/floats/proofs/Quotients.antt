@@ -5,8 +5,8 @@ use mathlib.Core.Logic.{inl, inr}
 use mathlib.Core.Bool.{Bool, true, false, cond}
 use Prim.Native.Nat.{ℕ, zero, suc, _+_, _-_, _*_, _/_, _^_, _≤_, _<_, min}
 use native.Mathlib.Nat.{le-trans, le-of-eq, le-of-suc-le-suc, lt-of-lt-of-le, lt-of-le-of-lt, eq-or-lt-of-le}
-use native.Mathlib.Nat.{mul-right-comm, mul-one, mul-pos, mul-le-mul-left, mul-lt-mul-of-pos-right}
-use native.Mathlib.Nat.{lt-of-mul-lt-mul-right, eq-of-mul-eq-mul-right, div-mul-le-self, div-add-mod', mod-lt}
+use native.Mathlib.Nat.{mul-right-comm, mul-one, mul-zero, mul-pos, mul-le-mul, mul-le-mul-left, mul-lt-mul-of-pos-right}
+use native.Mathlib.Nat.{lt-of-mul-lt-mul-right, le-of-mul-le-mul-right, eq-of-mul-eq-mul-right, div-mul-le-self}
 use native.Mathlib.Nat.{div-lt-iff-lt-mul, div-le-self, div-one}
 use native.Mathlib.Omega.{arith}
 use lib.Dec.{lit<, lit≤}
@@ -17,10 +17,10 @@ use lib.Ieee.{toSigned, toUnsigned}
 use lib.Ieee.Fits.{down-pos, two}
 use lib.Ieee.Exact.{HasValue}
 use lib.Ieee.Scale.{grid}
-use Rattle.laws.proofs.Quotients.{quotient-is}
+use Rattle.laws.proofs.Quotients.{quotient-is, below-next}
 use Rattle.floats.specs.Rounding.{withSign, upward, halfUp, floorF, ceilF, roundF, quotientOf, cut}
 use Rattle.floats.proofs.Values.{signed-val, unsigned-val, cutSigned, cut-within, below-zero, mul-ints}
-use Rattle.floats.proofs.Values.{div-by-int, div-ints, div-zero, unlike-false}
+use Rattle.floats.proofs.Values.{int-is, div-by-int, div-ints, div-zero, unlike-false}
 use Rattle.floats.proofs.Order.{quotient-val, below, equal, above}
 
 -- ---- N / D stands to each c / d as a / b does
@@ -38,9 +38,6 @@ like-le d a b N D c l h = elim (eq-or-lt-of-le h) [ inl e ↦ le-of-eq (l c .1 e
   where
     under : N * d < c * D → N * d ≤ c * D
     under x = omega arith
-
-below-next : (x y : ℕ) → 0 < y → x < suc (x / y) * y
-below-next x y Y = omega (arith, div-add-mod' x y, mod-lt x Y)
 
 module _ (a b N D : ℕ) (B : 0 < b) (Dp : 0 < D) where
   same-floor : Like 1 a b N D → N / D ≡ a / b
@@ -258,6 +255,33 @@ module _ (f : Format) (y z w : ℤ) (Y : natAbs y ≤ 2 ^ prec f) (Z : natAbs z 
 -- the quotient of whole numbers, cut
 abbrev pub cutQuotient : ℤ → ℤ → ℤ → ℤ
 cutQuotient y z w = cut (quotientOf (ofInt binary64 y) z (ofInt binary64 w))
+
+-- a product below 2 ^ 53 is a float, so the one rounding that is left crosses no whole number
+pub cut-few : (z : ℤ) (o t : ℕ) → natAbs z ≤ 65534 → o ≤ t → 0 < t → t ≤ 2 ^ 32 →
+    cutQuotient z (pos o) (pos t) ≡ withSign (below-zero z) (natAbs z * o / t)
+unfolding quotientOf
+cut-few z o t Z O Tp T =
+    let w = natAbs z in
+    let s = below-zero z in
+    let few : w * o < 2 ^ 53 = lt-of-le-of-lt (mul-le-mul Z (le-trans O T)) (lit< tt) in
+    let most : w * o / t ≤ 65534 = le-of-mul-le-mul-right (le-trans (div-mul-le-self (w * o) t) (mul-le-mul Z O)) Tp in
+    ap (toSigned 31) (one-round binary64 z (pos o) (pos t) (omega arith) (omega arith) few (omega arith) Tp)
+    ∙ ap (λ (b : Bool). toSigned 31 (round binary64 b (w * o) t)) (unlike-false (unlike s false) ∙ unlike-false s)
+    ∙ cut-exact binary64 s (w * o) t Tp (omega arith) few 31
+    ∙ cut-within 31 s (w * o / t) (omega arith)
+
+-- ---- 0 ÷ 0
+zero-is : (s : Bool) → round binary64 s 0 1 ≡ fin s 0 (pos 0)
+unfolding round
+zero-is s = refl
+
+pub zero-by-zero : (z : ℤ) → natAbs z ≤ 65534 → quotientOf (ofInt binary64 z) (pos 0) (ofInt binary64 (pos 0)) ≡ nan
+unfolding quotientOf div
+zero-by-zero z W =
+    let s = unlike (below-zero z) false in
+    ap (λ (x : Float). div binary64 x (ofInt binary64 (pos 0))) (mul-ints binary64 z (pos 0) (le-trans W (lit≤ tt)) (lit≤ tt)
+    ∙ ap (λ (n : ℕ). round binary64 s n 1) (mul-zero (natAbs z)) ∙ zero-is s)
+    ∙ ap (div binary64 (fin s 0 (pos 0))) (int-is binary64 (pos 0) ∙ zero-is false)
 
 -- ---- a signed y by a count d, rounded to the nearest and cut to a signed type
 pub ratio-round : (f : Format) (y : ℤ) (d h : ℕ) → natAbs y * 2 < 2 ^ prec f → 0 < d → d ≤ 2 ^ prec f →

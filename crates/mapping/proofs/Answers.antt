@@ -17,7 +17,7 @@ answer-at (suc q) p r e = let z : _≡_ {A = ℕ} 0 1 = cc in absurd (let w : �
 
 module _ (a : Axis) (l : Limits) (v : Value) where
   -- the questions of the axis and the limits first
-  in-parts : mapped a l v ≡ unless (firstNo (scaleQuestions a l)) Refused (mappedBy (scaleOf a l) a v)
+  pub in-parts : mapped a l v ≡ unless (firstNo (scaleQuestions a l)) Refused (mappedBy (scaleOf a l) a v)
   unfolding mapped mappedBy placed
   in-parts = in-two Refused (At (placed a l v)) (scaleQuestions a l) (pixelQuestions a v (placed a l v))
 

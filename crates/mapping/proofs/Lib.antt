@@ -2,4 +2,8 @@
 pub mod Ranges
 pub mod Placing
 pub mod Answers
+pub mod SignedCuts
+pub mod WholeDays
+pub mod Positions
 pub mod Days
+pub mod Ends

@@ -1,3 +1,4 @@
 -- What the crate's contracts and promises cite.
 pub mod Mapping
 pub mod Days
+pub mod Position

@@ -71,7 +71,7 @@ module _ (a : Axis) (h : Hint) (d : List ℤ) where
           (λ c e. let z : _≡_ {A = ℕ} 0 1 = cc in absurd (let w : ⊥ = omega arith in w))
 
 -- a pixel whose status is 0 is a mapping's answer
-is-at : (a : Axis) (l : Limits) (v : Value) → pixelReply (mapped a l v) .status ≡ pos 0 →
+pub is-at : (a : Axis) (l : Limits) (v : Value) → pixelReply (mapped a l v) .status ≡ pos 0 →
     mapped a l v ≡ pixel.At (pixelReply (mapped a l v) .pixel)
 unfolding mapped
 is-at a l v = go (firstNo (mapQuestions a l v)) (placed a l v)

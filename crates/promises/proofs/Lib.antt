@@ -1,5 +1,6 @@
 -- The claim, proved.
 pub mod Demand
+pub mod Pixels
 pub mod DayNumbers
 pub mod DateAxes
 pub mod OpenRows
@@ -8,5 +9,6 @@ pub mod Weeks
 pub mod ExcludedEnds
 pub mod OneList
 pub mod OtherLists
+pub mod HowFarOff
 pub mod Examples
 pub mod WrongAnswers

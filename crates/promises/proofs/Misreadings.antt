@@ -13,6 +13,7 @@ use Rattle.axis.specs.Axes.{spanOf, offsetOf, closed}
 use Rattle.axis.specs.Questions as asks
 use Rattle.floats.specs.Rounding as rounding
 use Rattle.mapping.specs.Mapping as mapping
+use Rattle.mapping.specs.Position.{cutPosition}
 use Rattle.counting.specs.Counting as count
 use Rattle.keypoints.specs.Loops.{while}
 use Rattle.keypoints.specs.Months as months
@@ -66,7 +67,7 @@ pub not-exact : AlwaysExact → ⊥
 unfolding ieee.span ieee.climb ieee.size ieee.odd ieee.units ieee.round ieee.mul ieee.div ieee.ofInt ieee.toSigned
     rounding.quotientOf nanoseconds difference nanosecondsOf overDates isValue earlier spanOf offsetOf asks.known asks.ends
     asks.inOrder asks.excludable asks.nearOrLong asks.pixels asks.valueOn asks.mappable mapping.scaleOf mapping.mapCoord
-    mapping.placedBy mapping.placed mapping.mapped week-less-one
+    mapping.placedBy mapping.placed mapping.mapped cutPosition week-less-one
 not-exact f =
     let e : pos 14 ≡ pos 15 =
     f week-less-one (limitsOf (pos 0) (pos 15)) (midnight (pos 8)) (pos 14) refl (smaller _ _ (omega arith)) refl in

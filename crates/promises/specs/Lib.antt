@@ -6,4 +6,5 @@ pub mod Misreadings
 pub mod Weeks
 pub mod ExcludedEnds
 pub mod OneList
+pub mod HowFarOff
 pub mod WrongAnswers

@@ -4,8 +4,8 @@ use mathlib.Core.Path.{_≡_}
 use mathlib.Core.Bool.{false}
 use mathlib.Core.List.{List}
 use Prim.Native.Nat.{ℕ, _<_}
-use lib.IntN.{ℤ, pos, _+ℤ_, _-ℤ_, _*ℤ_}
-use lib.Signed.{_<ℤ_, quotZ}
+use lib.IntN.{ℤ, pos, _+ℤ_}
+use lib.Signed.{_<ℤ_}
 use lib.ListN.{length}
 use Rattle.values.specs.declared.Value.{Value}
 use Rattle.values.specs.Values.{isDuration}
@@ -13,9 +13,10 @@ use Rattle.axis.specs.declared.Axis.{Axis}
 use Rattle.axis.specs.declared.Hint.{Hint}
 use Rattle.axis.specs.declared.Limits.{Limits}
 use Rattle.axis.specs.declared.ValueAnswer.the-variants as value
-use Rattle.axis.specs.Axes.{start, spanOf, offsetOf}
+use Rattle.axis.specs.Axes.{start, spanOf}
 use Rattle.mapping.specs.declared.Pixel.the-variants as pixel
 use Rattle.mapping.specs.Mapping.{mapped}
+use Rattle.mapping.specs.Position.{cutPosition}
 use Rattle.steps.specs.declared.Listed.the-variants.{Ticks}
 use Rattle.steps.specs.Promise.{Later, nth}
 use Rattle.ticks.specs.Answers.{ticksAnswer, ticksWritten}
@@ -33,9 +34,9 @@ NeverBefore =
     (a : Axis) (h : Hint) (d : List ℤ) (c i : ℕ) → ticksAnswer a h (length d) ≡ Ticks c → i < c
     → Later (nth (ticksWritten a h d) i) (start a) → ⊥
 
--- the low limit, and W × offset ÷ span, cut toward zero
+-- the low limit, and the exact position, cut toward zero
 abbrev pub exactPixel : Axis → Limits → Value → ℤ
-exactPixel a l v = l .low +ℤ quotZ ((l .high -ℤ l .low) *ℤ offsetOf a v) (spanOf a)
+exactPixel a l v = l .low +ℤ cutPosition a l v
 
 -- 'Float pixels equal the exact quotient cut', over dates and date-times that have a span
 abbrev pub AlwaysExact : Type 0

@@ -1,5 +1,6 @@
 // Claims about what the calls of C hand back: functions that make the calls, and ensure the claim of their answers.
-// Demand 3 stands in specs/Demand.antt, one list for date-times and dates in specs/OneList.antt; theorems in proofs/.
+// Demand 3 stands in specs/Demand.antt, one list for date-times and dates in specs/OneList.antt, how far a pixel may be off in
+// specs/HowFarOff.antt; theorems in proofs/.
 use axis::Axis;
 use axis::Hint;
 use ordered::OrderedNumber;
@@ -8,8 +9,9 @@ use ordered::OrderedPixel;
 ghost use Rattle.axis.specs.Axes.{axisOf};
 ghost use Rattle.promises.specs.Demand.{FineList, FinePart, DaysApart};
 ghost use Rattle.promises.specs.OneList.{SameLists};
+ghost use Rattle.promises.specs.HowFarOff.{OffOf, AtEnds};
 
-// What the mappings of two days answered.
+// What the mappings of two values answered.
 pub struct TwoPixels {
     pub first: OrderedPixel,
     pub second: OrderedPixel,
@@ -173,6 +175,78 @@ pub fn map_days(
             high,
             second,
             0,
+        ),
+    }
+}
+
+// The pixel of a value.
+pub fn map_value(
+    kind: i64,
+    start_head: i64,
+    start_tail: i64,
+    end_head: i64,
+    end_tail: i64,
+    end_excluded: i64,
+    low: i64,
+    high: i64,
+    head: i64,
+    tail: i64,
+) -> OrderedPixel
+    ensures { λ r. ⌜ OffOf (axisOf kind «start_head» «start_tail» «end_head» «end_tail» «end_excluded»)
+        (record { low = low; high = high }) (record { head = head; tail = tail }) r ⌝ }
+{
+    ordered::ordered_map(
+        kind,
+        start_head,
+        start_tail,
+        end_head,
+        end_tail,
+        end_excluded,
+        low,
+        high,
+        head,
+        tail,
+    )
+}
+
+// The pixels of the start and of the end.
+pub fn map_ends(
+    kind: i64,
+    start_head: i64,
+    start_tail: i64,
+    end_head: i64,
+    end_tail: i64,
+    end_excluded: i64,
+    low: i64,
+    high: i64,
+) -> TwoPixels
+    ensures { λ r. ⌜ AtEnds (axisOf kind «start_head» «start_tail» «end_head» «end_tail» «end_excluded»)
+        (record { low = low; high = high }) (r .first) (r .second) ⌝ }
+{
+    TwoPixels {
+        first: ordered::ordered_map(
+            kind,
+            start_head,
+            start_tail,
+            end_head,
+            end_tail,
+            end_excluded,
+            low,
+            high,
+            start_head,
+            start_tail,
+        ),
+        second: ordered::ordered_map(
+            kind,
+            start_head,
+            start_tail,
+            end_head,
+            end_tail,
+            end_excluded,
+            low,
+            high,
+            end_head,
+            end_tail,
         ),
     }
 }

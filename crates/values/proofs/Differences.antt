@@ -1,21 +1,21 @@
 -- Two values of a kind: how far apart their heads, their tails and their nanoseconds are. Assumes nothing.
-use mathlib.Core.Path.{_≡_, refl, sym, ap}
+use mathlib.Core.Path.{_≡_, refl, sym, _∙_, ap}
 use mathlib.Core.Bool.{Bool, true, false}
 use Prim.Native.Nat.{ℕ, _+_, _*_, _≤_, _<_}
 use native.Mathlib.Omega.{arith}
-use lib.IntN.{ℤ, pos, negsuc, _+ℤ_, _-ℤ_, _*ℤ_}
+use lib.IntN.{ℤ, pos, negsuc, _+ℤ_, _-ℤ_, _*ℤ_, +ℤ-idr}
 use lib.Signed.{quotZ}
 use mir.Syntax.{w64}
 use mir.Val.{SFits}
 use Rattle.laws.specs.Numbers.{posPart, negPart}
 use Rattle.laws.proofs.Signed.{add, sub, mul-up, mul-dn, quot-up, quot-dn, fits, same}
 use Rattle.values.specs.declared.Value.{Value}
-use Rattle.values.specs.Values.{isDuration, isValue, Both, earlier}
+use Rattle.values.specs.Values.{overDates, isDuration, isValue, Both, earlier}
 use Rattle.values.specs.Differences.{unit, nanoseconds, difference, wholeDays}
 use Rattle.values.specs.Parts.{day, second, Of}
 use Rattle.values.proofs.Numbers.{bounded, not-below}
-use Rattle.values.proofs.Joining.{joint, Before, not-earlier, order}
-use Rattle.values.proofs.Values.{day-value, duration-value}
+use Rattle.values.proofs.Joining.{joint, Before, is-earlier, not-earlier, order}
+use Rattle.values.proofs.Values.{dates-no-duration, date-value, day-value, duration-value}
 
 -- ---- heads and tails
 far : (x y : ℤ) (m : ℕ) → posPart x + negPart y ≤ m + (posPart y + negPart x) → posPart y + negPart x ≤ m
@@ -30,7 +30,7 @@ pub record Near (a b : Value) (heads tails : ℕ) : Type 0 where
   pub tails-up : posPart (b .tail -ℤ a .tail) < tails
 
 module _ (kind : ℤ) (a b : Value) (v : Both kind a b) where
-  days-near : isDuration kind ≡ false → Near a b 3652058 86400000000000
+  pub days-near : isDuration kind ≡ false → Near a b 3652058 86400000000000
   days-near e =
       let x = day-value kind a (v .first) e in
       let y = day-value kind b (v .second) e in
@@ -203,3 +203,14 @@ module _ (kind : ℤ) (a b : Value) (v : Both kind a b) where
   pub no-earlier-apart : earlier b a ≡ false → negPart (difference kind a b) ≡ 0
   no-earlier-apart e = let k = ordered 0 (omega arith) (not-earlier a b e) in
       not-below (difference kind a b) (omega arith)
+
+  -- to a later one it is more than nothing
+  pub later-apart : earlier a b ≡ true → (negPart (difference kind a b) ≡ 0) × (0 < posPart (difference kind a b))
+  later-apart e = let k = ordered 1 (omega arith) (is-earlier a b e) in
+      (not-below (difference kind a b) (omega arith), omega arith)
+
+  -- two dates are whole days apart
+  pub dates-apart : overDates kind ≡ true → difference kind a b ≡ (b .head -ℤ a .head) *ℤ pos 86400000000000
+  dates-apart e =
+      days-apart kind a b (dates-no-duration kind e)
+      ∙ rw (date-value kind a (v .first) e .no-tail, date-value kind b (v .second) e .no-tail) (+ℤ-idr _)
