@@ -110,8 +110,9 @@ ordered_week_date ordered_week_date_of(int64_t day_number);
 /* The pixel of a value on an axis; the high limit is that of the written end, excluded or not.
    Of a value from start to end pixel - low is within one of (high - low) * offset / span, cut toward zero; on kinds 1, 2, 3 and
    8 it is that, or one nearer the low limit where nothing was to be cut. The smallest numbers that fall one short: on kind 4 the
-   end of 1, 1 to 8, 0 between 0 and 15 is at 14, on kind 1 that of 1 to 1808 between 0 and 3781 at 3780. The start is at low, the
-   end at high or one short of it. Refused by 1, 3, 4, 14, 5, 7, 8, 9, 10. */
+   end of 1, 1 to 8, 0 between 0 and 15 is at 14, on kind 1 that of 1 to 1808 between 0 and 3781 at 3780, on kind 7 that of -1, 0
+   to 0, 0 between 1 and 0 at 1. The start is at low, the end at high or one short of it.
+   Refused by 1, 3, 4, 14, 5, 7, 8, 9, 10. */
 ordered_pixel ordered_map(ORDERED_AXIS, int64_t low, int64_t high, int64_t head, int64_t tail);
 
 /* The value at a pixel, all kinds but 7. It does not undo ordered_map: on the kinds with indices the limits part the size, in
