@@ -33,6 +33,10 @@ uint64_t told(const ordered_pixel &a) { return a.status + a.pixel; }
 uint64_t told(const ordered_period &a) { return a.status + a.nanoseconds; }
 template <class Answer> uint64_t told(const Answer &a) { return a.status; }
 
+// What plotters answers for an export's struct: of a pixel status and number alone, since it has no flags.
+template <class Answer> struct InPlotters { using Numbers = Answer; };
+template <> struct InPlotters<ordered_pixel> { using Numbers = ordered_number; };
+
 template <class Ours, class Theirs> bool same(const Request &r, bool lists, Ours ours, Theirs theirs) {
     static int64_t listed[ROOM];
     const auto a = ours(r);
@@ -40,8 +44,8 @@ template <class Ours, class Theirs> bool same(const Request &r, bool lists, Ours
     std::memcpy(listed, lent, size);
     std::memset(lent, 0, size);
     const auto b = theirs(r);
-    // 0 answered, -1 none: a refused request would measure the questions alone.
-    return a.status <= 0 && !std::memcmp(&a, &b, sizeof a) && !std::memcmp(listed, lent, size);
+    // 0 answered, -1 none: a refused request would measure the questions alone. A pixel's flags stand behind what plotters has.
+    return a.status <= 0 && !std::memcmp(&a, &b, sizeof b) && !std::memcmp(listed, lent, size);
 }
 
 // All values of an axis. The cursor is asked from the raw numbers each time; plotters' iterator keeps its coord.
@@ -83,7 +87,7 @@ void week_row(Table &table, const std::string &name, const Case &of,
 template <auto... Field, class Answer>
 void row(Table &table, const std::string &name, int kind, const Case &of,
          Answer (*export_of)(ORDERED_AXIS, Type<Field>...)) {
-    using Numbers = Answer (*)(int64_t, int64_t, int64_t, int64_t, Type<Field>...);
+    using Numbers = typename InPlotters<Answer>::Numbers (*)(int64_t, int64_t, int64_t, int64_t, Type<Field>...);
     using Own = ordered_number (*)(int64_t, int64_t, int64_t, int64_t, Type<Field>...);
     constexpr bool lists = (std::is_same_v<Type<Field>, int64_t *> || ...);
     const auto numbers = (Numbers)plotters_find(name.c_str(), kind, true);

@@ -34,16 +34,17 @@ struct Theirs {
 
 struct Ours {
     int64_t limits[2];
-    double floats[3];
+    double floats[2];
     bool fits;
-    int64_t axis[6], value[2];
+    int64_t span, axis[6], value[2];
 };
 
 Ours ours_of(int kind, const Request &r) {
     ready_scale s = ready_scale_of({kind, r.start_head, r.start_tail, r.end_head, r.end_tail, INCLUDED}, {r.low, r.high});
     return {{s.low, s.high},
-            {s.width, s.total, s.days},
+            {s.width, s.total},
             s.fits,
+            s.span,
             {kind, r.start_head, r.start_tail, r.end_head, r.end_tail, INCLUDED},
             {r.head, r.tail}};
 }
@@ -66,10 +67,9 @@ void row(Table &table, int kind) {
         ours->push_back(ours_of(kind, r));
         theirs->push_back(theirs_of(kind, r));
     }
-    const auto map = kind == 7 ? ready_map_duration : ready_map_coord;
     const auto other = (Map)plotters_find("ready_map", kind, true);
     const auto our_pass = loop(Inputs<Ours>(ours), [=](const Ours &r) {
-        return map(r.limits, r.floats, r.fits, r.axis, r.value);
+        return ready_map(r.limits, r.floats, r.fits, r.span, r.axis, r.value);
     });
     const auto their_pass = loop(Inputs<Theirs>(theirs), [=](const Theirs &r) {
         return other(&r.coord, &r.value, r.low, r.high);

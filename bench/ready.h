@@ -1,5 +1,5 @@
-// What ready.rattle offers: the scale of an axis and its limits, and the pixel of a value with it: coord for
-// all kinds but 7, duration for it. Nothing is asked: the ends, the limits and the value must be accepted ones.
+// What ready.rattle offers: the scale of an axis and its limits, and the pixel of a value with it. Nothing is asked: the ends,
+// the limits and the value must be accepted ones.
 // It stands in an archive of its own, so that no call is inlined into the loop.
 #pragma once
 
@@ -15,15 +15,14 @@ struct ready_scale {
     int64_t low, high;
     double width;
     bool fits;
-    double total, days;
+    int64_t span;
+    double total;
 };
 
 extern "C" {
 ready_scale ready_scale_of(ready_axis axis, ready_limits limits);
 
-// limits: low, high; floats: width, total, days; axis and value: their numbers in order.
-int64_t ready_map_coord(const int64_t limits[2], const double floats[3], bool fits, const int64_t axis[6],
-                        const int64_t value[2]);
-int64_t ready_map_duration(const int64_t limits[2], const double floats[3], bool fits, const int64_t axis[6],
-                           const int64_t value[2]);
+// limits: low, high; floats: width, total; fits and span: the scale's; axis and value: their numbers in order.
+int64_t ready_map(const int64_t limits[2], const double floats[2], bool fits, int64_t span, const int64_t axis[6],
+                  const int64_t value[2]);
 }

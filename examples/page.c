@@ -6,6 +6,8 @@
    day, week, month or year is a segment of the line, and the labels stand at the centres. With --to-before the end is not in the
    span, as in "to 1 April" for up to 31 March: there is no tick on it, but the line still goes to it. As page --sheet it draws
    one sheet with an axis of each kind.
+   A mark whose pixel is its exact position is crisp, any other softened: half as dark and over two pixels. How many are softened
+   stands in the title, on the sheet beside each axis.
    Where the library refuses a call, its question is named on standard error and the exit status is 1. */
 #include <ctype.h>
 #include <errno.h>
@@ -41,16 +43,22 @@ typedef struct {
 #define AXIS(p) (p)->kind, (p)->start.head, (p)->start.tail, (p)->end.head, (p)->end.tail, (p)->to_before
 #define LIMITS(p) MARGIN, (p)->width - MARGIN
 
-/* A place on the line with two rows of text. */
+/* A place on the line; exact where it lies on its pixel, and is not cut to it. */
 typedef struct {
     int64_t pixel;
+    bool exact;
+} place;
+
+/* The same with two rows of text. */
+typedef struct {
+    place at;
     char upper[40], lower[40];
 } label;
 
-/* All that stands on a line: ticks or centres with their labels, the pixels of light ticks, and of the ends of segments. */
+/* All that stands on a line: ticks or centres with their labels, the places of light ticks, and of the ends of segments. */
 typedef struct {
     label bold[TICKS];
-    int64_t light[TICKS], edges[TICKS];
+    place light[TICKS], edges[TICKS];
     int64_t bold_count, light_count, edge_count;
 } marks;
 
@@ -162,8 +170,8 @@ static void write_week(char *to, size_t room, int64_t day_number) {
 
 /* A date, or its month where months and years are listed; below it the time of a stamp, or the week. A span shows its seconds,
    which the library rounds down. */
-static label label_at(const picture *p, value v, int64_t pixel) {
-    label l = {pixel, "", ""};
+static label label_at(const picture *p, value v, place at) {
+    label l = {at, "", ""};
     if (p->kind == ORDERED_KIND_SPAN) {
         bool below = v.head < 0 && v.tail > 0;
         int64_t seconds = below ? v.head + 1 : v.head;
@@ -186,19 +194,19 @@ static label label_at(const picture *p, value v, int64_t pixel) {
     return l;
 }
 
-static int64_t segment_pixel(const picture *p, int64_t segment, value v) {
+static place segment_place(const picture *p, int64_t segment, value v) {
     ordered_pixel answer = ordered_segment_map(AXIS(p), LIMITS(p), segment, v.head, v.tail);
     expect_answer("ordered_segment_map", answer.status);
-    return answer.pixel;
+    return (place){answer.pixel, answer.exact};
 }
 
 /* Of a tick, or of the centre of its segment. */
-static int64_t tick_pixel(const picture *p, value v) {
+static place tick_place(const picture *p, value v) {
     if (p->segments)
-        return segment_pixel(p, ORDERED_SEGMENT_CENTRE, v);
+        return segment_place(p, ORDERED_SEGMENT_CENTRE, v);
     ordered_pixel answer = ordered_map(AXIS(p), LIMITS(p), v.head, v.tail);
     expect_answer("ordered_map", answer.status);
-    return answer.pixel;
+    return (place){answer.pixel, answer.exact};
 }
 
 /* The ticks of the axis, or the centres of its segments, with their labels. */
@@ -209,13 +217,13 @@ static void list_bold(const picture *p, marks *to) {
     expect_answer(p->segments ? "ordered_segment_ticks_bold" : "ordered_ticks_bold", count.status);
     for (to->bold_count = 0; to->bold_count < count.value; to->bold_count++) {
         value v = {lent[2 * to->bold_count], lent[2 * to->bold_count + 1]};
-        to->bold[to->bold_count] = label_at(p, v, tick_pixel(p, v));
+        to->bold[to->bold_count] = label_at(p, v, tick_place(p, v));
     }
 }
 
 static bool is_bold(const marks *m, int64_t pixel) {
     for (int64_t i = 0; i < m->bold_count; i++)
-        if (m->bold[i].pixel == pixel)
+        if (m->bold[i].at.pixel == pixel)
             return true;
     return false;
 }
@@ -228,9 +236,9 @@ static void list_light(const picture *p, marks *to) {
         : ordered_ticks_light(AXIS(p), to->bold_count, p->light, lent, ORDERED_LENT_MOST);
     expect_answer(p->segments ? "ordered_segment_ticks_light" : "ordered_ticks_light", count.status);
     for (int64_t i = 0; i < count.value; i++) {
-        int64_t pixel = tick_pixel(p, (value){lent[2 * i], lent[2 * i + 1]});
-        if (!is_bold(to, pixel))
-            to->light[to->light_count++] = pixel;
+        place at = tick_place(p, (value){lent[2 * i], lent[2 * i + 1]});
+        if (!is_bold(to, at.pixel))
+            to->light[to->light_count++] = at;
     }
 }
 
@@ -243,10 +251,10 @@ static void list_edges(const picture *p, marks *to) {
         return;
     ordered_step step = ordered_values(AXIS(p), 0);
     for (; step.status == ORDERED_ANSWERED && to->edge_count < size.value; step = ordered_values(AXIS(p), step.next))
-        to->edges[to->edge_count++] = segment_pixel(p, ORDERED_SEGMENT_EXACT, (value){step.head, step.tail});
+        to->edges[to->edge_count++] = segment_place(p, ORDERED_SEGMENT_EXACT, (value){step.head, step.tail});
     if (step.status != ORDERED_NONE) /* the cursor ends in none */
         expect_answer("ordered_values", step.status);
-    to->edges[to->edge_count++] = segment_pixel(p, ORDERED_SEGMENT_LAST, p->end);
+    to->edges[to->edge_count++] = segment_place(p, ORDERED_SEGMENT_LAST, p->end);
 }
 
 static void list_marks(const picture *p, marks *to) {
@@ -257,18 +265,44 @@ static void list_marks(const picture *p, marks *to) {
         list_edges(p, to);
 }
 
-/* Below the line, which stays black. */
-static void draw_mark(int64_t pixel, int length, const char *colour) {
-    printf("<path d=\"M%" PRId64 ".5 %dv%d\" stroke=\"%s\"/>\n", pixel, LINE_Y + 1, length, colour);
+static int64_t softened(const marks *m) {
+    int64_t count = 0;
+    for (int64_t i = 0; i < m->bold_count; i++)
+        count += !m->bold[i].at.exact;
+    for (int64_t i = 0; i < m->light_count; i++)
+        count += !m->light[i].exact;
+    for (int64_t i = 0; i < m->edge_count; i++)
+        count += !m->edges[i].exact;
+    return count;
 }
 
-static void draw_dot(int64_t pixel, const char *radius, const char *colour) {
-    printf("<circle cx=\"%" PRId64 ".5\" cy=\"%d.5\" r=\"%s\" fill=\"%s\"/>\n", pixel, LINE_Y, radius, colour);
+static void write_softened(const marks *m) {
+    printf("%" PRId64 " of %" PRId64 " softened", softened(m), m->bold_count + m->light_count + m->edge_count);
+}
+
+/* Below the line, which stays black. A softened mark is as a screen shows a hairline between two pixels: half of it on each of
+   them, its own and the next. */
+static void draw_mark(place at, int length, const char *colour) {
+    if (at.exact)
+        printf("<path d=\"M%" PRId64 ".5 %dv%d\" stroke=\"%s\" shape-rendering=\"crispEdges\"/>\n", at.pixel, LINE_Y + 1, length,
+               colour);
+    else
+        printf("<path d=\"M%" PRId64 " %dv%d\" stroke=\"%s\" stroke-width=\"2\" stroke-opacity=\"0.5\"/>\n", at.pixel + 1,
+               LINE_Y + 1, length, colour);
+}
+
+/* The same of a centre. */
+static void draw_dot(place at, const char *radius, const char *colour) {
+    if (at.exact)
+        printf("<circle cx=\"%" PRId64 ".5\" cy=\"%d.5\" r=\"%s\" fill=\"%s\"/>\n", at.pixel, LINE_Y, radius, colour);
+    else
+        printf("<circle cx=\"%" PRId64 "\" cy=\"%d.5\" r=\"%s\" fill=\"%s\" fill-opacity=\"0.5\"/>\n", at.pixel + 1, LINE_Y,
+               radius, colour);
 }
 
 static void draw_text(const label *l, int row, const char *text) {
     if (*text)
-        printf("<text x=\"%" PRId64 ".5\" y=\"%d\">%s</text>\n", l->pixel, LINE_Y + 1 + BOLD_MARK + ROW * row, text);
+        printf("<text x=\"%" PRId64 ".5\" y=\"%d\">%s</text>\n", l->at.pixel, LINE_Y + 1 + BOLD_MARK + ROW * row, text);
 }
 
 /* A label that would touch the one before it is left out; its mark stays. */
@@ -277,11 +311,11 @@ static void draw_labels(const marks *m) {
     for (const label *l = m->bold; l < m->bold + m->bold_count; l++) {
         size_t upper = strlen(l->upper), lower = strlen(l->lower);
         int64_t half = GLYPH * (int64_t)(upper > lower ? upper : lower) / 2;
-        if (l->pixel - half < free_from)
+        if (l->at.pixel - half < free_from)
             continue;
         draw_text(l, 1, l->upper);
         draw_text(l, 2, l->lower);
-        free_from = l->pixel + half + GAP;
+        free_from = l->at.pixel + half + GAP;
     }
 }
 
@@ -296,9 +330,9 @@ static void draw_axis(const picture *p, const marks *m) {
         draw_mark(m->edges[i], BOLD_MARK, "black");
     for (int64_t i = 0; i < m->bold_count; i++)
         if (p->segments)
-            draw_dot(m->bold[i].pixel, "2.5", "black");
+            draw_dot(m->bold[i].at, "2.5", "black");
         else
-            draw_mark(m->bold[i].pixel, BOLD_MARK, "black");
+            draw_mark(m->bold[i].at, BOLD_MARK, "black");
     draw_labels(m);
 }
 
@@ -313,7 +347,9 @@ static void draw_picture(const picture *p) {
     static marks m;
     list_marks(p, &m); /* all calls come first: a refused one leaves no half of a picture */
     begin_svg(p->width, HEIGHT);
-    printf("<title>%s %s to %s%s</title>\n", p->name, p->from, p->to_before ? "before " : "", p->to);
+    printf("<title>%s %s to %s%s, ", p->name, p->from, p->to_before ? "before " : "", p->to);
+    write_softened(&m);
+    printf("</title>\n");
     draw_axis(p, &m);
     printf("</svg>\n");
 }
@@ -334,13 +370,16 @@ static const struct {
 };
 enum { AXES = sizeof sheet / sizeof sheet[0] };
 
-/* The kind's name and the span, left of an axis. */
-static void draw_name(const picture *p) {
+/* The kind's name, the span and how many marks are softened, left of an axis. */
+static void draw_name(const picture *p, const marks *m) {
     printf("<g text-anchor=\"start\">\n<text x=\"%d\" y=\"%d\" font-size=\"12\" font-weight=\"bold\">%s</text>\n", EDGE,
            LINE_Y + 2, p->name);
     printf("<text x=\"%d\" y=\"%d\">%s</text>\n", EDGE, LINE_Y + 2 + ROW + 2, p->from);
-    printf("<text x=\"%d\" y=\"%d\">to %s%s</text>\n</g>\n", EDGE, LINE_Y + 2 + 2 * ROW + 2, p->to,
+    printf("<text x=\"%d\" y=\"%d\">to %s%s</text>\n", EDGE, LINE_Y + 2 + 2 * ROW + 2, p->to,
            p->kind == ORDERED_KIND_SPAN ? " seconds" : "");
+    printf("<text x=\"%d\" y=\"%d\" fill=\"gray\">", EDGE, LINE_Y + 2 + 3 * ROW + 2);
+    write_softened(m);
+    printf("</text>\n</g>\n");
 }
 
 static void draw_sheet(void) {
@@ -354,11 +393,11 @@ static void draw_sheet(void) {
     }
     begin_svg(SHEET_LEFT + pictures[0].width, SHEET_HEAD + AXES * SHEET_ROW);
     printf("<title>an axis of each kind</title>\n");
-    printf("<text x=\"%d\" y=\"26\" font-size=\"13\" text-anchor=\"start\">An axis of each kind, with bold and light "
-           "ticks</text>\n", EDGE);
+    printf("<text x=\"%d\" y=\"26\" font-size=\"13\" text-anchor=\"start\">An axis of each kind, with bold and light ticks: "
+           "crisp on their exact pixel, softened elsewhere</text>\n", EDGE);
     for (int i = 0; i < AXES; i++) {
         printf("<g transform=\"translate(0 %d)\">\n", SHEET_HEAD + i * SHEET_ROW);
-        draw_name(&pictures[i]);
+        draw_name(&pictures[i], &m[i]);
         printf("<g transform=\"translate(%d 0)\">\n", SHEET_LEFT);
         draw_axis(&pictures[i], &m[i]);
         printf("</g>\n</g>\n");

@@ -1,7 +1,10 @@
 /* Ordered: the date axes of printed charts, proved. The C interface of libordered.a.
-   New: an axis has a sixth number, end_excluded. With 0 the end belongs to the axis, as it always did before; any other number
-   excludes it, on kinds 1, 2, 3 and 8. "To 1 April" then means up to 31 March: ticks, counts, size, indices, values and unmapping
-   are those of the axis that ends a day earlier, while the pixels of values are still measured to the written end.
+   New: an ordered_pixel has two more numbers, exact and lost, so that a tick on a whole pixel can be drawn sharp and any other
+   softened. Every status and pixel is as it was before.
+
+   An axis is six numbers. The sixth, end_excluded, is 0 where the end belongs to the axis; any other number excludes it, on kinds
+   1, 2, 3 and 8. "To 1 April" then means up to 31 March: ticks, counts, size, indices, values and unmapping are those of the axis
+   that ends a day earlier, while the pixels of values are still measured to the written end.
 
    Every parameter is an int64_t, a lent slice a pointer and its length, every answer a struct of int64_t by value.
 
@@ -85,7 +88,9 @@ enum ordered_questions {
     int64_t kind, int64_t start_head, int64_t start_tail, int64_t end_head, int64_t end_tail, int64_t end_excluded
 
 typedef struct { int64_t status, value; } ordered_number; /* a day number, a count of ticks, a size, an index */
-typedef struct { int64_t status, pixel; } ordered_pixel;
+/* exact: 1 where low plus the position, not cut, is a whole number and is the pixel, else 0. lost: 1 where the offset or the span
+   that was divided is no double, so that it was rounded, else 0; what lost something may be exact. Both are 0 if refused. */
+typedef struct { int64_t status, pixel, exact, lost; } ordered_pixel;
 typedef struct { int64_t status, nanoseconds; } ordered_period;
 typedef struct { int64_t status, head, tail; } ordered_value;
 typedef struct { int64_t status, year, month, day; } ordered_date;
@@ -112,6 +117,10 @@ ordered_week_date ordered_week_date_of(int64_t day_number);
    8 it is that, or one nearer the low limit where nothing was to be cut. The smallest numbers that fall one short: on kind 4 the
    end of 1, 1 to 8, 0 between 0 and 15 is at 14, on kind 1 that of 1 to 1808 between 0 and 3781 at 3780, on kind 7 that of -1, 0
    to 0, 0 between 1 and 0 at 1. The start is at low, the end at high or one short of it.
+   exact is 1 where pixel - low is (high - low) * offset / span with nothing cut, of values outside the span too; in whole days
+   where the mapping divides these, as it does where the span, or on all kinds but 7 the offset, is beyond 64 bits of nanoseconds.
+   It is 1 of the start, 0 where zero whole days are the divisor, and 0 of a duration that is at high since its offset, but not
+   the span, is beyond 64 bits. lost is 0 on kinds 1, 2, 3 and 8 and in whole days.
    Refused by 1, 3, 4, 14, 5, 7, 8, 9, 10. */
 ordered_pixel ordered_map(ORDERED_AXIS, int64_t low, int64_t high, int64_t head, int64_t tail);
 
@@ -173,6 +182,9 @@ ordered_step ordered_values(ORDERED_AXIS, int64_t place);
    with the limits 0 and 90, the days begin at 0, 20 and 40, and the last is at 90. */
 
 /* The pixel of a segment. The limits part the size: the last is at the high limit, the written end a part below it.
+   The flags of an exact segment are those of ordered_map with the high limit a part lower. A centre is half of a sum or half a
+   part further: exact is 1 where the pixels that it is made of are exact and the halving leaves nothing, lost where one of them
+   lost something. Of the last exact is 1 and lost 0.
    Refused by 1, 2, 3, 4, 14, 7, 8, 9, 10. */
 ordered_pixel ordered_segment_map(ORDERED_AXIS, int64_t low, int64_t high, int64_t segment, int64_t head, int64_t tail);
 

@@ -12,7 +12,7 @@ static int answer(const char *request, int64_t *out) {
     if (!row)
         return 0;
     if (row->call)
-        return row->call(in, out);
+        return call_row(row, in, out);
     int count = numbers_of(row->list(in, out + 2, NUMBERS - 2), out);
     return count + 2 * (int)out[1];
 }

@@ -3,6 +3,7 @@
 #ifndef CALLS_H
 #define CALLS_H
 
+#include <stdbool.h>
 #include <stddef.h>
 #include <stdint.h>
 
@@ -37,6 +38,18 @@ static inline int numbers_of_value(ordered_value r, int64_t *out) {
     return 3;
 }
 
+/* All four; the oracle's rows have status and pixel alone, since the Rust has no flags: `told` in operations.h. */
+static inline int numbers_of_pixel(ordered_pixel r, int64_t *out) {
+    out[0] = r.status, out[1] = r.pixel, out[2] = r.exact, out[3] = r.lost;
+    return 4;
+}
+
+/* Each flag is 0 or 1, and 0 beside no answer. */
+static inline bool fine_flags(ordered_pixel r) {
+    int64_t most = r.status == 0;
+    return r.exact >= 0 && r.exact <= most && r.lost >= 0 && r.lost <= most;
+}
+
 static inline int call_day_number(const int64_t *in, int64_t *out) {
     ordered_number r = ordered_day_number(in[0], in[1], in[2]);
     out[0] = r.status, out[1] = r.value;
@@ -60,9 +73,7 @@ static inline int call_week_date_of(const int64_t *in, int64_t *out) {
 }
 
 static inline int call_map(const int64_t *in, int64_t *out) {
-    ordered_pixel r = ordered_map(AXIS_OF(in), in[6], in[7], in[8], in[9]);
-    out[0] = r.status, out[1] = r.pixel;
-    return 2;
+    return numbers_of_pixel(ordered_map(AXIS_OF(in), in[6], in[7], in[8], in[9]), out);
 }
 
 static inline int call_period(const int64_t *in, int64_t *out) {
@@ -118,9 +129,7 @@ static inline int call_values(const int64_t *in, int64_t *out) {
 }
 
 static inline int call_segment_map(const int64_t *in, int64_t *out) {
-    ordered_pixel r = ordered_segment_map(AXIS_OF(in), in[6], in[7], in[8], in[9], in[10]);
-    out[0] = r.status, out[1] = r.pixel;
-    return 2;
+    return numbers_of_pixel(ordered_segment_map(AXIS_OF(in), in[6], in[7], in[8], in[9], in[10]), out);
 }
 
 static inline ordered_number list_segment_bold(const int64_t *in, int64_t *lent, size_t lent_len) {

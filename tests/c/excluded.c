@@ -174,33 +174,28 @@ static int draw_arguments(const char *takes, int64_t size, int64_t *in) {
     return (int)(to - in);
 }
 
-/* The width parted by the size as floats, rounded half away from zero: what a float and a half come to is exact in a double. */
-static int64_t margin_of(int64_t width, int64_t size) {
-    float part = (float)width / (float)size;
-    return (int64_t)(part < 0 ? (double)part - 0.5 : (double)part + 0.5);
-}
-
 /* The pixel of a segment by its definition: margin and follower by the shorter axis, each pixel by the written one between the
-   low limit and the high one less the margin. */
+   low limit and the high one less the margin. A centre is exact where the pixels are and nothing is left of halving. */
 static void segment_defined(const int64_t *shorter, const int64_t *written, int64_t *out) {
-    int64_t low = shorter[LOW], high = shorter[HIGH], head = shorter[HEAD], tail = shorter[TAIL], sum;
+    int64_t low = shorter[LOW], high = shorter[HIGH], head = shorter[HEAD], tail = shorter[TAIL];
     call_segment_map(shorter, out);
     if (out[0] >= 1 && out[0] <= 8) /* limits, segment and value are asked alike; 9 and 10 are not */
         return;
-    out[0] = 0, out[1] = high;
+    out[0] = 0, out[1] = high, out[2] = 1, out[3] = 0;
     if (shorter[SEGMENT] == ORDERED_SEGMENT_LAST)
         return;
     int64_t margin = margin_of(high - low, ordered_size(AXIS_OF(shorter)).value);
-    ordered_pixel left = ordered_map(AXIS_OF(written), low, high - margin, head, tail), right = {0, margin / 2};
+    ordered_pixel left = ordered_map(AXIS_OF(written), low, high - margin, head, tail), right = {0, margin / 2, 1, 0};
     ordered_value next = ordered_next(AXIS_OF(shorter), head, tail);
-    out[0] = left.status, out[1] = left.pixel;
+    numbers_of_pixel(left, out);
     if (shorter[SEGMENT] == ORDERED_SEGMENT_EXACT || left.status)
         return;
     if (next.status == 0)
         right = ordered_map(AXIS_OF(written), low, high - margin, next.head, next.tail);
-    sum = left.pixel + right.pixel;
+    int64_t sum = left.pixel + right.pixel, halved = next.status == 0 ? sum : margin;
     bool fits = right.status == 0 && sum >= INT32_MIN && sum <= INT32_MAX;
     out[0] = fits ? 0 : 10, out[1] = !fits ? 0 : next.status == 0 ? sum / 2 : sum;
+    out[2] = fits && left.exact && right.exact && halved % 2 == 0, out[3] = fits && (left.lost || right.lost);
 }
 
 /* The three axes of a call: as it is asked, the one that ends a day earlier, and the written one with its end. */

@@ -1,4 +1,5 @@
-/* Years, months and weeks of day numbers, and the sizes of axes: for the clients, from ISO 8601's rules and document 01.
+/* Years, months and weeks of day numbers, the sizes of axes and the margins of segments: for the clients, from ISO 8601's rules
+   and document 01.
    Day 1 is 0001-01-01, a Monday; the ceiling of a date-time may be 3652060, 10000-01-01. */
 #ifndef MONTHS_H
 #define MONTHS_H
@@ -90,6 +91,13 @@ static inline int64_t size_of(int64_t kind, const int64_t axis[6]) {
     if (kind == 2 || kind == 5)
         return larger(larger(end.year - start.year, 0) * 12 + end.month - start.month + 1, 0);
     return larger(end.year - start.year, -1) + 1;
+}
+
+/* The part of the limits that is left for the last segment: the width parted by the size as floats, rounded half away from zero;
+   what a float and a half come to is exact in a double. */
+static inline int64_t margin_of(int64_t width, int64_t size) {
+    float part = (float)width / (float)size;
+    return (int64_t)(part < 0 ? (double)part - 0.5 : (double)part + 0.5);
 }
 
 #endif

@@ -51,6 +51,7 @@ static const struct row {
     int64_t panic; /* and where it panics though no question before 10 refuses; 0: nothing is known there */
     fits *fits;    /* 10 too where this says no; NULL: all answers fit */
     int place;     /* at none the last number is this argument; 0: none is all zeros */
+    int told;      /* the Rust tells only so many of the call's numbers: it has no flags of a pixel; 0: all */
     exact *exact;
     list_call *list; /* these two instead of call; no count: NULL */
     count_call *count;
@@ -59,7 +60,7 @@ static const struct row {
     {"date_of", 1, call_date_of, refuse_date_of, .none = 8},
     {"week_day_number", 3, call_week_day_number, refuse_week_day_number, .none = 0}, /* the Rust lacks week dates */
     {"week_date_of", 1, call_week_date_of, refuse_date_of, .none = 0},
-    {"map", 10, call_map, refuse_map, .panic = 10},
+    {"map", 10, call_map, refuse_map, .panic = 10, .told = 2},
     {"period", 7, call_period, refuse_period, .none = -1, .exact = exact_period_answer},
     {"ticks_bold", 7, NULL, refuse_ticks_bold, .exact = exact_bold, .list = list_bold, .count = count_bold},
     {"ticks_light", 8, NULL, refuse_ticks_light, .exact = exact_light, .list = list_light, .count = count_light},
@@ -70,7 +71,7 @@ static const struct row {
     {"next", 8, call_next, refuse_by_value, .none = -1, .panic = 10, .fits = day_answered},
     {"previous", 8, call_previous, refuse_by_value, .none = -1, .panic = 10, .fits = day_answered},
     {"values", 7, call_values, refuse_by_index, .none = -1, .panic = 10, .fits = day_answered, .place = 6},
-    {"segment_map", 11, call_segment_map, refuse_segment_map, .panic = 10, .fits = follower_mapped},
+    {"segment_map", 11, call_segment_map, refuse_segment_map, .panic = 10, .fits = follower_mapped, .told = 2},
     {"segment_ticks_bold", 7, NULL, refuse_segment_ticks_bold, .list = list_segment_bold},
     {"segment_ticks_light", 8, NULL, refuse_segment_ticks_light, .exact = exact_light, .list = list_segment_light},
     {"segment_size", 6, call_segment_size, refuse_size, .none = 0},
@@ -78,6 +79,12 @@ static const struct row {
     {"segment_from_index", 7, call_segment_from_index, refuse_by_index, .none = -1, .panic = 10, .fits = segment_answered},
 };
 enum { ROWS = sizeof rows / sizeof rows[0] };
+
+/* The call of a row; gives how many of its numbers the Rust tells too. */
+static inline int call_row(const struct row *row, const int64_t *in, int64_t *out) {
+    int count = row->call(in, out);
+    return row->told ? row->told : count;
+}
 
 /* Reads whole numbers parted by one space, up to the end of the text; gives how many, or -1. One that does not fit
    becomes the nearest that does: the oracle has such periods, of reversed spans. */

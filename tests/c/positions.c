@@ -10,10 +10,10 @@
 #include "calls.h"
 #include "draw.h"
 #include "expect.h"
+#include "mappings.h"
 #include "questions.h"
 
-enum { ARGUMENTS = 10, KINDS = 8, ENOUGH = 20000, WIDEST = 65534 };
-enum { EXCLUDED = 5, LOW, HIGH, HEAD, TAIL }; /* the arguments after the ends */
+enum { ARGUMENTS = 10 };
 
 /* A mapping with what is known of it; the position is cut, and counts from the low limit as the pixel does. */
 struct mapping {
@@ -26,16 +26,11 @@ struct mapping {
 enum column { MAPPINGS, WHOLE, EQUAL, NEARER_WHOLE, NEARER_ELSE, FARTHER, OTHER, COLUMNS };
 static int64_t table[KINDS + 1][2][COLUMNS];
 
-/* What must have been met, with mappings enough: on each kind that has its bit, as questions.h has them. */
 enum met {
     BY_NANOSECONDS, BY_DAYS, LONGEST_BY_NANOSECONDS, SHORTEST_BY_DAYS, WHOLE_POSITION, LIMITS_SWAPPED, LIMITS_EQUAL, LIMITS_APART,
     START_ALONE, AT_START, AT_END, END_SHORT, END_EXCLUDED, ONE_NEARER_WHOLE, ONE_NEARER_ELSE, ONE_FARTHER, METS
 };
-enum { DATE_KINDS = 1 << 1 | 1 << 2 | 1 << 3 | 1 << 8, TIME_KINDS = ALL_KINDS & ~DATE_KINDS };
-static const struct {
-    const char *text;
-    unsigned kinds;
-} needs[METS] = {
+static const struct need needs[METS] = {
     {"a span in nanoseconds", ALL_KINDS}, {"a span in whole days", ALL_KINDS},
     {"the longest span in nanoseconds", ALL_KINDS & ~(1 << 7)}, /* of durations question 5 refuses it */
     {"the shortest span in whole days", ALL_KINDS}, {"a whole position", ALL_KINDS}, {"swapped limits", ALL_KINDS},
@@ -50,63 +45,11 @@ static void check(bool same, const struct mapping *m, const char *otherwise) {
     expect(same, "map", m->in, ARGUMENTS, otherwise);
 }
 
-/* The least step between two values. */
-static int64_t step_on(int64_t kind) {
-    return of_dates(kind) ? DAY : 1;
-}
-
-static void draw_limits(int64_t *low, int64_t *high) {
-    *low = limit(), *high = limit();
-    switch (draw() % 8) {
-    case 0: *high = *low; break;
-    case 1: *low = chance(2) ? 32767 : -32767, *high = -*low; break;
-    case 2: *low = 0, *high = from(-100, 100); break;
-    case 3:
-    case 4: limits_with(from(-WIDEST, WIDEST), low, high); break;
-    default: break;
-    }
-}
-
-/* The offset nearest to a whole position, or up to two steps beside it. */
-static wide beside_whole(axis a, int64_t width) {
-    wide step = step_on(a.kind), span = (a.end - a.start) / step, ways = width < 0 ? -width : width;
-    wide whole = from(0, (int64_t)ways), nearest = ways ? (2 * whole * span + ways) / (2 * ways) : 0;
-    return step * clamp(0, nearest + from(-2, 2), span);
-}
-
-/* An axis of even parts and a width of as many, or of some times as many: each part ends at a whole position. */
-static axis draw_parts(int64_t kind, int64_t *low, int64_t *high, wide *offset) {
-    wide step = step_on(kind), steps = (last_place(kind) - first_place(kind)) / step;
-    int64_t parts = 1 + (int64_t)any_size(WIDEST - 1), times = from(1, WIDEST / parts);
-    wide part = step * (1 + any_size(steps / parts - 1));
-    limits_with(chance(2) ? parts * times : -parts * times, low, high);
-    *offset = part * (chance(8) ? parts : from(0, parts));
-    return axis_with(kind, part * parts);
-}
-
-/* A third of the values anywhere, a third beside whole positions, a sixth at whole ones, a sixth at the ends. */
-static void draw_call(int64_t kind, int64_t *in) {
-    axis a = axis_of(kind);
-    wide offset = wide_from(0, a.end - a.start);
-    draw_limits(&in[LOW], &in[HIGH]);
-    switch (draw() % 6) {
-    case 0:
-    case 1: offset = beside_whole(a, in[HIGH] - in[LOW]); break;
-    case 2: a = draw_parts(kind, &in[LOW], &in[HIGH], &offset); break;
-    case 3: offset = chance(2) ? 0 : a.end - a.start; break;
-    default: break;
-    }
-    value start = value_at(kind, a.start), end = value_at(kind, a.end), v = value_at(kind, place_on(kind, a.start + offset));
-    in[0] = kind, in[1] = start.head, in[2] = start.tail, in[3] = end.head, in[4] = end.tail;
-    in[EXCLUDED] = of_dates(kind) && a.start < a.end && chance(4) ? excluding() : 0;
-    in[HEAD] = v.head, in[TAIL] = v.tail;
-}
-
 /* Until question 5, which only durations have, does not refuse it. */
 static struct mapping draw_mapping(int64_t kind) {
     struct mapping m = {0};
     do
-        draw_call(kind, m.in);
+        draw_inside(kind, m.in);
     while (refuse_axis(m.in, ALL_KINDS) == 5);
     wide start = nanoseconds(kind, m.in[1], m.in[2]);
     m.offset = nanoseconds(kind, m.in[HEAD], m.in[TAIL]) - start;
@@ -126,11 +69,6 @@ static bool ask(struct mapping *m) {
     check(answer.status == 0, m, "refused");
     m->pixel = (wide)answer.pixel - m->in[LOW];
     return answer.status == 0;
-}
-
-/* One nearer the low limit; what is at it is no nearer. */
-static wide nearer(wide position) {
-    return position > 0 ? position - 1 : position < 0 ? position + 1 : position;
 }
 
 static enum column column_of(const struct mapping *m) {
@@ -208,20 +146,13 @@ static void print_table(void) {
     }
 }
 
-static void expect_all_met(int64_t mappings) {
-    for (int kind = 1; kind <= KINDS && mappings >= ENOUGH; kind++)
-        for (enum met what = 0; what < METS; what++)
-            if (needs[what].kinds >> kind & 1 && met[kind][what] == 0 && differences++ < SHOWN)
-                printf("  kind %d: never %s\n", kind, needs[what].text);
-}
-
 int main(int argc, char **argv) {
     int64_t mappings = count_and_seed(argc, argv);
     for (int64_t i = 0; i < mappings; i++)
         for (int64_t kind = 1; kind <= KINDS; kind++)
             while (!compare(kind))
                 ;
-    expect_all_met(mappings);
+    expect_all_met(mappings, needs, &met[0][0], METS);
     print_table();
     printf("positions: %" PRId64 " mappings of each kind, seed %s: %" PRId64 " compared, %" PRId64 " differences\n", mappings,
            argv[2], compared, differences);

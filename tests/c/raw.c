@@ -20,7 +20,7 @@ typedef bool fine(const int64_t *in, const int64_t *out);
 
 static bool fine_pixel(const int64_t *in, const int64_t *out) {
     (void)in;
-    return in_range(INT32_MIN, out[1], INT32_MAX);
+    return in_range(INT32_MIN, out[1], INT32_MAX) && in_range(0, out[2], 1) && in_range(0, out[3], 1);
 }
 
 static bool fine_number(const int64_t *in, const int64_t *out) {

@@ -1221,12 +1221,13 @@ static void compare_listings(const char *call, const struct listing *table, int 
     expect_all_covered(call, &both, asked, count);
 }
 
-/* One operation of a row; the answer as its status and three numbers. */
-static void ask(int operation, const int64_t *in, int64_t out[4]) {
+/* One operation of a row; the answer as its status and three numbers. False: the flags of a pixel are none, or stand beside no
+   answer; which of the two a segment has is left to hairlines. */
+static bool ask(int operation, const int64_t *in, int64_t out[4]) {
     ordered_value v = {0, 0, 0};
     ordered_number n = {0, 0};
     ordered_step s = {0, 0, 0, 0};
-    ordered_pixel p = {0, 0};
+    ordered_pixel p = {0, 0, 0, 0};
     ordered_segment g = {0, 0, 0, 0};
     switch (operation) {
     case UNMAP: v = ordered_unmap(AXIS_OF(in), in[6], in[7], in[8]); break;
@@ -1245,6 +1246,7 @@ static void ask(int operation, const int64_t *in, int64_t out[4]) {
     out[1] = v.head + n.value + s.head + p.pixel + g.segment;
     out[2] = v.tail + s.tail + g.head;
     out[3] = s.next + g.tail;
+    return fine_flags(p);
 }
 
 /* All operations on indices and segments: their rows, and that each question of each has its rows. */
@@ -1268,7 +1270,7 @@ static int compare_askings(void) {
             if (!(row->operations >> bit & 1))
                 continue;
             int64_t got[4], want[4] = {row->status, row->out[0], row->out[1], row->out[2]};
-            ask(1 << bit, row->in, got);
+            expect(ask(1 << bit, row->in, got), operations[bit].name, row->why);
             calls++;
             see(&seen, row->status, row->also);
             if (memcmp(got, want, sizeof want)) {
@@ -1296,6 +1298,7 @@ int main(void) {
             printf("  ordered_map, row %d, %s: expected %" PRId64 " %" PRId64 ", got %" PRId64 " %" PRId64 "\n", i + 1,
                    row->why, row->status, row->pixel, r.status, r.pixel);
         }
+        expect(fine_flags(r), "ordered_map, its flags", row->why);
     }
     expect_all_covered("ordered_map", &maps, (const int[]){1, 3, 4, 14, 5, 7, 8, 9, 10}, 9);
     compare_listings("ticks", listings, COUNT(listings), false, (const int[]){1, 3, 4, 14, 5, 6, 11}, 7);

@@ -92,7 +92,7 @@ static bool replay(const char *request, const char *answer) {
         return true;
     }
     int exact_count = !number && row->exact ? row->exact(in, exact) : 0;
-    int count = row->call ? row->call(in, got) : number ? 2 : exact_count ? exact_count : told_count;
+    int count = row->call ? call_row(row, in, got) : number ? 2 : exact_count ? exact_count : told_count;
     bool known = true, unfit = !number && told_count && row->fits && !row->fits(in, told + 1);
     memset(want, 0, sizeof want[0] * (size_t)count);
     if (number)

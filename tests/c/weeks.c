@@ -281,7 +281,7 @@ static void expect_by_index(void) {
     expect_answer("segment_index_of the last", in, 6, &got, ROW(0, size));
 }
 
-/* Between limits: the value under a pixel, and the pixels of a day and of its segment, both by those of kind 1. */
+/* Between limits: the value under a pixel, and pixels and flags of a day and of its segment, both by those of kind 1. */
 static void expect_pixels(void) {
     int64_t low = limit(), high = limit(), pixel = limit(), day = draw_day(), size = size_by_walk();
     if (low != high && !chance(4))
@@ -293,23 +293,24 @@ static void expect_pixels(void) {
 
     const int64_t in[] = {AXIS, low, high, day, 0};
     ordered_pixel got = ordered_map(AXIS, low, high, day, 0), dates = ordered_map(DATES, start, 0, end, 0, 0, low, high, day, 0);
-    expect_answer("map", in, 10, &got, ROW(dates.status, dates.pixel));
+    expect_answer("map", in, 10, &got, ROW(dates.status, dates.pixel, dates.exact, dates.lost));
 
     /* The width parted by the size, rounded half away from zero, is left for the last. */
     int64_t margin = (2 * wide + size) / (2 * size) * (width < 0 ? -1 : 1), follower = mondays_to[day] - mondays_to[start] + 1;
     ordered_pixel left = ordered_map(DATES, start, 0, end, 0, 0, low, high - margin, day, 0), right = left;
     got = ordered_segment_map(AXIS, low, high, 1, day, 0);
-    expect_answer("segment_map, exact", in, 10, &got, ROW(left.status, left.pixel));
+    expect_answer("segment_map, exact", in, 10, &got, ROW(left.status, left.pixel, left.exact, left.lost));
     bool followed = follower > 0 && follower < size;
     if (followed)
         right = ordered_map(DATES, start, 0, end, 0, 0, low, high - margin, value_by_walk(follower).head, 0);
     int64_t sum = left.pixel + (followed ? right.pixel : margin / 2);
     bool fits = sum >= INT32_MIN && sum <= INT32_MAX;
     int64_t status = left.status ? left.status : right.status ? right.status : fits ? 0 : 10;
+    bool exact = !status && left.exact && right.exact && (followed ? sum : margin) % 2 == 0;
     got = ordered_segment_map(AXIS, low, high, 2, day, 0);
-    expect_answer("segment_map, centre", in, 10, &got, ROW(status, status ? 0 : followed ? sum / 2 : sum));
+    expect_answer("segment_map, centre", in, 10, &got, ROW(status, status ? 0 : followed ? sum / 2 : sum, exact, 0));
     got = ordered_segment_map(AXIS, low, high, 3, day, 0);
-    expect_answer("segment_map, last", in, 10, &got, ROW(0, high));
+    expect_answer("segment_map, last", in, 10, &got, ROW(0, high, 1, 0));
 }
 
 static void axes(int64_t count) {

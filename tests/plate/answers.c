@@ -1,6 +1,6 @@
 /* The archive's answers for reading.py: a request is a line of eight numbers, kind, start, end, hint, low and high; its answer
    is a line with the list's status and count, then four numbers for each tick: head, tail, and status and pixel of its
-   mapping. */
+   mapping, whose flags plate does not print. */
 #include <inttypes.h>
 #include <stdio.h>
 

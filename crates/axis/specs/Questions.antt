@@ -6,7 +6,7 @@ use lib.IntN.{ℤ, pos}
 use lib.Signed.{ltZ, leZ}
 use Prim.Native.Nat.{ℕ}
 use Rattle.laws.specs.Asking.{Question, ask, asked}
-use Rattle.laws.specs.Numbers.{minus, within, isNumber}
+use Rattle.laws.specs.Numbers.{minus, within, equal, isNumber}
 use Rattle.calendar.specs.Questions.{lastDay, isDay}
 use Rattle.values.specs.declared.Value.{Value}
 use Rattle.values.specs.Values.{overDates, isDuration, isValue, earlier}
@@ -52,7 +52,7 @@ inOrder a = not (earlier (end a) (start a))
 
 -- two values, number by number
 abbrev pub equals : Value → Value → Bool
-equals v w = within (w .head) (v .head) (w .head) && within (w .tail) (v .tail) (w .tail)
+equals v w = equal (v .head) (w .head) && equal (v .tail) (w .tail)
 
 -- 14, asked after 4. Does the end belong to the axis, or is it excluded on one over dates, and not the start?
 unfoldable pub excludable : Axis → Bool

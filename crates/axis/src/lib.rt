@@ -314,6 +314,9 @@ pub fn is_index(i: i64) -> bool
 pub fn mappable(a: Axis, v: Value) -> bool
     ensures { λ r. ⌜ r ≡ mappable a v ⌝ }
 {
+    if a.start_head < a.end_head {
+        return true;
+    }
     values::earlier(start(a), end(a))
         | (((a.start_head <= v.head) & (v.head <= a.start_head))
             & ((a.start_tail <= v.tail) & (v.tail <= a.start_tail)))

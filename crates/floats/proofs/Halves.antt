@@ -6,21 +6,18 @@ use Prim.Native.Nat.{ℕ, suc, _+_, _-_, _*_, _/_, _%_, _^_, _≤_, _<_}
 use native.Mathlib.Nat.{mul-one, mul-comm, mul-assoc, add-mul, mul-pos, mul-lt-mul-of-pos-right, le-of-lt}
 use native.Mathlib.Nat.{lt-of-lt-of-le}
 use native.Mathlib.Omega.{arith}
-use lib.Bits.{bitAnd, and-mask}
 use lib.Dec.{lit<}
 use lib.IntN.{ℤ, pos, negsuc, natAbs}
-use lib.Signed.{shrZ, mag-shr}
+use lib.Signed.{shrZ}
 use lib.Pow.{pow-add, pow-mono, shl-lt}
 use lib.Ieee.{Float, nan, inf, fin, Format, binary64, up, down, round, ofInt, ofBits, add, sum, mul}
 use lib.Ieee.Exact.{HasValue, round-exact}
 use lib.Ieee.Fits.{down-pos}
 use lib.Ieee.Scale.{round-same}
 use mir.Syntax.{w64}
-use mir.Val.{SFits, toZ, ofZ}
-use mir.Facts.{toZ-ofZ}
-use mir.ValLaws.{sfits-le}
+use mir.Val.{SFits, ofZ}
 use borrow.Author.Tests.{lt-ltb, le-ltb}
-use Rattle.laws.proofs.Signed.{read-count}
+use Rattle.laws.proofs.Halves.{upper-few}
 use Rattle.floats.proofs.Values.{mul-val, int-is, int-val, unlike-false, below-zero}
 
 -- ---- a sum of two whole numbers, over a divisor D of both
@@ -72,7 +69,7 @@ scale-val : HasValue scale false (2 ^ 32) 1
 unfolding ofBits
 scale-val = (refl, refl)
 
-scaled-val : (z : ℤ) → natAbs z ≤ 2 ^ 32 → HasValue (mul binary64 (ofInt binary64 z) scale) (below-zero z) (natAbs z * 2 ^ 32) 1
+scaled-val : (z : ℤ) → natAbs z ≤ 2 ^ 31 → HasValue (mul binary64 (ofInt binary64 z) scale) (below-zero z) (natAbs z * 2 ^ 32) 1
 scaled-val z h =
     let s = below-zero z in
     let n = natAbs z in
@@ -85,17 +82,6 @@ scaled-val z h =
     subst (λ (x : Float). HasValue x s (n * 2 ^ 32) 1) (sym is)
     (round-exact binary64 s (n * 2 ^ 32) 1 n 1106 (lit< tt) few (lt-of-lt-of-le (shl-lt 53 1106 few) (pow-mono room))
     (mul-assoc n (2 ^ 32) (2 ^ 1074) ∙ ap (λ (p : ℕ). n * p) (sym (pow-add 2 32 1074)) ∙ sym (mul-one (n * 2 ^ 1106))))
-
--- as the code reads them back
-pub upper-is : (n : ℤ) → SFits w64 n → toZ w64 (ofZ w64 (shrZ (toZ w64 (ofZ w64 n)) 4294967296)) ≡ shrZ n 4294967296
-upper-is n s = rw (toZ-ofZ s) (toZ-ofZ (sfits-le (mag-shr n 4294967296) s))
-
-pub lower-is : (m : ℕ) → toZ w64 (bitAnd m 4294967295) ≡ pos (m % 2 ^ 32)
-lower-is m = ap (toZ w64) (and-mask m 32) ∙ read-count (m % 2 ^ 32) (omega arith)
-
-pub upper-few : (n : ℤ) → SFits w64 n → natAbs (shrZ n 4294967296) ≤ 2 ^ 32
-upper-few (pos a) s = omega (arith, s .sfits)
-upper-few (negsuc a) s = omega (arith, s .sfits)
 
 lower-val : (n : ℕ) → HasValue (ofInt binary64 (pos (n % 2 ^ 32))) false (n % 2 ^ 32) 1
 lower-val n = int-val binary64 (pos (n % 2 ^ 32)) (omega arith)

@@ -3,6 +3,7 @@ pub mod Values
 pub mod Signs
 pub mod Error
 pub mod Halves
+pub mod Losses
 pub mod Casts
 pub mod Order
 pub mod Quotients

@@ -1,2 +1,3 @@
 -- What the crate's contracts and laws cite.
 pub mod Rounding
+pub mod Losses

@@ -2,12 +2,13 @@
 // numbers.
 // Each statement is an equation with what IEEE 754 says (lib.Ieee).
 ghost use mathlib.Core.Path.{_≡_};
-ghost use mathlib.Core.Bool.{cond, not};
+ghost use mathlib.Core.Bool.{cond, not, _||_};
 ghost use Prim.Native.Nat.{suc, _^_, _≤_, _<_, min};
 ghost use lib.Dec.{T};
 ghost use lib.IntN.{pos, negℤ, natAbs};
 ghost use lib.Ieee.{binary32, binary64, ofInt, div, ofBits, nanBits, toSigned, toUnsigned};
 ghost use Rattle.floats.specs.Rounding.{withSign, absF, floorF, ceilOf, roundF};
+ghost use Rattle.floats.specs.Losses.{lostIn};
 
 // The weight of the exponent in a float's bits, and of a leading 1 before its 52 digits: 2^52.
 const LEAD: u64 = 4503599627370496;
@@ -42,14 +43,51 @@ fn with_sign(below: bool, n: u64) -> i64
     z
 }
 
+// A whole number as f64, and whether that is another number.
+pub struct Rounded {
+    pub value: f64,
+    pub lost: bool,
+}
+
+// Does n lose anything as f64? A float has 53 digits: what is left of n without the zeros at its end has to be below 2^53.
+fn loses(n: u64) -> bool
+    ensures { λ r. ⌜ r ≡ lostIn (pos n) ⌝ }
+{
+    if n < 9007199254740992 {
+        return false;
+    }
+    9007199254740992 <= n >> (u64::trailing_zeros(n) as u64)
+}
+
 // n as f64: the nearest, a tie to the even one. Its upper half, times 2^32, and its lower half are floats, so that only
-// their sum rounds.
-pub fn from_i64(n: i64) -> f64
-    ensures { λ r. ⌜ r ≡ ofInt binary64 n ⌝ }
+// their sum rounds. What is lost is lost of its distance from 0.
+pub fn from_i64(n: i64) -> Rounded
+    ensures { λ r. ⌜ r .value ≡ ofInt binary64 n ⌝ }
+    ensures { λ r. ⌜ r .lost ≡ lostIn n ⌝ }
 {
     let upper = n >> 32;
     let lower = n & 4294967295;
-    upper as f64 * 4294967296.0 + lower as f64
+    Rounded {
+        value: upper as f64 * 4294967296.0 + lower as f64,
+        lost: loses(unsigned_abs(n)),
+    }
+}
+
+// Does either lose anything? Quicker where both end with ten zeros, as whole days in nanoseconds do, or are small; else t tells
+// most often.
+pub fn either_loses(o: i64, t: i64) -> bool
+    ensures { λ r. ⌜ r ≡ lostIn o || lostIn t ⌝ }
+{
+    if ((o & 1023) <= 0) & ((t & 1023) <= 0) {
+        return false;
+    }
+    if ((0 <= o) & (o < 9007199254740992)) & ((0 <= t) & (t < 9007199254740992)) {
+        return false;
+    }
+    if from_i64(t).lost {
+        return true;
+    }
+    from_i64(o).lost
 }
 
 // The whole part of the float that has these bits, without its sign; the largest u64 from 2^64 on. The bits are a sign,

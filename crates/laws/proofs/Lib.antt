@@ -1,5 +1,6 @@
 -- The lemmas that all proofs share.
 pub mod Signed
+pub mod Halves
 pub mod Lent
 pub mod Parts
 pub mod Tables

@@ -13,8 +13,9 @@ use mir.Syntax.{w64}
 use mir.Val.{SFits, ofZ, toZ}
 use mir.Facts.{toZ-ofZ}
 use mir.ValLaws.{sfits-le, toZ-pos}
-use Rattle.laws.specs.Numbers.{minus, asU64, posPart, negPart}
-use borrow.Author.Tests.{ltb-true, ltb-false, leb-true, leb-false, lt-ltb, le-ltb}
+use Rattle.laws.specs.Numbers.{minus, equal, asU64, posPart, negPart}
+use borrow.Author.Tests.{ltb-true, ltb-false, leb-true, leb-false, lt-ltb, le-ltb, le-leb}
+use Rattle.laws.proofs.Tests.{both-true}
 
 -- ---- tests
 pub lt-true : (a b : ℤ) → ltZ a b ≡ true → posPart a + negPart b < posPart b + negPart a
@@ -87,6 +88,13 @@ pub mul-dn : (a : ℤ) (k : ℕ) → negPart (a *ℤ pos k) ≡ negPart a * k
 mul-dn (pos a) k = sym (zero-mul k)
 mul-dn (negsuc a) k = neg-dn (pos (suc a * k))
 
+-- of two signed numbers
+pub mul : (a b : ℤ) → posPart (a *ℤ b) + (posPart a * negPart b + negPart a * posPart b)
+    ≡ posPart a * posPart b + negPart a * negPart b + negPart (a *ℤ b)
+mul a (pos b) = omega (arith, mul-up a b, mul-dn a b)
+mul (pos a) (negsuc b) = omega (arith, neg-up (pos (a * suc b)), neg-dn (pos (a * suc b)))
+mul (negsuc a) (negsuc b) = omega arith
+
 -- division by a positive number goes toward zero, and the remainder has the dividend's sign: each side by itself
 pub quot-up : (a : ℤ) (k : ℕ) → posPart (quotZ a (pos k)) ≡ posPart a / k
 quot-up (pos a) k = refl
@@ -134,6 +142,17 @@ same (negsuc a) (pos b) e = absurd (let z : ⊥ = omega arith in z)
 same (negsuc a) (negsuc b) e = ap negsuc (omega arith)
 
 -- a number that is not below 0, and one that is not above it
+-- the test of it
+pub equal-true : (a b : ℤ) → equal a b ≡ true → a ≡ b
+equal-true a b e = let (l, m) = both-true (leZ b a) (leZ a b) e in same a b (omega (arith, le-true b a l, le-true a b m))
+
+pub true-equal : (a b : ℤ) → a ≡ b → equal a b ≡ true
+true-equal a b e = rw e (rw (itself b) refl)
+  where
+    itself : (z : ℤ) → leZ z z ≡ true
+    itself (pos n) = le-leb n n (omega arith)
+    itself (negsuc n) = le-leb n n (omega arith)
+
 pub pos-up : (z : ℤ) → negPart z ≡ 0 → pos (posPart z) ≡ z
 pos-up z e = same (pos (posPart z)) z (omega arith)
 

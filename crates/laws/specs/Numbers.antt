@@ -13,9 +13,13 @@ minus n = negℤ (pos n)
 abbrev pub within : ℤ → ℤ → ℤ → Bool
 within low x high = leZ low x && leZ x high
 
+-- both are the same number
+abbrev pub equal : ℤ → ℤ → Bool
+equal x y = within y x y
+
 -- the number is n
 abbrev pub isNumber : ℤ → ℕ → Bool
-isNumber x n = within (pos n) x (pos n)
+isNumber x n = equal x (pos n)
 
 -- how far above 0
 abbrev pub posPart : ℤ → ℕ

@@ -20,6 +20,7 @@ use Rattle.axis.specs.declared.Limits.{Limits}
 use Rattle.axis.specs.Axes.{start, end, last}
 use Rattle.axis.proofs.Axes.{both-ends}
 use Rattle.axis.proofs.ClosedAxes.{in-written}
+use Rattle.mapping.specs.declared.Hairline.{Hairline}
 use Rattle.mapping.specs.declared.Pixel.the-variants.{At}
 use Rattle.mapping.specs.Mapping.{mapped, mapQuestions}
 use Rattle.mapping.specs.Days.{DayOf, MorePixels}
@@ -49,8 +50,9 @@ days-from : (x s : ℤ) → negPart x ≡ 0 → negPart s ≡ 0 → posPart s �
 days-from x s a b l = let d = sub x s in let z = not-below (x -ℤ s) (omega arith) in omega arith
 
 -- of two days, the first one earlier
-earlier-day : (a : Axis) (l : Limits) (i j p q : ℤ) → MorePixels a l → DayOf a i → DayOf a j → negPart i ≡ 0 → negPart j ≡ 0 →
-    posPart i < posPart j → mapped a l (midnight i) ≡ At p → mapped a l (midnight j) ≡ At q → p ≡ q → ⊥
+earlier-day : (a : Axis) (l : Limits) (i j : ℤ) (p q : Hairline) → MorePixels a l → DayOf a i → DayOf a j → negPart i ≡ 0 →
+    negPart j ≡ 0 → posPart i < posPart j → mapped a l (midnight i) ≡ At p → mapped a l (midnight j) ≡ At q →
+    p .pixel ≡ q .pixel → ⊥
 earlier-day a l i j p q more on-i on-j zi zj less ei ej same-pixel =
     let (nx, x) = accepted a l (midnight i) p ei in
     let (ny, y) = accepted a l (midnight j) q ej in
@@ -76,8 +78,8 @@ earlier-day a l i j p q more on-i on-j zi zj less ei ej same-pixel =
     (m .between .0) (rw one (n .between .1))
 
 -- two different days of a date axis, more pixels than days: their pixels differ
-pub days-differ : (a : Axis) (l : Limits) (i j p q : ℤ) → MorePixels a l → DayOf a i → DayOf a j → (i ≡ j → ⊥)
-    → mapped a l (midnight i) ≡ At p → mapped a l (midnight j) ≡ At q → p ≡ q → ⊥
+pub days-differ : (a : Axis) (l : Limits) (i j : ℤ) (p q : Hairline) → MorePixels a l → DayOf a i → DayOf a j → (i ≡ j → ⊥)
+    → mapped a l (midnight i) ≡ At p → mapped a l (midnight j) ≡ At q → p .pixel ≡ q .pixel → ⊥
 days-differ a l i j p q w on-i on-j ne ei ej e =
     let both = both-ends a (told 3 (mapQuestions a l (midnight i)) tt (accepted a l (midnight i) p ei .0)) in
     let first = date-value (a .kind) (start a) (both .first) (on-i .dates) in

@@ -34,8 +34,9 @@ use Rattle.axis.proofs.Axes.{both-ends, span-from-0}
 use Rattle.axis.proofs.Questions.{pixel-range}
 use Rattle.axis.proofs.PixelRanges.{limits-are}
 use Rattle.mapping.specs.declared.Pixel.the-variants.{Refused, At}
-use Rattle.mapping.specs.Mapping.{scaleOf, placed, scaleQuestions, mapped, mappedBy}
-use Rattle.mapping.specs.Position.{Inside, width, oneNearer, answeredAt}
+use Rattle.mapping.specs.Hairlines.{hairlineAt}
+use Rattle.mapping.specs.Mapping.{placed, hairline, scaleQuestions, mapped, mappedBy, answeredAt}
+use Rattle.mapping.specs.Position.{Inside, width, oneNearer}
 use Rattle.mapping.proofs.Answers.{in-parts}
 use Rattle.mapping.proofs.SignedCuts.{nearer}
 use Rattle.mapping.proofs.Placing.{nudged, in-nanoseconds}
@@ -105,16 +106,17 @@ on-page-fits p e = let r = pixel-range p e in
 
 answered : (a : Axis) (l : Limits) (v : Value) (p : ℤ) →
     (firstNo (scaleQuestions a l) ≡ 0 → (valueOn a v ≡ true) × (mappable a v ≡ true) × (isPixel p ≡ true) × (placed a l v ≡ p)) →
-    mapped a l v ≡ answeredAt a l p
-unfolding placed mappedBy
+    mapped a l v ≡ answeredAt a l (hairlineAt a l v p)
+unfolding hairline mappedBy
 answered a l v p f = in-parts a l v ∙ go (firstNo (scaleQuestions a l)) refl
   where
-    go : (q : ℕ) → firstNo (scaleQuestions a l) ≡ q → unless q Refused (mappedBy (scaleOf a l) a v) ≡ unless q Refused (At p)
+    go : (q : ℕ) → firstNo (scaleQuestions a l) ≡ q →
+        unless q Refused (mappedBy a l v) ≡ unless q Refused (At (hairlineAt a l v p))
     go zero e = let (value, maps, page, is) = f e in rw (is, value, maps, on-page-fits p page)
     go (suc q) e = refl
 
 -- ---- the start
-no-offset : (a : Axis) → offsetOf a (start a) ≡ pos 0
+pub no-offset : (a : Axis) → offsetOf a (start a) ≡ pos 0
 unfolding offsetOf difference
 no-offset a = let x = nanoseconds (a .kind) (start a) in same (x -ℤ x) (pos 0) (omega (arith, sub x x))
 
@@ -155,7 +157,7 @@ at-low p low e = same p low (omega (arith, sub p low, ap posPart e, ap negPart e
 equals-itself : (v : Value) → equals v v ≡ true
 equals-itself v = rw (is-le (v .head) (v .head) (omega arith), is-le (v .tail) (v .tail) (omega arith))
 
-pub start-at-low : (a : Axis) (l : Limits) → mapped a l (start a) ≡ answeredAt a l (l .low)
+pub start-at-low : (a : Axis) (l : Limits) → mapped a l (start a) ≡ answeredAt a l (hairlineAt a l (start a) (l .low))
 unfolding valueOn mappable
 start-at-low a l = answered a l (start a) (l .low) (λ none.
     let row = scaleQuestions a l in
@@ -209,7 +211,8 @@ end-placed a l some e o page =
     (pixel-cut a l (end a) e value page i)
 
 pub end-at-high : (a : Axis) (l : Limits) → earlier (start a) (end a) ≡ true →
-    (mapped a l (end a) ≡ answeredAt a l (l .high)) ⊎ (mapped a l (end a) ≡ answeredAt a l (l .low +ℤ oneNearer (width l)))
+    (mapped a l (end a) ≡ answeredAt a l (hairlineAt a l (end a) (l .high)))
+    ⊎ (mapped a l (end a) ≡ answeredAt a l (hairlineAt a l (end a) (l .low +ℤ oneNearer (width l))))
 unfolding valueOn mappable
 end-at-high a l some = go (firstNo (scaleQuestions a l)) refl
   where
@@ -217,13 +220,15 @@ end-at-high a l some = go (firstNo (scaleQuestions a l)) refl
     row = scaleQuestions a l
 
     -- a pixel of the page
-    at : (p : ℤ) → (firstNo row ≡ 0 → (isPixel p ≡ true) × (placed a l (end a) ≡ p)) → mapped a l (end a) ≡ answeredAt a l p
+    at : (p : ℤ) → (firstNo row ≡ 0 → (isPixel p ≡ true) × (placed a l (end a) ≡ p)) →
+        mapped a l (end a) ≡ answeredAt a l (hairlineAt a l (end a) p)
     at p f = answered a l (end a) p (λ none.
         let (page, is) = f none in
         (both-ends a (told 3 row tt none) .second, ap (λ (b : Bool). b || equals (end a) (start a)) some, page, is))
 
     go : (q : ℕ) → firstNo row ≡ q →
-        (mapped a l (end a) ≡ answeredAt a l (l .high)) ⊎ (mapped a l (end a) ≡ answeredAt a l (l .low +ℤ oneNearer (width l)))
+        (mapped a l (end a) ≡ answeredAt a l (hairlineAt a l (end a) (l .high)))
+        ⊎ (mapped a l (end a) ≡ answeredAt a l (hairlineAt a l (end a) (l .low +ℤ oneNearer (width l))))
     go (suc q) refuses = inl (at (l .high) (λ none. absurd (let x : ⊥ = omega arith in x)))
     go zero none =
         let page = told 7 row tt none in

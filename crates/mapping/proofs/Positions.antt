@@ -32,6 +32,7 @@ use Rattle.axis.specs.Axes.{start, end, spanOf, offsetOf}
 use Rattle.axis.specs.Questions.{pixels, ends, valueOn}
 use Rattle.axis.proofs.Axes.{both-ends, with-value}
 use Rattle.axis.proofs.PixelRanges.{limits-are, between-few}
+use Rattle.mapping.specs.declared.Hairline.{Hairline}
 use Rattle.mapping.specs.declared.Pixel.the-variants.{At}
 use Rattle.mapping.specs.Mapping.{nudge, placed, mapQuestions, mapped}
 use Rattle.mapping.specs.Position.{Inside, width, cutPosition, WholePosition, daysPosition}
@@ -298,9 +299,9 @@ module _ (a : Axis) (l : Limits) (v : Value) (e : ends a ≡ true) (value : valu
         product-days span-days (c .between))
 
 -- THE THEOREM, of every pixel that mapping answers
-pub how-far-off : (a : Axis) (l : Limits) (v : Value) (p : ℤ) → mapped a l v ≡ At p → HowFarOff a l v p
-how-far-off a l v p m =
-    let (none, is) = accepted a l v p m in
+pub how-far-off : (a : Axis) (l : Limits) (v : Value) (h : Hairline) → mapped a l v ≡ At h → HowFarOff a l v (h .pixel)
+how-far-off a l v h m =
+    let (none, is) = accepted a l v h m in
     let row = mapQuestions a l v in
     let e = told 3 row tt none in
     let value = told 8 row tt none in

@@ -1,4 +1,6 @@
 -- What the crate's contracts and promises cite.
+pub mod Position
+pub mod Hairlines
 pub mod Mapping
 pub mod Days
-pub mod Position
+pub mod Drawn

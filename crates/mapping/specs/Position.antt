@@ -6,7 +6,6 @@ use mathlib.Core.Bool.{true, false}
 use Prim.Native.Nat.{zero, suc, _≤_}
 use lib.IntN.{ℤ, pos, negsuc, natAbs, _-ℤ_, _*ℤ_}
 use lib.Signed.{quotZ}
-use Rattle.laws.specs.Asking.{asked}
 use Rattle.laws.specs.Numbers.{minus}
 use Rattle.values.specs.declared.Value.{Value}
 use Rattle.values.specs.Values.{overDates, isDuration, earlier}
@@ -14,9 +13,6 @@ use Rattle.values.specs.Differences.{fitsI64, wholeDays}
 use Rattle.axis.specs.declared.Axis.{Axis}
 use Rattle.axis.specs.declared.Limits.{Limits}
 use Rattle.axis.specs.Axes.{start, end, spanOf, offsetOf}
-use Rattle.mapping.specs.declared.Pixel.{Pixel}
-use Rattle.mapping.specs.declared.Pixel.the-variants.{Refused, At}
-use Rattle.mapping.specs.Mapping.{scaleQuestions}
 
 -- "a value in a span whose start is before its end": from the start to the written end, both included
 pub record Inside (a : Axis) (v : Value) : Type 0 where
@@ -64,7 +60,3 @@ pub record HowFarOff (a : Axis) (l : Limits) (v : Value) (p : ℤ) : Type 0 wher
   pub if-whole : Inside a v → WholePosition a l v → CutOrNearer a l v p
   pub in-days : isDuration (a .kind) ≡ false → Inside a v → fitsI64 (spanOf a) ≡ false → p -ℤ l .low ≡ daysPosition a l v
   pub on-dates : overDates (a .kind) ≡ true → Inside a v → CutOrNearer a l v p
-
--- ---- a pixel p that only the questions of the axis and the limits can refuse, as those of the ends are
-abbrev pub answeredAt : Axis → Limits → ℤ → Pixel
-answeredAt a l p = asked (scaleQuestions a l) Refused (At p)

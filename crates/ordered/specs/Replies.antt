@@ -1,7 +1,8 @@
 -- Answers as C's numbers: the status is 0, or -1 for none, or the refusal's number; all else is 0 unless answered.
 -- Definitions only.
+use mathlib.Core.Bool.{Bool, cond}
 use Prim.Native.Nat.{ℕ}
-use lib.IntN.{pos}
+use lib.IntN.{ℤ, pos}
 use Rattle.laws.specs.Numbers.{minus}
 use Rattle.calendar.specs.declared.DayAnswer.{DayAnswer}
 use Rattle.calendar.specs.declared.DayAnswer.the-variants as day
@@ -53,10 +54,14 @@ abbrev pub weekReply : WeekAnswer → OrderedWeekDate
 weekReply (week.Answered t) = record { status = pos 0; year = pos (t .year); week = pos (t .week); weekday = pos (t .weekday) }
 weekReply (week.Refused q) = record { status = pos q; year = pos 0; week = pos 0; weekday = pos 0 }
 
--- a pixel
+-- 1 for yes, 0 for no
+abbrev pub flag : Bool → ℤ
+flag b = cond b (pos 1) (pos 0)
+
+-- a pixel, and how it is drawn
 abbrev pub pixelReply : Pixel → OrderedPixel
-pixelReply (pixel.At p) = record { status = pos 0; pixel = p }
-pixelReply (pixel.Refused q) = record { status = pos q; pixel = pos 0 }
+pixelReply (pixel.At h) = record { status = pos 0; pixel = h .pixel; exact = flag (h .exact); lost = flag (h .lost) }
+pixelReply (pixel.Refused q) = record { status = pos q; pixel = pos 0; exact = pos 0; lost = pos 0 }
 
 -- a count of ticks
 abbrev pub countReply : Listed → OrderedNumber

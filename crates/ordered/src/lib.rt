@@ -35,7 +35,7 @@ ghost use Rattle.segmented.specs.Answers.{segmentMapAnswer, segmentTicksAnswer,
 ghost use Rattle.segmented.specs.Answers.{segmentSizeAnswer, segmentIndexAnswer, segmentFromAnswer};
 ghost use Rattle.steps.specs.Listing.{countOf};
 ghost use Rattle.ticks.specs.Answers.{ticksAnswer, ticksWritten, periodAnswer};
-ghost use Rattle.ordered.specs.Replies.{dayIn, dayReply, dateReply, weekReply, pixelReply, countReply, periodReply};
+ghost use Rattle.ordered.specs.Replies.{dayIn, dayReply, dateReply, weekReply, flag, pixelReply, countReply, periodReply};
 ghost use Rattle.ordered.specs.Replies.{numberIn};
 ghost use Rattle.ordered.specs.Replies.{numberReply, valueReply, stepReply, segmentReply};
 
@@ -50,6 +50,8 @@ pub struct OrderedNumber {
 pub struct OrderedPixel {
     pub status: i64,
     pub pixel: i64,
+    pub exact: i64,
+    pub lost: i64,
 }
 
 #[repr(C)]
@@ -179,17 +181,28 @@ pub extern "C" fn ordered_week_date_of(day_number: i64) -> OrderedWeekDate
     }
 }
 
+// 1 for yes, 0 for no.
+fn flag(b: bool) -> i64
+    ensures { λ r. ⌜ r ≡ flag b ⌝ }
+{
+    if b { 1 } else { 0 }
+}
+
 fn pixel_reply(a: Pixel) -> OrderedPixel
     ensures { λ r. ⌜ r ≡ pixelReply a ⌝ }
 {
     match a {
-        Pixel::At(p) => OrderedPixel {
+        Pixel::At(h) => OrderedPixel {
             status: 0,
-            pixel: p,
+            pixel: h.pixel,
+            exact: flag(h.exact),
+            lost: flag(h.lost),
         },
         Pixel::Refused(q) => OrderedPixel {
             status: q as i64,
             pixel: 0,
+            exact: 0,
+            lost: 0,
         },
     }
 }

@@ -1,5 +1,5 @@
 -- Demand 3, proved of the definitions that the exports cite. Assumes nothing.
-use mathlib.Core.Path.{_≡_, refl, ap}
+use mathlib.Core.Path.{_≡_, refl, sym, ap, _∙_}
 use mathlib.Core.List.{List}
 use Prim.Native.Nat.{ℕ, zero, suc, _*_, _≤_}
 use native.Mathlib.Omega.{arith}
@@ -14,8 +14,10 @@ use Rattle.axis.specs.declared.Axis.{Axis}
 use Rattle.axis.specs.declared.Hint.{Hint}
 use Rattle.axis.specs.declared.Limits.{Limits}
 use Rattle.axis.specs.Axes.{start, last}
+use Rattle.mapping.specs.declared.Hairline.{Hairline}
+use Rattle.mapping.specs.declared.Pixel.{Pixel}
 use Rattle.mapping.specs.declared.Pixel.the-variants as pixel
-use Rattle.mapping.specs.Mapping.{placed, mapQuestions, mapped}
+use Rattle.mapping.specs.Mapping.{hairline, mapQuestions, mapped}
 use Rattle.mapping.proofs.Days.{days-differ}
 use Rattle.steps.specs.declared.Listed.{Listed}
 use Rattle.steps.specs.declared.Listed.the-variants.{Refused, Ticks}
@@ -72,19 +74,22 @@ module _ (a : Axis) (h : Hint) (d : List ℤ) where
 
 -- a pixel whose status is 0 is a mapping's answer
 pub is-at : (a : Axis) (l : Limits) (v : Value) → pixelReply (mapped a l v) .status ≡ pos 0 →
-    mapped a l v ≡ pixel.At (pixelReply (mapped a l v) .pixel)
+    mapped a l v ≡ pixel.At (hairline a l v)
 unfolding mapped
-is-at a l v = go (firstNo (mapQuestions a l v)) (placed a l v)
+is-at a l v = go (firstNo (mapQuestions a l v)) (hairline a l v)
   where
-    go : (q : ℕ) (p : ℤ) → let r = unless q pixel.Refused (pixel.At p) in
-        pixelReply r .status ≡ pos 0 → r ≡ pixel.At (pixelReply r .pixel)
-    go zero p s = refl
-    go (suc q) p s = absurd (let w : ⊥ = omega (arith, ap posPart s) in w)
+    go : (q : ℕ) (h : Hairline) → let r = unless q pixel.Refused (pixel.At h) in
+        pixelReply r .status ≡ pos 0 → r ≡ pixel.At h
+    go zero h s = refl
+    go (suc q) h s = absurd (let w : ⊥ = omega (arith, ap posPart s) in w)
 
 pub days-apart : (a : Axis) (l : Limits) (i j : ℤ) →
     DaysApart a l i j (pixelReply (mapped a l (midnight i))) (pixelReply (mapped a l (midnight j)))
 days-apart a l i j w I J n s t e =
-    days-differ a l i j _ _ w I J n (is-at a l (midnight i) s) (is-at a l (midnight j) t) e
+    let x = is-at a l (midnight i) s in
+    let y = is-at a l (midnight j) t in
+    let pixelOf : (Pixel → ℤ) = λ r. pixelReply r .pixel in
+    days-differ a l i j _ _ w I J n x y (sym (ap pixelOf x) ∙ e ∙ ap pixelOf y)
 
 -- THE THEOREM, of all kinds, spans, hints, lent slices, limits and pairs of days
 pub demand-3 : (a : Axis) (h : Hint) (d : List ℤ) (l : Limits) (i j : ℤ) → Demand3 a h d l i j

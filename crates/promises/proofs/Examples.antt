@@ -64,10 +64,10 @@ first-centre : Holds rows.first-centre
 unfolding closed ieee.span ieee.climb ieee.size ieee.odd ieee.units ieee.round ieee.mul ieee.div ieee.ofInt ieee.toUnsigned
     ieee.toSigned rounding.floorF rounding.roundF rounding.quotientOf nanoseconds difference nanosecondsOf overDates isValue
     earlier spanOf offsetOf asks.known asks.hasPeriod asks.hasIndex asks.ends asks.inOrder asks.excludable asks.pixels
-    asks.valueOn asks.mappable asks.checked mapping.scaleOf mapping.mapCoord mapping.placedBy mapping.placed count.monthly
-    count.yearly count.weekly count.origin count.position count.sizeOf index.isIndexed index.indexOf index.valueAt
-    discrete.nextIn segments.segmentOn segments.segmentOf segments.segmentMappable segments.marginOf segments.inner
-    segments.segmentWorked segmentMapAnswer
+    asks.valueOn asks.mappable asks.checked mapping.scaleOf mapping.mapCoord mapping.placed mapping.hairline
+    count.monthly count.yearly count.weekly count.origin count.position count.sizeOf index.isIndexed index.indexOf
+    index.valueAt discrete.nextIn segments.segmentOn segments.segmentOf segments.segmentMappable segments.marginOf
+    segments.inner segments.segmentWorked segmentMapAnswer
 first-centre = refl
 
 later : AllHold (rows.high-limit ∷ (rows.earlier-year ∷ (rows.no-whole-month ∷ (rows.first-centre ∷ []))))

@@ -30,7 +30,9 @@ use Rattle.axis.specs.Questions.{plainQuestions, axisQuestions}
 use Rattle.axis.proofs.ClosedAxes.{same-kind, shortened, closed-twice, plain-passed, axis-passed}
 use Rattle.mapping.specs.declared.Pixel.the-variants as pixel
 use Rattle.mapping.specs.Mapping as mapping
-use Rattle.mapping.specs.Mapping.{placed}
+use Rattle.mapping.specs.declared.Hairline.{Hairline}
+use Rattle.mapping.specs.Hairlines.{exactAt, lostAt}
+use Rattle.mapping.specs.Mapping.{hairline}
 use Rattle.mapping.specs.Days.{DayOf}
 use Rattle.calendar.specs.Gregorian as calendar
 use Rattle.counting.specs.Counting as counts
@@ -268,29 +270,31 @@ as-day-earlier k sh st eh et x e =
 -- ---- mapping goes to the end as written
 pub to-written-end : ToWrittenEnd
 unfolding overDates isValue earlier spanOf offsetOf asks.known asks.ends asks.inOrder asks.excludable asks.nearOrLong asks.valueOn
-    asks.mappable mapping.scaleOf mapping.placedBy mapping.placed mapping.mapped
+    asks.mappable mapping.scaleOf mapping.placed mapping.hairline mapping.mapped exactAt lostAt
 to-written-end k sh st eh et x l v =
     let a = axisOf k sh st eh et x in
     let w = axisOf k sh st eh et (pos 0) in
     let p = mapping.placed a l v in
+    let h = pixel.At (mapping.hairline a l v) in
     let rest = ask 7 (asks.pixels l) ∷ (ask 8 (valueOn a v) ∷ (ask 9 (asks.mappable a v) ∷ (ask 10 (asks.fitsI32 p) ∷ []))) in
-    more-on pixel.Refused (pixel.At p) (pixel.At p) (axisQuestions true a) (axisQuestions true w) rest rest (λ z.
+    more-on pixel.Refused h h (axisQuestions true a) (axisQuestions true w) rest rest (λ z.
     let row = axisQuestions true a in
     rw (told 1 row tt z, told 3 row tt z, told 4 row tt z, told 5 row tt z)) refl
 
 -- ---- segments go by both
-by-next : (a w b : Axis) (l : Limits) (left : ℤ) (n : ValueAnswer) → ((m : Limits) (u : Value) → placed a m u ≡ placed w m u) →
-    closed a ≡ b → centred a l left n ≡ midway w (inner (sizeOf b) l) (marginOf (sizeOf b) l) left n
+by-next : (a w b : Axis) (l : Limits) (left : Hairline) (n : ValueAnswer) →
+    ((m : Limits) (u : Value) → hairline a m u ≡ hairline w m u) → closed a ≡ b →
+    centred a l left n ≡ midway w (inner (sizeOf b) l) (marginOf (sizeOf b) l) left n
 by-next a w b l left (value.At u) p e =
-    λ i. let c = between left ((ap (λ (x : Axis). placed a (inner (sizeOf x) l) u) e ∙ p (inner (sizeOf b) l) u) i) in
-    worked (c .pixel) (isDay (u .head) && c .fits)
+    λ i. let c = between left ((ap (λ (x : Axis). hairline a (inner (sizeOf x) l) u) e ∙ p (inner (sizeOf b) l) u) i) in
+    worked (c .hairline) (isDay (u .head) && c .fits)
 by-next a w b l left value.None p e = λ i. beside left (marginOf (sizeOf (e i)) l)
 by-next a w b l left (value.Refused q) p e = λ i. beside left (marginOf (sizeOf (e i)) l)
 
 -- a pixel does not look at the sixth number
 same-pixel : (k sh st eh et x : ℤ) (m : Limits) (u : Value) →
-    placed (axisOf k sh st eh et x) m u ≡ placed (axisOf k sh st eh et (pos 0)) m u
-unfolding spanOf offsetOf mapping.scaleOf mapping.placedBy mapping.placed
+    hairline (axisOf k sh st eh et x) m u ≡ hairline (axisOf k sh st eh et (pos 0)) m u
+unfolding spanOf offsetOf mapping.scaleOf mapping.placed mapping.hairline exactAt lostAt
 same-pixel k sh st eh et x m u = refl
 
 pub segments-mix : SegmentsMix
@@ -298,15 +302,15 @@ unfolding segmentWorked
 segments-mix k sh st eh et x l (Exact v) y =
     let a = axisOf k sh st eh et x in
     let e = sym (shortened a y) in
-    ap alone (ap (λ (z : Axis). placed a (inner (sizeOf z) l) v) e ∙ same-pixel k sh st eh et x _ v)
+    ap alone (ap (λ (z : Axis). hairline a (inner (sizeOf z) l) v) e ∙ same-pixel k sh st eh et x _ v)
 segments-mix k sh st eh et x l (CenterOf v) y =
     let a = axisOf k sh st eh et x in
     let w = axisOf k sh st eh et (pos 0) in
     let b = axisOf k sh st (eh -ℤ pos 1) et (pos 0) in
     let e = sym (shortened a y) in
-    let left = ap (λ (z : Axis). placed a (inner (sizeOf z) l) v) e ∙ same-pixel k sh st eh et x (inner (sizeOf b) l) v in
+    let left = ap (λ (z : Axis). hairline a (inner (sizeOf z) l) v) e ∙ same-pixel k sh st eh et x (inner (sizeOf b) l) v in
     (λ i. centred a l (left i) (nextIn (e i) v))
-    ∙ by-next a w b l (placed w (inner (sizeOf b) l) v) (nextIn b v) (same-pixel k sh st eh et x) e
+    ∙ by-next a w b l (hairline w (inner (sizeOf b) l) v) (nextIn b v) (same-pixel k sh st eh et x) e
 segments-mix k sh st eh et x l Last y = refl
 
 -- ---- demand 3, of an excluded end
@@ -329,13 +333,13 @@ pub days-share : AsManyPixels → ⊥
 unfolding closed ieee.span ieee.climb ieee.size ieee.odd ieee.units ieee.round ieee.mul ieee.div ieee.ofInt ieee.toSigned
     rounding.quotientOf nanoseconds difference nanosecondsOf overDates isValue earlier spanOf offsetOf asks.known asks.ends
     asks.inOrder asks.excludable asks.nearOrLong asks.pixels asks.valueOn asks.mappable mapping.scaleOf mapping.mapCoord
-    mapping.placedBy mapping.placed mapping.mapped
+    mapping.placed mapping.hairline mapping.mapped
 days-share f =
     let day : (i : ℤ) → within (pos 1) i (pos 2615) ≡ true → DayOf (before 1 1 2616) i =
     λ i e. record { dates = refl; inside = e } in
     let e : pos 2613 ≡ pos 2614 =
-    f (before 1 1 2616) (limitsOf (pos 0) (pos 2615)) (pos 2613) (pos 2614) (pos 2612) refl (omega arith) (day (pos 2613) refl)
-    (day (pos 2614) refl) refl refl in
+    f (before 1 1 2616) (limitsOf (pos 0) (pos 2615)) (pos 2613) (pos 2614) _ _ refl (omega arith) (day (pos 2613) refl)
+    (day (pos 2614) refl) refl refl refl in
     let z = ap posPart e in
     omega arith
 
@@ -346,9 +350,9 @@ unfolding closed calendar.leap calendar.leapDay calendar.monthLength calendar.mo
     ieee.round ieee.mul ieee.div ieee.ofInt ieee.toUnsigned ieee.toSigned rounding.roundF rounding.quotientOf nanoseconds
     difference nanosecondsOf overDates isValue earlier spanOf offsetOf asks.known asks.hasPeriod asks.hasIndex asks.ends
     asks.inOrder asks.excludable asks.nearOrLong asks.boldHint asks.pixels asks.valueOn asks.mappable mapping.scaleOf
-    mapping.mapCoord mapping.placedBy mapping.placed mapping.mapped counts.monthly counts.yearly counts.weekly counts.fromDay
-    counts.toDay counts.firstDate counts.dateOn counts.origin counts.position counts.sizeOf while months.startOf months.carried
-    months.generateKeyPoints months.totalMonth months.monthsFrom months.monthKeyPoints keyPoints keyPointsFor ticksOf
-    ticksAnswer ticksWritten discrete.sizeAnswer segmentOn segmentOf segmentRows.segmentMappable segmentRows.marginOf
-    segmentRows.inner segmentRows.segmentWorked segmented.segmentMapAnswer
+    mapping.mapCoord mapping.placed mapping.hairline mapping.mapped counts.monthly counts.yearly
+    counts.weekly counts.fromDay counts.toDay counts.firstDate counts.dateOn counts.origin counts.position counts.sizeOf
+    while months.startOf months.carried months.generateKeyPoints months.totalMonth months.monthsFrom months.monthKeyPoints
+    keyPoints keyPointsFor ticksOf ticksAnswer ticksWritten discrete.sizeAnswer segmentOn segmentOf
+    segmentRows.segmentMappable segmentRows.marginOf segmentRows.inner segmentRows.segmentWorked segmented.segmentMapAnswer
 excluded-settled = (refl, (refl, (refl, (refl, (refl, (refl, tt))))))

@@ -1,6 +1,6 @@
 -- How far a pixel may be off, of what mapping answers, and that no narrower claim holds, each by its smallest input.
 -- Assumes nothing.
-use mathlib.Core.Path.{_≡_, refl, ap}
+use mathlib.Core.Path.{_≡_, refl, sym, ap, subst}
 use mathlib.Core.Logic.{inl, inr}
 use mathlib.Core.Bool.{true, false}
 use Prim.Native.Nat.{ℕ}
@@ -17,7 +17,8 @@ use Rattle.axis.specs.declared.Limits.{Limits}
 use Rattle.axis.specs.Axes.{start, end, spanOf, offsetOf}
 use Rattle.axis.specs.Questions as asks
 use Rattle.mapping.specs.Mapping as mapping
-use Rattle.mapping.specs.Position.{Inside, cutPosition}
+use Rattle.mapping.specs.declared.Pixel.{Pixel}
+use Rattle.mapping.specs.Position.{Inside, cutPosition, HowFarOff}
 use Rattle.mapping.proofs.Positions.{how-far-off}
 use Rattle.mapping.proofs.Ends.{start-at-low, end-at-high}
 use Rattle.ordered.specs.declared.OrderedPixel.{OrderedPixel}
@@ -27,7 +28,9 @@ use Rattle.promises.specs.HowFarOff.{OffOf, AtEnds, Off, NoNarrower}
 use Rattle.promises.proofs.Demand.{is-at}
 
 pub off-of : (a : Axis) (l : Limits) (v : Value) → OffOf a l v (pixelReply (mapping.mapped a l v))
-off-of a l v s = how-far-off a l v _ (is-at a l v s)
+off-of a l v s =
+    let m = is-at a l v s in
+    subst (λ (r : Pixel). HowFarOff a l v (pixelReply r .pixel)) (sym m) (how-far-off a l v _ m)
 
 pub at-ends : (a : Axis) (l : Limits) →
     AtEnds a l (pixelReply (mapping.mapped a l (start a))) (pixelReply (mapping.mapped a l (end a)))
@@ -64,33 +67,33 @@ inside : {a : Axis} {v : Value} → earlier (start a) (end a) ≡ true → earli
 inside x y z = record { some-span = x; from-start = y; to-end = z }
 
 -- 7 days less 1 ns between 0 and 15: the end, whose position is 15, is at 14. 1,807 days between 0 and 3,781: the end is at
--- 3,780. 38 days less 7 ns between 0 and 19: a value whose position is just above 11 is at 10. 13 days less 1 ns between 0 and 13: one
--- whose position is just below 12 is at 12
+-- 3,780. 38 days less 7 ns between 0 and 19: a value whose position is just above 11 is at 10. 13 days less 1 ns between 0 and
+-- 13: one whose position is just below 12 is at 12
 pub no-narrower : NoNarrower
 unfolding ieee.span ieee.climb ieee.size ieee.odd ieee.units ieee.round ieee.mul ieee.div ieee.ofInt ieee.toSigned
     rounding.quotientOf nanoseconds difference nanosecondsOf overDates isValue earlier spanOf offsetOf asks.known asks.ends
     asks.inOrder asks.excludable asks.nearOrLong asks.pixels asks.valueOn asks.mappable mapping.scaleOf mapping.mapCoord
-    mapping.placedBy mapping.placed mapping.mapped cutPosition
+    mapping.placed mapping.hairline mapping.mapped cutPosition
 no-narrower = record {
   always-cut = λ f.
-      let e : pos 14 ≡ pos 15 = f (times 1 8) (upTo 15) (midnight (pos 8)) (pos 14) refl (inside refl refl refl) refl in
+      let e : pos 14 ≡ pos 15 = f (times 1 8) (upTo 15) (midnight (pos 8)) _ refl (inside refl refl refl) refl in
       let z = ap posPart e in omega arith;
   always-cut-on-dates = λ f.
       let e : pos 3780 ≡ pos 3781 =
-      f (dates 1808) (upTo 3781) (midnight (pos 1808)) (pos 3780) refl (inside refl refl refl) refl in
+      f (dates 1808) (upTo 3781) (midnight (pos 1808)) _ refl (inside refl refl refl) refl in
       let z = ap posPart e in omega arith;
   nearer-on-date-times = λ f.
-      elim (f (times 7 39) (upTo 19) (atNano (midnight (pos 23)) 3) (pos 10) refl (inside refl refl refl) refl) [
+      elim (f (times 7 39) (upTo 19) (atNano (midnight (pos 23)) 3) _ refl (inside refl refl refl) refl) [
         | inl e ↦ (let z = ap posPart e in omega arith)
         | inr (whole, e) ↦ (let z = ap posPart whole in omega arith)
       ];
   one-farther = λ f.
-      elim (f (dates 1808) (upTo 3781) (midnight (pos 1808)) (pos 3780) refl (inside refl refl refl) refl) [
+      elim (f (dates 1808) (upTo 3781) (midnight (pos 1808)) _ refl (inside refl refl refl) refl) [
         | inl e ↦ (let z = ap posPart e in omega arith)
         | inr (whole, e) ↦ (let z = ap posPart e in omega arith)
       ];
   no-farther = λ f.
-      let h = f (times 1 14) (upTo 13) (midnight (pos 13)) (pos 12) refl (inside refl refl refl) refl in omega arith;
+      let h = f (times 1 14) (upTo 13) (midnight (pos 13)) _ refl (inside refl refl refl) refl in omega arith;
   uncut = λ f.
-      let h = f (times 7 39) (upTo 19) (atNano (midnight (pos 23)) 3) (pos 10) refl (inside refl refl refl) refl in omega arith;
+      let h = f (times 7 39) (upTo 19) (atNano (midnight (pos 23)) 3) _ refl (inside refl refl refl) refl in omega arith;
 }

@@ -10,5 +10,6 @@ pub mod ExcludedEnds
 pub mod OneList
 pub mod OtherLists
 pub mod HowFarOff
+pub mod Hairlines
 pub mod Examples
 pub mod WrongAnswers

@@ -37,11 +37,11 @@ unfolding closed ieee.span ieee.climb ieee.size ieee.odd ieee.units ieee.round i
     ieee.toSigned rounding.floorF rounding.quotientOf nanoseconds difference nanosecondsOf overDates isValue earlier spanOf
     offsetOf asks.known asks.hasPeriod asks.hasUnmap asks.ends asks.inOrder asks.excludable asks.nearOrLong asks.pixels
     asks.differ asks.unmapPixels asks.valueOn asks.mappable asks.checked asks.answered mapping.scaleOf mapping.mapCoord
-    mapping.placedBy mapping.placed mapping.mapped count.weekly count.monthly count.yearly count.fromDay count.sizeOf
-    index.valueAt index.indexAt index.indexUnder discrete.valueUnder discrete.unmapAnswer two-days
+    mapping.placed mapping.hairline mapping.mapped count.weekly count.monthly count.yearly count.fromDay
+    count.sizeOf index.valueAt index.indexAt index.indexUnder discrete.valueUnder discrete.unmapAnswer two-days
 no-inverse f =
     let e : midnight (pos 3) ≡ midnight (pos 2) =
-    f two-days (limitsOf (pos 0) (pos 1)) (midnight (pos 2)) (midnight (pos 3)) (pos 1) refl refl in
+    f two-days (limitsOf (pos 0) (pos 1)) (midnight (pos 2)) (midnight (pos 3)) _ refl refl in
     let z = ap (λ (v : Value). posPart (v .head)) e in
     omega arith
 
@@ -67,9 +67,9 @@ pub not-exact : AlwaysExact → ⊥
 unfolding ieee.span ieee.climb ieee.size ieee.odd ieee.units ieee.round ieee.mul ieee.div ieee.ofInt ieee.toSigned
     rounding.quotientOf nanoseconds difference nanosecondsOf overDates isValue earlier spanOf offsetOf asks.known asks.ends
     asks.inOrder asks.excludable asks.nearOrLong asks.pixels asks.valueOn asks.mappable mapping.scaleOf mapping.mapCoord
-    mapping.placedBy mapping.placed mapping.mapped cutPosition week-less-one
+    mapping.placed mapping.hairline mapping.mapped cutPosition week-less-one
 not-exact f =
     let e : pos 14 ≡ pos 15 =
-    f week-less-one (limitsOf (pos 0) (pos 15)) (midnight (pos 8)) (pos 14) refl (smaller _ _ (omega arith)) refl in
+    f week-less-one (limitsOf (pos 0) (pos 15)) (midnight (pos 8)) _ refl (smaller _ _ (omega arith)) refl in
     let z = ap posPart e in
     omega arith

@@ -19,6 +19,8 @@ use Rattle.values.specs.Differences.{nanoseconds, difference, nanosecondsOf}
 use Rattle.values.specs.Values.{overDates, isValue, earlier}
 use Rattle.axis.specs.Axes.{spanOf, offsetOf, closed}
 use Rattle.axis.specs.Questions as asks
+use Rattle.floats.specs.Losses.{isWhole, lostIn}
+use Rattle.mapping.specs.Hairlines.{exactAt, lostAt}
 use Rattle.mapping.specs.Mapping as mapping
 use Rattle.counting.specs.Counting as count
 use Rattle.floats.specs.Rounding.{ceilOf}
@@ -87,23 +89,23 @@ unfolding closed calendar.leap calendar.leapDay calendar.monthLength calendar.mo
     weeks.monday weeks.thursday weeks.counted weeks.dayFrom weeks.weekYear weeks.thursdays weeks.weekNumber weeks.weekDateOf
     weeks.weeksOf weeks.firstThursday weeks.weekDay isWeekDate weekDayNumber weekDateAt weeks.mondaysTo ieee.span ieee.climb
     ieee.size ieee.odd ieee.units ieee.round ieee.mul ieee.div ieee.ofInt ieee.toUnsigned ieee.toSigned rounding.floorF
-    rounding.ceilF rounding.ceilOf rounding.roundF rounding.quotientOf nanoseconds difference nanosecondsOf overDates
-    isValue earlier spanOf offsetOf asks.known asks.hasUnmap asks.hasIndex asks.hasPeriod asks.ends asks.inOrder
-    asks.excludable asks.nearOrLong asks.boldHint asks.lightHint asks.pixels asks.differ asks.unmapPixels asks.valueOn
-    asks.mappable asks.checked asks.answered mapping.scaleOf mapping.mapCoord mapping.placedBy mapping.placed mapping.mapped
-    count.monthly count.yearly count.weekly count.fromDay count.toDay count.firstDate count.dateOn count.origin
-    count.position count.sizeOf while mondays.mondaysFrom mondays.everyAfter mondays.leastFrom mondays.weeksPerPoint
-    mondays.mondaysOn mondays.weekKeyPoints dates.datesFrom dates.dateKeyPoints months.startOf months.carried
-    months.generateKeyPoints months.lastYear months.exp10From months.tryFreq months.freqOf months.generateYearlyKeypoints
-    months.totalMonth months.monthsFrom months.monthKeyPoints periods.exponentFrom periods.determineActualNsPerPoint
-    periods.daysFrom periods.periodFrom periods.computePeriodPerPoint times.plus times.periodOn times.alignedUp
-    times.dateTimesBy times.dateTimeKeyPoints times.aligned times.durationOf times.durationsBy times.durationKeyPoints
-    keyPoints monthlyLight lightKeyPoints keyPointsFor ticks.ticksOf ticks.ticksAnswer ticks.ticksWritten ticks.periodAnswer
-    index.isIndexed index.indexOf index.monthAt index.january index.weekAt index.valueAt index.indexAt index.indexUnder
-    discrete.indexIn discrete.nextIn discrete.previousIn discrete.valueIn discrete.sizeAnswer discrete.indexAnswer
-    discrete.fromIndexAnswer discrete.nextAnswer discrete.previousAnswer discrete.valuesAnswer discrete.valueUnder
-    discrete.unmapAnswer segments.segmentOn segments.segmentOf segments.segmentMappable segments.marginOf segments.inner
-    segments.segmentWorked segmented.segmentMapAnswer segmented.segmentSizeAnswer segmented.segmentIndexIn
-    segmented.segmentIndexAnswer segmented.segmentAt segmented.segmentFromAnswer segmented.segmentTicksAnswer
-    segmented.segmentTicksWritten
+    rounding.ceilF rounding.ceilOf rounding.roundF rounding.quotientOf nanoseconds difference nanosecondsOf overDates isValue
+    earlier spanOf offsetOf asks.known asks.hasUnmap asks.hasIndex asks.hasPeriod asks.ends asks.inOrder asks.excludable
+    asks.nearOrLong asks.boldHint asks.lightHint asks.pixels asks.differ asks.unmapPixels asks.valueOn asks.mappable
+    asks.checked asks.answered mapping.scaleOf mapping.mapCoord mapping.placed mapping.hairline
+    mapping.mapped exactAt lostAt isWhole lostIn count.monthly count.yearly count.weekly count.fromDay count.toDay
+    count.firstDate count.dateOn count.origin count.position count.sizeOf while mondays.mondaysFrom mondays.everyAfter
+    mondays.leastFrom mondays.weeksPerPoint mondays.mondaysOn mondays.weekKeyPoints dates.datesFrom dates.dateKeyPoints
+    months.startOf months.carried months.generateKeyPoints months.lastYear months.exp10From months.tryFreq months.freqOf
+    months.generateYearlyKeypoints months.totalMonth months.monthsFrom months.monthKeyPoints periods.exponentFrom
+    periods.determineActualNsPerPoint periods.daysFrom periods.periodFrom periods.computePeriodPerPoint times.plus
+    times.periodOn times.alignedUp times.dateTimesBy times.dateTimeKeyPoints times.aligned times.durationOf times.durationsBy
+    times.durationKeyPoints keyPoints monthlyLight lightKeyPoints keyPointsFor ticks.ticksOf ticks.ticksAnswer
+    ticks.ticksWritten ticks.periodAnswer index.isIndexed index.indexOf index.monthAt index.january index.weekAt
+    index.valueAt index.indexAt index.indexUnder discrete.indexIn discrete.nextIn discrete.previousIn discrete.valueIn
+    discrete.sizeAnswer discrete.indexAnswer discrete.fromIndexAnswer discrete.nextAnswer discrete.previousAnswer
+    discrete.valuesAnswer discrete.valueUnder discrete.unmapAnswer segments.segmentOn segments.segmentOf
+    segments.segmentMappable segments.marginOf segments.inner segments.segmentWorked segmented.segmentMapAnswer
+    segmented.segmentSizeAnswer segmented.segmentIndexIn segmented.segmentIndexAnswer segmented.segmentAt
+    segmented.segmentFromAnswer segmented.segmentTicksAnswer segmented.segmentTicksWritten
 ruled-out = ruled wrongTable refl

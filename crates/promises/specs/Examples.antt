@@ -33,6 +33,10 @@ countNumbers r = r .status ∷ (r .value ∷ [])
 abbrev pub pixelNumbers : OrderedPixel → List ℤ
 pixelNumbers r = r .status ∷ (r .pixel ∷ [])
 
+-- of a pixel and how it is drawn
+abbrev pub hairlineNumbers : OrderedPixel → List ℤ
+hairlineNumbers r = r .status ∷ (r .pixel ∷ (r .exact ∷ (r .lost ∷ [])))
+
 -- of a period
 abbrev pub periodNumbers : OrderedPeriod → List ℤ
 periodNumbers r = r .status ∷ (r .nanoseconds ∷ [])

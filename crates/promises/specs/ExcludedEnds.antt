@@ -1,7 +1,7 @@
 -- An end that is not in the span: what each operation answers of an excluded end, as an equation with the axis that ends a day
 -- earlier, or with the end as written. Over raw numbers, refused calls too. Definitions only.
 use mathlib.Core.Path.{_≡_}
-use mathlib.Core.Bool.{true, _&&_}
+use mathlib.Core.Bool.{true, false, _&&_}
 use mathlib.Core.List.{List, [], _∷_, _++_}
 use Prim.Native.Nat.{ℕ, _*_, _≤_, _<_}
 use lib.IntN.{ℤ, pos, natAbs, _-ℤ_}
@@ -18,7 +18,8 @@ use Rattle.axis.specs.declared.ValueAnswer.the-variants as value
 use Rattle.axis.specs.Axes.{axisOf, end, excluded}
 use Rattle.axis.specs.Questions.{hasIndex, hasUnmap, plainQuestions, axisQuestions}
 use Rattle.mapping.specs.declared.Pixel.the-variants as pixel
-use Rattle.mapping.specs.Mapping.{placed, mapped}
+use Rattle.mapping.specs.declared.Hairline.{Hairline}
+use Rattle.mapping.specs.Mapping.{hairline, mapped}
 use Rattle.mapping.specs.Days.{DayOf}
 use Rattle.counting.specs.Counting.{sizeOf}
 use Rattle.steps.specs.declared.Listed.the-variants as listed
@@ -75,19 +76,19 @@ ToWrittenEnd =
     ≡ asked (axisQuestions true (axisOf k sh st eh et x)) pixel.Refused (mapped (axisOf k sh st eh et (pos 0)) l v)
 
 -- ---- "segments' pixels mix both": margin and follower of the axis b that ends a day earlier, pixels of the axis w with its end
--- the centre of a segment that begins at a pixel, by the next value
-abbrev pub midway : Axis → Limits → ℤ → ℤ → ValueAnswer → Worked
+-- the centre of a segment that begins at a hairline, by the next value
+abbrev pub midway : Axis → Limits → ℤ → Hairline → ValueAnswer → Worked
 midway w inside margin left (value.At u) =
-    let c = between left (placed w inside u) in worked (c .pixel) (isDay (u .head) && c .fits)
+    let c = between left (hairline w inside u) in worked (c .hairline) (isDay (u .head) && c .fits)
 midway w inside margin left value.None = beside left margin
 midway w inside margin left (value.Refused q) = beside left margin
 
 -- the pixel of a segment value; the last is at the high limit
 abbrev pub mixed : Axis → Axis → Limits → SegmentValue → Worked
-mixed b w l (Exact v) = alone (placed w (inner (sizeOf b) l) v)
+mixed b w l (Exact v) = alone (hairline w (inner (sizeOf b) l) v)
 mixed b w l (CenterOf v) =
-    let inside = inner (sizeOf b) l in midway w inside (marginOf (sizeOf b) l) (placed w inside v) (nextIn b v)
-mixed b w l Last = worked (l .high) true
+    let inside = inner (sizeOf b) l in midway w inside (marginOf (sizeOf b) l) (hairline w inside v) (nextIn b v)
+mixed b w l Last = worked (record { pixel = l .high; exact = true; lost = false }) true
 
 -- of any six numbers that exclude the end
 abbrev pub SegmentsMix : Type 0
@@ -107,9 +108,9 @@ NoneFromEnd =
 -- end can share one; the claim is false, and 2,615 days are the fewest that show it
 abbrev pub AsManyPixels : Type 0
 AsManyPixels =
-    (a : Axis) (l : Limits) (i j p : ℤ) → excluded a ≡ true
+    (a : Axis) (l : Limits) (i j : ℤ) (p q : Hairline) → excluded a ≡ true
     → natAbs (a .«end_head» -ℤ a .«start_head») ≤ natAbs (l .high -ℤ l .low) → DayOf a i → DayOf a j
-    → mapped a l (midnight i) ≡ pixel.At p → mapped a l (midnight j) ≡ pixel.At p → i ≡ j
+    → mapped a l (midnight i) ≡ pixel.At p → mapped a l (midnight j) ≡ pixel.At q → p .pixel ≡ q .pixel → i ≡ j
 
 -- ---- rows
 -- an axis of dates to a day that is not in it

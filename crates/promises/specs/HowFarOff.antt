@@ -10,9 +10,11 @@ use Rattle.values.specs.Values.{overDates, overDateTimes, earlier}
 use Rattle.axis.specs.declared.Axis.{Axis}
 use Rattle.axis.specs.declared.Limits.{Limits}
 use Rattle.axis.specs.Axes.{start, end, spanOf, offsetOf}
+use Rattle.mapping.specs.declared.Hairline.{Hairline}
 use Rattle.mapping.specs.declared.Pixel.the-variants as pixel
-use Rattle.mapping.specs.Mapping.{mapped}
-use Rattle.mapping.specs.Position.{Inside, width, cutPosition, WholePosition, oneNearer, CutOrNearer, HowFarOff, answeredAt}
+use Rattle.mapping.specs.Hairlines.{hairlineAt}
+use Rattle.mapping.specs.Mapping.{mapped, answeredAt}
+use Rattle.mapping.specs.Position.{Inside, width, cutPosition, WholePosition, oneNearer, CutOrNearer, HowFarOff}
 use Rattle.ordered.specs.declared.OrderedPixel.{OrderedPixel}
 use Rattle.ordered.specs.Replies.{pixelReply}
 
@@ -23,11 +25,11 @@ OffOf a l v r = r .status ≡ pos 0 → HowFarOff a l v (r .pixel)
 -- mappings of the start, which answered x, and of the end, which answered y: "the end of an axis lands on the high limit or one
 -- short of it, and the start on the low limit exactly". Only the questions of the axis and the limits can refuse them
 pub record AtEnds (a : Axis) (l : Limits) (x y : OrderedPixel) : Type 0 where
-  pub at-start : x ≡ pixelReply (answeredAt a l (l .low))
+  pub at-start : x ≡ pixelReply (answeredAt a l (hairlineAt a l (start a) (l .low)))
   pub at-end :
       earlier (start a) (end a) ≡ true
-      → (y ≡ pixelReply (answeredAt a l (l .high)))
-      ⊎ (y ≡ pixelReply (answeredAt a l (l .low +ℤ oneNearer (width l))))
+      → (y ≡ pixelReply (answeredAt a l (hairlineAt a l (end a) (l .high))))
+      ⊎ (y ≡ pixelReply (answeredAt a l (hairlineAt a l (end a) (l .low +ℤ oneNearer (width l)))))
 
 -- of any axis, limits and value
 pub record Off (a : Axis) (l : Limits) (v : Value) : Type 0 where
@@ -38,8 +40,8 @@ pub record Off (a : Axis) (l : Limits) (v : Value) : Type 0 where
 -- something claimed of the pixel of every value of a span, on some kinds
 abbrev pub Claimed : (ℤ → Bool) → (Axis → Limits → Value → ℤ → Type 0) → Type 0
 Claimed kinds claim =
-    (a : Axis) (l : Limits) (v : Value) (p : ℤ)
-    → kinds (a .kind) ≡ true → Inside a v → mapped a l v ≡ pixel.At p → claim a l v p
+    (a : Axis) (l : Limits) (v : Value) (h : Hairline)
+    → kinds (a .kind) ≡ true → Inside a v → mapped a l v ≡ pixel.At h → claim a l v (h .pixel)
 
 -- it is the cut position
 abbrev pub AtCut : Axis → Limits → Value → ℤ → Type 0

@@ -7,4 +7,5 @@ pub mod Weeks
 pub mod ExcludedEnds
 pub mod OneList
 pub mod HowFarOff
+pub mod Hairlines
 pub mod WrongAnswers

@@ -14,6 +14,7 @@ use Rattle.axis.specs.declared.Hint.{Hint}
 use Rattle.axis.specs.declared.Limits.{Limits}
 use Rattle.axis.specs.declared.ValueAnswer.the-variants as value
 use Rattle.axis.specs.Axes.{start, spanOf}
+use Rattle.mapping.specs.declared.Hairline.{Hairline}
 use Rattle.mapping.specs.declared.Pixel.the-variants as pixel
 use Rattle.mapping.specs.Mapping.{mapped}
 use Rattle.mapping.specs.Position.{cutPosition}
@@ -25,8 +26,8 @@ use Rattle.discrete.specs.Answers.{unmapAnswer}
 -- 'Unmapping inverts mapping': where both answer, the value under a value's pixel is that value
 abbrev pub UnmapInverts : Type 0
 UnmapInverts =
-    (a : Axis) (l : Limits) (v w : Value) (p : ℤ)
-    → mapped a l v ≡ pixel.At p → unmapAnswer a l p ≡ value.At w → w ≡ v
+    (a : Axis) (l : Limits) (v w : Value) (h : Hairline)
+    → mapped a l v ≡ pixel.At h → unmapAnswer a l (h .pixel) ≡ value.At w → w ≡ v
 
 -- 'Ticks never precede start'
 abbrev pub NeverBefore : Type 0
@@ -41,5 +42,5 @@ exactPixel a l v = l .low +ℤ cutPosition a l v
 -- 'Float pixels equal the exact quotient cut', over dates and date-times that have a span
 abbrev pub AlwaysExact : Type 0
 AlwaysExact =
-    (a : Axis) (l : Limits) (v : Value) (p : ℤ) → isDuration (a .kind) ≡ false → pos 0 <ℤ spanOf a
-    → mapped a l v ≡ pixel.At p → p ≡ exactPixel a l v
+    (a : Axis) (l : Limits) (v : Value) (h : Hairline) → isDuration (a .kind) ≡ false → pos 0 <ℤ spanOf a
+    → mapped a l v ≡ pixel.At h → h .pixel ≡ exactPixel a l v

@@ -1,6 +1,6 @@
--- For each exported operation two wrong answers to one request, and for some of them two of weeks and of an excluded end. An
--- export's statement says that it answers what its definition does, so an answer that the definition does not give is ruled
--- out. Definitions only.
+-- For each exported operation two wrong answers to one request, and for some of them two of weeks, of an excluded end and of
+-- hairlines. An export's statement says that it answers what its definition does, so an answer that the definition does not give
+-- is ruled out. Definitions only.
 use mathlib.Core.Path.{_≡_}
 use mathlib.Core.List.{List, [], _∷_, _++_}
 use Prim.Native.Nat.{ℕ}
@@ -25,6 +25,8 @@ use Rattle.ordered.specs.Replies.{stepReply, segmentReply}
 use Rattle.promises.specs.Examples.{countNumbers, pixelNumbers, periodNumbers, valueNumbers, ymd, atNano}
 use Rattle.promises.specs.Examples.{axisFrom, boldOf, lightOf, limitsOf, centreAt, listedInto, sevens}
 use Rattle.promises.specs.ExcludedEnds.{before, segmentPixel}
+use Rattle.promises.specs.Hairlines as hairlines
+use Rattle.promises.specs.Hairlines.{fourOf}
 use Rattle.promises.specs.Weeks.{dayOfWeekDate, weekDateOfDay, weekNumbers}
 
 -- the numbers of a date
@@ -358,6 +360,61 @@ segment-excluded =
       other = pos 0 ∷ (pos 30 ∷ []);
     }
 
+-- ---- of hairlines: pixel, exact and lost
+-- ordered_map, an offset of -2^63 ns: not exact, as if its size had wrapped; something lost
+abbrev pub drawn-least-offset : Row
+drawn-least-offset =
+    record {
+      answer = hairlines.least-offset .answer;
+      wrong = fourOf (minus 2) (pos 0) (pos 0);
+      other = fourOf (minus 2) (pos 1) (pos 1);
+    }
+
+-- ordered_map, day 1808 of days 1 to 1808 between 0 and 3781: exact, since the position is whole; that position
+abbrev pub drawn-one-short : Row
+drawn-one-short =
+    record {
+      answer = hairlines.one-short .answer;
+      wrong = fourOf (pos 3780) (pos 1) (pos 0);
+      other = fourOf (pos 3781) (pos 1) (pos 0);
+    }
+
+-- ordered_segment_map, day 10 to day 10 between 0 and 7, its centre: exact, since start equals end; 7 / 2 rounded up
+abbrev pub drawn-centre : Row
+drawn-centre =
+    record {
+      answer = hairlines.halved-centre .answer;
+      wrong = fourOf (pos 3) (pos 1) (pos 0);
+      other = fourOf (pos 4) (pos 0) (pos 0);
+    }
+
+-- ordered_map, 0 whole days of span and W 0: exact, as 0 times anything; 9, as if start were the end
+abbrev pub drawn-zero-days : Row
+drawn-zero-days =
+    record {
+      answer = hairlines.zero-days .answer;
+      wrong = fourOf (pos 0) (pos 1) (pos 0);
+      other = pos 9 ∷ (pos 0 ∷ (pos 0 ∷ (pos 0 ∷ [])));
+    }
+
+-- ordered_map, an offset of 2^53 + 1 ns between 0 and 1: nothing lost; exact
+abbrev pub drawn-lost : Row
+drawn-lost =
+    record {
+      answer = hairlines.some-lost .answer;
+      wrong = fourOf (pos 104) (pos 0) (pos 0);
+      other = fourOf (pos 104) (pos 1) (pos 1);
+    }
+
+-- between 0 and 0: nothing lost, as if only a wrong pixel told it; not exact, as if what lost something could not be
+abbrev pub drawn-lost-exact : Row
+drawn-lost-exact =
+    record {
+      answer = hairlines.lost-exact .answer;
+      wrong = fourOf (pos 0) (pos 1) (pos 0);
+      other = fourOf (pos 0) (pos 0) (pos 1);
+    }
+
 -- ---- the wrongTable, and what is claimed of it: no row answers a wrong answer
 abbrev pub wrongTable : List Row
 wrongTable =
@@ -393,7 +450,13 @@ wrongTable =
     ∷ (period-excluded
     ∷ (order-excluded
     ∷ (segment-excluded
-    ∷ [])))))))))))))))))))))))))))))))
+    ∷ (drawn-least-offset
+    ∷ (drawn-one-short
+    ∷ (drawn-centre
+    ∷ (drawn-zero-days
+    ∷ (drawn-lost
+    ∷ (drawn-lost-exact
+    ∷ [])))))))))))))))))))))))))))))))))))))
 
 -- the answer is neither of the two
 abbrev pub RuledOut : Row → Type 0

@@ -1,6 +1,6 @@
 // Claims about what the calls of C hand back: functions that make the calls, and ensure the claim of their answers.
 // Demand 3 stands in specs/Demand.antt, one list for date-times and dates in specs/OneList.antt, how far a pixel may be off in
-// specs/HowFarOff.antt; theorems in proofs/.
+// specs/HowFarOff.antt, how it is drawn in specs/Hairlines.antt; theorems in proofs/.
 use axis::Axis;
 use axis::Hint;
 use ordered::OrderedNumber;
@@ -10,6 +10,7 @@ ghost use Rattle.axis.specs.Axes.{axisOf};
 ghost use Rattle.promises.specs.Demand.{FineList, FinePart, DaysApart};
 ghost use Rattle.promises.specs.OneList.{SameLists};
 ghost use Rattle.promises.specs.HowFarOff.{OffOf, AtEnds};
+ghost use Rattle.promises.specs.Hairlines.{DrawnOf, EndsDrawn};
 
 // What the mappings of two values answered.
 pub struct TwoPixels {
@@ -193,6 +194,8 @@ pub fn map_value(
     tail: i64,
 ) -> OrderedPixel
     ensures { λ r. ⌜ OffOf (axisOf kind «start_head» «start_tail» «end_head» «end_tail» «end_excluded»)
+        (record { low = low; high = high }) (record { head = head; tail = tail }) r
+        × DrawnOf (axisOf kind «start_head» «start_tail» «end_head» «end_tail» «end_excluded»)
         (record { low = low; high = high }) (record { head = head; tail = tail }) r ⌝ }
 {
     ordered::ordered_map(
@@ -221,6 +224,8 @@ pub fn map_ends(
     high: i64,
 ) -> TwoPixels
     ensures { λ r. ⌜ AtEnds (axisOf kind «start_head» «start_tail» «end_head» «end_tail» «end_excluded»)
+        (record { low = low; high = high }) (r .first) (r .second)
+        × EndsDrawn (axisOf kind «start_head» «start_tail» «end_head» «end_tail» «end_excluded»)
         (record { low = low; high = high }) (r .first) (r .second) ⌝ }
 {
     TwoPixels {

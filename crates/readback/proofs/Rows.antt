@@ -81,7 +81,7 @@ module _ {c : ℕ} (x : Apart c) where
       go false false = free-date n (x .below) (x .minus)
 
   free-mark : (p : Pixel) → Free c (markText p)
-  free-mark (At n) = free-signed n
+  free-mark (At h) = free-signed (h .pixel)
   free-mark (Refused q) = free-then (free-one (x .mark)) (free-decimal (x .below) q)
 
 -- ---- a row's fields

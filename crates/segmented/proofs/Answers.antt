@@ -112,12 +112,12 @@ module _ (a : Axis) (l : Limits) (s : Segment) where
 
   -- the questions 9 and 10 are left
   abbrev rest : Bool → Bool → Pixel
-  rest nine ten = unless (thenAsk (thenAsk 0 9 nine) 10 ten) pixel.Refused (pixel.At (found .pixel))
+  rest nine ten = unless (thenAsk (thenAsk 0 9 nine) 10 ten) pixel.Refused (pixel.At (found .hairline))
 
   in-parts : segmentMapAnswer a l s ≡ unless (firstNo (segmentValueQuestions a l s)) pixel.Refused
       (rest (segmentMappable a (segmentOf s)) (found .fits))
   unfolding segmentMapAnswer
-  in-parts = in-two pixel.Refused (pixel.At (found .pixel)) (segmentValueQuestions a l s)
+  in-parts = in-two pixel.Refused (pixel.At (found .hairline)) (segmentValueQuestions a l s)
       (ask 9 (segmentMappable a (segmentOf s)) ∷ (ask 10 (found .fits) ∷ []))
 
   pub map-refused : (q : ℕ) → q ≡ firstNo (segmentValueQuestions a l s) → (q ≡ 0 → ⊥) → pixel.Refused q ≡ segmentMapAnswer a l s

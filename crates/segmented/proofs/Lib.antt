@@ -1,3 +1,4 @@
 pub mod Answers
 pub mod Margins
 pub mod Pixels
+pub mod Drawn

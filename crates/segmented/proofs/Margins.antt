@@ -19,8 +19,9 @@ use Rattle.axis.specs.declared.Limits.{Limits}
 use Rattle.axis.specs.Questions.{isPixel, pixels}
 use Rattle.axis.proofs.Questions.{pixel-range}
 use Rattle.axis.proofs.PixelRanges.{limits-are, between-few}
-use Rattle.mapping.specs.Mapping.{scaleOf, LowOnPage}
-use Rattle.mapping.proofs.Ranges.{low-on-page}
+use Rattle.mapping.specs.declared.Scale.{Scale}
+use Rattle.mapping.specs.Mapping.{scaleOf, ScaleFor}
+use Rattle.mapping.proofs.Ranges.{scale-for}
 use Rattle.segmented.specs.Segments.{Some, marginOf, inner}
 
 -- no further than W, and to its side
@@ -84,6 +85,7 @@ module _ (size : ℕ) (l : Limits) (s : Some size) (p : pixels l ≡ true) where
       let e : isPixel z ≡ true = is-pixel z u d in
       rw (x, e)
 
--- the scale of a segmented axis begins on the page
-pub low-inner : (a : Axis) (size : ℕ) (l : Limits) → Some size → pixels l ≡ true → LowOnPage (scaleOf a (inner size l))
-low-inner a size l s p = low-on-page a (inner size l) (inner-pixels size l s p)
+-- the scale of a segmented axis, as the code has it
+pub inner-for : (a : Axis) (size : ℕ) (l : Limits) (s : Scale) → Some size → pixels l ≡ true → s ≡ scaleOf a (inner size l) →
+    ScaleFor a s
+inner-for a size l s some p e = scale-for a (inner size l) s e (inner-pixels size l some p)

@@ -20,9 +20,10 @@ use Rattle.axis.specs.declared.ValueAnswer.the-variants as value
 use Rattle.axis.specs.Axes.{closed}
 use Rattle.axis.specs.Questions.{fitsI32, checked}
 use Rattle.axis.proofs.Questions.{i32-range}
+use Rattle.mapping.specs.declared.Hairline.{Hairline}
 use Rattle.mapping.specs.declared.Pixel.{Pixel}
 use Rattle.mapping.specs.declared.Pixel.the-variants as pixel
-use Rattle.mapping.specs.Mapping.{placed}
+use Rattle.mapping.specs.Mapping.{hairline}
 use Rattle.counting.specs.Counting.{sizeOf}
 use Rattle.discrete.specs.Indices.{isIndexed, indexOf, valueAt}
 use Rattle.discrete.specs.Answers.{nextIn}
@@ -45,33 +46,37 @@ half-sum-fits x z p f =
     fits (x +ℤ half z) (posPart x + posPart (half z)) (negPart x + negPart (half z)) (omega (arith, add x (half z)))
     (omega arith) (omega arith)
 
-module _ (left right : ℤ) where
-  pub between-left : fitsI32 left ≡ false → pixel.Refused 10 ≡ pixelChecked (between left right)
+module _ (left right : Hairline) where
+  abbrev sum : ℤ
+  sum = left .pixel +ℤ right .pixel
+
+  pub between-left : fitsI32 (left .pixel) ≡ false → pixel.Refused 10 ≡ pixelChecked (between left right)
   between-left e = rw e
 
-  pub between-right : fitsI32 right ≡ false → pixel.Refused 10 ≡ pixelChecked (between left right)
-  between-right e = rw (e, and-false (fitsI32 left))
+  pub between-right : fitsI32 (right .pixel) ≡ false → pixel.Refused 10 ≡ pixelChecked (between left right)
+  between-right e = rw (e, and-false (fitsI32 (left .pixel)))
 
-  pub between-sum : fitsI32 (left +ℤ right) ≡ false → pixel.Refused 10 ≡ pixelChecked (between left right)
-  between-sum e = rw (e, and-false (fitsI32 right), and-false (fitsI32 left))
+  pub between-sum : fitsI32 sum ≡ false → pixel.Refused 10 ≡ pixelChecked (between left right)
+  between-sum e = rw (e, and-false (fitsI32 (right .pixel)), and-false (fitsI32 (left .pixel)))
 
-  pub between-is : fitsI32 left ≡ true → fitsI32 right ≡ true → fitsI32 (left +ℤ right) ≡ true →
-      pixel.At (half (left +ℤ right)) ≡ pixelChecked (between left right)
+  pub between-is : fitsI32 (left .pixel) ≡ true → fitsI32 (right .pixel) ≡ true → fitsI32 sum ≡ true →
+      pixel.At (between left right .hairline) ≡ pixelChecked (between left right)
   between-is e f g = rw (e, f, g)
 
-module _ (left margin : ℤ) where
-  pub beside-left : fitsI32 left ≡ false → pixel.Refused 10 ≡ pixelChecked (beside left margin)
+module _ (left : Hairline) (margin : ℤ) where
+  pub beside-left : fitsI32 (left .pixel) ≡ false → pixel.Refused 10 ≡ pixelChecked (beside left margin)
   beside-left e = rw e
 
-  pub beside-is : fitsI32 left ≡ true → pixelChecked (alone (left +ℤ half margin)) ≡ pixelChecked (beside left margin)
+  pub beside-is : fitsI32 (left .pixel) ≡ true →
+      pixelChecked (alone (beside left margin .hairline)) ≡ pixelChecked (beside left margin)
   beside-is e = rw e
 
 -- ---- the centre, by what the code learns of the next value
-module _ (a : Axis) (l : Limits) (left : ℤ) where
+module _ (a : Axis) (l : Limits) (left : Hairline) where
   abbrev pub onward : ValueAnswer → Pixel
   onward (value.Refused q) = pixel.Refused q
   onward value.None = pixelChecked (beside left (marginOf (segments a) l))
-  onward (value.At w) = pixelChecked (between left (placed a (inner (segments a) l) w))
+  onward (value.At w) = pixelChecked (between left (hairline a (inner (segments a) l) w))
 
   -- question 10 of the next value's date
   dated : (w : Value) (b : Bool) → isDay (w .head) ≡ b →

@@ -53,7 +53,9 @@ segmentKindQuestions a = ask 1 (known a) ∷ (ask 2 (hasIndex a) ∷ [])
 
 -- ---- the answers
 unfoldable pub segmentMapAnswer : Axis → Limits → Segment → Pixel
-segmentMapAnswer a l s = asked (segmentMapQuestions a l s) pixel.Refused (pixel.At (segmentWorked a l (segmentOf s) .pixel))
+segmentMapAnswer a l s =
+    asked (segmentMapQuestions a l s) pixel.Refused
+    (pixel.At (segmentWorked a l (segmentOf s) .hairline))
 
 -- one more than the axis has: the last end
 unfoldable pub segmentSizeAnswer : Axis → NumberAnswer

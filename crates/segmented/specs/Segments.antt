@@ -3,12 +3,12 @@
 -- An excluded end has no segment: the limits part the size without it, and the next value is one before it. But a value is
 -- mapped to the end as written, so that a part stays blank before the last end.
 use mathlib.Core.Path.{_≡_}
-use mathlib.Core.Bool.{Bool, true, cond, _&&_, _||_}
+use mathlib.Core.Bool.{Bool, true, false, cond, _&&_, _||_}
 use mathlib.Core.List.{[], _∷_}
 use Prim.Native.Nat.{ℕ, _≤_, _<_}
 use lib.Dec.{ltb}
 use lib.IntN.{ℤ, pos, _+ℤ_, _-ℤ_}
-use lib.Signed.{quotZ}
+use lib.Signed.{quotZ, remZ}
 use lib.Ieee.{binary32, ofInt, div, toSigned}
 use Rattle.laws.specs.Asking.{ask, asked}
 use Rattle.laws.specs.Numbers.{within, isNumber}
@@ -19,9 +19,10 @@ use Rattle.axis.specs.declared.Axis.{Axis}
 use Rattle.axis.specs.declared.Limits.{Limits}
 use Rattle.axis.specs.Axes.{closed}
 use Rattle.axis.specs.Questions.{ends, valueOn, mappable, fitsI32}
+use Rattle.mapping.specs.declared.Hairline.{Hairline}
 use Rattle.mapping.specs.declared.Pixel.{Pixel}
 use Rattle.mapping.specs.declared.Pixel.the-variants as pixel
-use Rattle.mapping.specs.Mapping.{placed}
+use Rattle.mapping.specs.Mapping.{hairline}
 use Rattle.axis.specs.declared.ValueAnswer.{ValueAnswer}
 use Rattle.axis.specs.declared.ValueAnswer.the-variants as value
 use Rattle.counting.specs.Counting.{Dated, sizeOf}
@@ -84,40 +85,49 @@ inner size l = record { low = l .low; high = l .high -ℤ marginOf size l }
 abbrev pub half : ℤ → ℤ
 half z = quotZ z (pos 2)
 
--- a pixel, and whether each mapping and sum used for it fits i32 and each date mapped on the way is in the calendar
+-- "the halving leaves nothing"
+abbrev pub even : ℤ → Bool
+even z = isNumber (remZ z (pos 2)) 0
+
+-- a hairline, and whether each mapping and sum used for it fits i32 and each date mapped on the way is in the calendar
 pub record Worked : Type 0 where
-  pub pixel : ℤ
+  pub hairline : Hairline
   pub fits : Bool
 
 -- the two together
-abbrev pub worked : ℤ → Bool → Worked
-worked p b = record { pixel = p; fits = b }
+abbrev pub worked : Hairline → Bool → Worked
+worked h b = record { hairline = h; fits = b }
 
 -- an exact value
-abbrev pub alone : ℤ → Worked
-alone p = worked p (fitsI32 p)
+abbrev pub alone : Hairline → Worked
+alone h = worked h (fitsI32 (h .pixel))
 
--- midway to the next value
-abbrev pub between : ℤ → ℤ → Worked
-between left right = worked (half (left +ℤ right)) (fitsI32 left && (fitsI32 right && fitsI32 (left +ℤ right)))
+-- midway to the next value: exact "just when each mapping it uses" is "and the halving leaves nothing"
+abbrev pub between : Hairline → Hairline → Worked
+between left right =
+    let sum = left .pixel +ℤ right .pixel in
+    worked (record { pixel = half sum; exact = (left .exact && right .exact) && even sum; lost = left .lost || right .lost })
+    (fitsI32 (left .pixel) && (fitsI32 (right .pixel) && fitsI32 sum))
 
 -- half a segment on, where there is no next value
-abbrev pub beside : ℤ → ℤ → Worked
-beside left margin = worked (left +ℤ half margin) (fitsI32 left && fitsI32 (left +ℤ half margin))
+abbrev pub beside : Hairline → ℤ → Worked
+beside left margin =
+    let p = left .pixel +ℤ half margin in
+    worked (record { pixel = p; exact = left .exact && even margin; lost = left .lost }) (fitsI32 (left .pixel) && fitsI32 p)
 
--- the centre of a segment that begins at a pixel, by the next value
-abbrev pub centred : Axis → Limits → ℤ → ValueAnswer → Worked
+-- the centre of a segment that begins at a hairline, by the next value
+abbrev pub centred : Axis → Limits → Hairline → ValueAnswer → Worked
 centred a l left (value.At w) =
-    let c = between left (placed a (inner (segments a) l) w) in worked (c .pixel) (isDay (w .head) && c .fits)
+    let c = between left (hairline a (inner (segments a) l) w) in worked (c .hairline) (isDay (w .head) && c .fits)
 centred a l left value.None = beside left (marginOf (segments a) l)
 centred a l left (value.Refused q) = beside left (marginOf (segments a) l)
 
 -- the pixel of a segment value
 unfoldable pub segmentWorked : Axis → Limits → SegmentValue → Worked
-segmentWorked a l (Exact v) = alone (placed a (inner (segments a) l) v)
-segmentWorked a l (CenterOf v) = centred a l (placed a (inner (segments a) l) v) (nextIn (closed a) v)
-segmentWorked a l Last = worked (l .high) true
+segmentWorked a l (Exact v) = alone (hairline a (inner (segments a) l) v)
+segmentWorked a l (CenterOf v) = centred a l (hairline a (inner (segments a) l) v) (nextIn (closed a) v)
+segmentWorked a l Last = worked (record { pixel = l .high; exact = true; lost = false }) true
 
 -- question 10 alone, as the code asks it
 abbrev pub pixelChecked : Worked → Pixel
-pixelChecked w = asked (ask 10 (w .fits) ∷ []) pixel.Refused (pixel.At (w .pixel))
+pixelChecked w = asked (ask 10 (w .fits) ∷ []) pixel.Refused (pixel.At (w .hairline))

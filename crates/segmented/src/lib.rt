@@ -5,6 +5,7 @@ use axis::Hint;
 use axis::Limits;
 use axis::ValueAnswer;
 use discrete::NumberAnswer;
+use mapping::Hairline;
 use mapping::Pixel;
 use mapping::Scale;
 use steps::Listed;
@@ -19,7 +20,7 @@ ghost use Rattle.axis.specs.Questions.{ends, pixels, valueOn};
 ghost use Rattle.mapping.specs.Mapping.{scaleOf};
 ghost use Rattle.counting.specs.Counting.{Dated};
 ghost use Rattle.segmented.specs.Segments.{segmentOn, SegmentOn, segmentOf, segments, segmentMappable, Some};
-ghost use Rattle.segmented.specs.Segments.{Countable, marginOf, inner, half};
+ghost use Rattle.segmented.specs.Segments.{Countable, marginOf, inner, half, even};
 ghost use Rattle.segmented.specs.Segments.{alone, between, beside, segmentWorked, pixelChecked};
 ghost use Rattle.segmented.specs.Answers.{segmentQuestions, segmentValueQuestions, segmentKindQuestions};
 ghost use Rattle.segmented.specs.Answers.{segmentMapAnswer, segmentSizeAnswer, segmentIndexIn, segmentIndexAnswer};
@@ -99,6 +100,14 @@ fn half(z: i64) -> i64
     ensures { λ r. ⌜ r ≡ half z ⌝ }
 {
     z / 2
+}
+
+// Does a half leave nothing?
+fn even(z: i64) -> bool
+    ensures { λ r. ⌜ r ≡ even z ⌝ }
+{
+    let left = z % 2;
+    (0 <= left) & (left <= 0)
 }
 
 fn segment_refusal(a: Axis, s: Segment) -> u8
@@ -192,40 +201,48 @@ fn segment_mappable(a: Axis, size: u64, v: SegmentValue) -> bool
 }
 
 // Question 10 of one mapping.
-fn alone(p: i64) -> Pixel
-    ensures { λ r. ⌜ r ≡ pixelChecked (alone p) ⌝ }
+fn alone(h: Hairline) -> Pixel
+    ensures { λ r. ⌜ r ≡ pixelChecked (alone h) ⌝ }
 {
-    if !axis::fits_i32(p) {
+    if !axis::fits_i32(h.pixel) {
         return Pixel::Refused(10);
     }
-    Pixel::At(p)
+    Pixel::At(h)
 }
 
 // Midway to the next value.
-fn between(left: i64, right: i64) -> Pixel
+fn between(left: Hairline, right: Hairline) -> Pixel
     ensures { λ r. ⌜ r ≡ pixelChecked (between left right) ⌝ }
 {
-    if !axis::fits_i32(left) {
+    if !axis::fits_i32(left.pixel) {
         return Pixel::Refused(10);
     }
-    if !axis::fits_i32(right) {
+    if !axis::fits_i32(right.pixel) {
         return Pixel::Refused(10);
     }
-    let sum = left + right;
+    let sum = left.pixel + right.pixel;
     if !axis::fits_i32(sum) {
         return Pixel::Refused(10);
     }
-    Pixel::At(half(sum))
+    Pixel::At(Hairline {
+        pixel: half(sum),
+        exact: left.exact & right.exact & even(sum),
+        lost: left.lost | right.lost,
+    })
 }
 
 // Half a segment on.
-fn beside(left: i64, margin: i64) -> Pixel
+fn beside(left: Hairline, margin: i64) -> Pixel
     ensures { λ r. ⌜ r ≡ pixelChecked (beside left margin) ⌝ }
 {
-    if !axis::fits_i32(left) {
+    if !axis::fits_i32(left.pixel) {
         return Pixel::Refused(10);
     }
-    alone(left + half(margin))
+    alone(Hairline {
+        pixel: left.pixel + half(margin),
+        exact: left.exact & even(margin),
+        lost: left.lost,
+    })
 }
 
 // The scale of all values of a segmented axis.
@@ -258,7 +275,11 @@ fn segment_pixel(a: Axis, size: u64, l: Limits, v: SegmentValue) -> Pixel
     match v {
         SegmentValue::Exact(w) => alone(mapping::pixel_by(inner_scale(a, size, l), a, w)),
         SegmentValue::CenterOf(w) => centre(a, size, l, w),
-        SegmentValue::Last => Pixel::At(l.high),
+        SegmentValue::Last => Pixel::At(Hairline {
+            pixel: l.high,
+            exact: true,
+            lost: false,
+        }),
     }
 }
 

@@ -21,7 +21,7 @@ tickText shown kind v =
 
 -- the pixel, or '!' and the refusal's number
 abbrev pub markText : Pixel → List ℕ
-markText (At n) = signedText n
+markText (At h) = signedText (h .pixel)
 markText (Refused q) = (exclamation ∷ []) ++ decimalText q
 
 -- number, space, tick, space, mark, LF

@@ -209,7 +209,7 @@ fn mark(out: &mut [u8], at: usize, p: Pixel) -> usize
     ensures { λ r. ⌜ (r ≤ at + 21) × (length (now (out .exit)) ≡ length (now (out .entry))) ⌝ }
 {
     match p {
-        Pixel::At(n) => signed(out, at, n),
+        Pixel::At(h) => signed(out, at, h.pixel),
         Pixel::Refused(q) => {
             let b = byte(out, at, b'!');
             decimal(out, b, q as u64)

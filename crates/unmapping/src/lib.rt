@@ -134,7 +134,8 @@ fn by_days(day: u64, nano: u64, o: Offset, span: i64) -> ValueAnswer
         (pos (day * perDay + nano) +ℤ byDays span (o .width) (o .pixels) *ℤ pos perDay) ⌝ }
 {
     let n = floats::to_i64(
-        floats::from_i64(o.pixels) * floats::from_i64(span) / floats::from_i64(o.width),
+        floats::from_i64(o.pixels).value * floats::from_i64(span).value
+            / floats::from_i64(o.width).value,
     );
     days_away(day, nano, n < 0, floats::unsigned_abs(n))
 }

@@ -62,6 +62,14 @@ near h t _ _ _ second a b c d =
     let y = lt-true (negsuc 9223372035) h d in
     (product h t 1000000000 (omega arith) (omega arith), joint-fits h t 1000000000 (omega arith) (omega arith))
 
+-- fewer than the days of the ends are fewer than those of either unit
+pub fewer-near : (h t u : ℤ) (m l : Value) → HeadUnit u m l → posPart t < posPart u → negPart t < posPart u →
+    ltZ h (pos 106751) ≡ true → ltZ (negsuc 106750) h ≡ true → SFits w64 (h *ℤ u) × SFits w64 (h *ℤ u +ℤ t)
+fewer-near h t u m l day a b c d = near h t u m l day a b c d
+fewer-near h t u m l second a b c d = near h t u m l second a b
+    (is-lt h (pos 9223372036) (omega (arith, lt-true h (pos 106751) c)))
+    (is-lt (negsuc 9223372035) h (omega (arith, lt-true (negsuc 106750) h d)))
+
 -- ---- the order of two numbers: by their heads, then by their tails
 -- a is before b, or, where s is 0, not after it
 abbrev pub Before : Value → Value → ℕ → Type 0

@@ -136,7 +136,7 @@ fn far(p: Parts) -> Nanoseconds
 }
 
 // The same, quicker where there are fewer heads than in the ends: these fit with any tails.
-fn joined(p: Parts) -> Nanoseconds
+fn within(p: Parts) -> Nanoseconds
     requires { ⌜ Bounded p ⌝ }
     ensures { λ r. ⌜ r ≡ nanosecondsOf (sum p) ⌝ }
 {
@@ -147,6 +147,21 @@ fn joined(p: Parts) -> Nanoseconds
         };
     }
     far(p)
+}
+
+// The same, quicker still where the heads are fewer than the days of the ends, as those of most charts are: they fit in either
+// unit.
+fn joined(p: Parts) -> Nanoseconds
+    requires { ⌜ Bounded p ⌝ }
+    ensures { λ r. ⌜ r ≡ nanosecondsOf (sum p) ⌝ }
+{
+    if (p.heads < 106751) && (-106751 < p.heads) {
+        return Nanoseconds {
+            fits: true,
+            value: p.heads * p.unit + p.tails,
+        };
+    }
+    within(p)
 }
 
 // The whole heads, cut toward zero.

@@ -1,12 +1,12 @@
 -- `mapping::map` meets its contract: the questions of axis and limits, and then a scale. Assumes nothing.
 use borrow.Author.Needs.{needs}
-use mathlib.Core.Path.{_≡_, sym, _∙_, ap, subst}
+use mathlib.Core.Path.{_≡_, sym, _∙_, ap}
 use Rattle.laws.specs.Asking.{firstNo}
 use Rattle.laws.proofs.Asked.{told}
-use Rattle.mapping.specs.declared.Scale.{Scale}
-use Rattle.mapping.specs.Mapping.{LowOnPage, scaleQuestions, mappedBy}
+use Rattle.axis.specs.declared.Limits.{Limits}
+use Rattle.mapping.specs.Mapping.{scaleQuestions, mappedBy}
 use Rattle.mapping.proofs.Answers.{refused, by-scale}
-use Rattle.mapping.proofs.Ranges.{low-on-page}
+use Rattle.mapping.proofs.Ranges.{limits-of, scale-for}
 use Rattle.mapping.proofs.map.Statement.{statement}
 use Rattle.mapping.proofs.map.Tie as tie
 
@@ -29,17 +29,16 @@ map-by-requires : tie.Need-map-by-requires
 map-by-requires c κs =
     let e = c .before in
     let x = e .before .before .args in
-    let row = scaleQuestions (x .a) (x .l) in (
-      subst (λ (s : Scale). LowOnPage s) (sym (c .scale-of .ensures)) (low-on-page (x .a) (x .l) (told 7 row tt (none e))),
-      told 3 row tt (none e),
-    )
+    let row = scaleQuestions (x .a) (x .l) in
+    (scale-for (x .a) (x .l) (c .scale-of .result) (c .scale-of .ensures) (told 7 row tt (none e)), told 3 row tt (none e))
 
 returns-2 : tie.Need-returns-2
 returns-2 c =
     let s = c .before in
     let x = s .before .before .before .args in
     c .map-by .ensures
-    ∙ (ap (λ (y : Scale). mappedBy y (x .a) (x .v)) (s .scale-of .ensures) ∙ by-scale (x .a) (x .l) (x .v) (none (s .before)))
+    ∙ (ap (λ (y : Limits). mappedBy (x .a) y (x .v)) (limits-of (x .a) (x .l) (s .scale-of .result) (s .scale-of .ensures))
+    ∙ by-scale (x .a) (x .l) (x .v) (none (s .before)))
 
 pub map-spec : {M : Type 1} → statement M
 map-spec =

@@ -8,8 +8,9 @@ use mir.Facts.{toZ-ofZ}
 use Rattle.laws.specs.Asking.{ask, firstNo, unless}
 use Rattle.laws.proofs.Asked.{told, refused-before, last-asked}
 use Rattle.axis.specs.Questions.{fitsI32}
+use Rattle.mapping.specs.declared.Hairline.{Hairline}
 use Rattle.mapping.specs.declared.Pixel.the-variants.{Refused, At}
-use Rattle.mapping.specs.Mapping.{mapValueQuestions, placedBy, mappedBy}
+use Rattle.mapping.specs.Mapping.{limitsOf, mapValueQuestions, placed, hairline, mappedBy}
 use Rattle.mapping.proofs.map_by.Statement.{statement}
 use Rattle.mapping.proofs.map_by.Tie as tie
 
@@ -18,8 +19,9 @@ unfolding mappedBy
 returns c =
     let r = c .before in
     let x = r .before .args in
-    let p = placedBy (x .s) (x .a) (x .v) in
-    refused-before Refused (At p) (mapValueQuestions (x .a) (x .v)) (ask 10 (fitsI32 p)) (r .map-value-refusal .result)
+    let l = limitsOf (x .s) in
+    refused-before Refused (At (hairline (x .a) l (x .v))) (mapValueQuestions (x .a) (x .v))
+    (ask 10 (fitsI32 (placed (x .a) l (x .v)))) (r .map-value-refusal .result)
     (r .map-value-refusal .ensures) (c .if1 .taken)
 
 none : (c : tie.Else1) → firstNo (mapValueQuestions (c .before .before .args .a) (c .before .before .args .v)) ≡ 0
@@ -32,26 +34,29 @@ pixel-by-requires c κs =
 
 -- the pixel that was worked out
 worked : (c : tie.After-pixel-by) → let x = c .before .before .before .args in
-    toZ w64 (ofZ w64 (c .pixel-by .result)) ≡ placedBy (x .s) (x .a) (x .v)
-worked c = toZ-ofZ {w = w64} {z = c .pixel-by .result} (search needs) ∙ c .pixel-by .ensures
+    toZ w64 (ofZ w64 (c .pixel-by .result .pixel)) ≡ placed (x .a) (limitsOf (x .s)) (x .v)
+unfolding hairline
+worked c = toZ-ofZ {w = w64} {z = c .pixel-by .result .pixel} (search needs)
+    ∙ ap (λ (h : Hairline). h .pixel) (c .pixel-by .ensures)
 
-fits : (c : tie.After-fits-i32) → let x = c .before .before .before .before .args in
-    c .fits-i32 .result ≡ fitsI32 (placedBy (x .s) (x .a) (x .v))
-fits c = rw (worked (c .before)) at (c .fits-i32 .ensures)
+fits : (c : tie.After-fits-i32) → let x = c .before .before .before .before .before .args in
+    c .fits-i32 .result ≡ fitsI32 (placed (x .a) (limitsOf (x .s)) (x .v))
+fits c = c .fits-i32 .ensures ∙ ap fitsI32 (worked (c .before .before))
 
 -- only question 10 is left
-left : (c : tie.After-fits-i32) (b : Bool) → c .fits-i32 .result ≡ b → let x = c .before .before .before .before .args in
-    unless (cond b 0 10) Refused (At (placedBy (x .s) (x .a) (x .v))) ≡ mappedBy (x .s) (x .a) (x .v)
+left : (c : tie.After-fits-i32) (b : Bool) → c .fits-i32 .result ≡ b → let x = c .before .before .before .before .before .args in
+    unless (cond b 0 10) Refused (At (hairline (x .a) (limitsOf (x .s)) (x .v))) ≡ mappedBy (x .a) (limitsOf (x .s)) (x .v)
 unfolding mappedBy
 left c b e =
-    let l = c .before .before in
-    let x = l .before .before .args in
-    let p = placedBy (x .s) (x .a) (x .v) in
-    sym (last-asked Refused (At p) (mapValueQuestions (x .a) (x .v)) (ask 10 (fitsI32 p)) (none l)
-    ∙ ap (λ (t : Bool). unless (cond t 0 10) Refused (At p)) (sym (fits c) ∙ e))
+    let n = c .before .before .before in
+    let x = n .before .before .args in
+    let l = limitsOf (x .s) in
+    let h = hairline (x .a) l (x .v) in
+    sym (last-asked Refused (At h) (mapValueQuestions (x .a) (x .v)) (ask 10 (fitsI32 (placed (x .a) l (x .v)))) (none n)
+    ∙ ap (λ (t : Bool). unless (cond t 0 10) Refused (At h)) (sym (fits c) ∙ e))
 
 returns-2 : tie.Need-returns-2
-returns-2 c = rw (worked (c .before .before)) (left (c .before) _ (c .if2 .taken))
+returns-2 c = let k = c .before in ap At (k .before .before .pixel-by .ensures) ∙ left k _ (c .if2 .taken)
 
 returns-3 : tie.Need-returns-3
 returns-3 c = left (c .before) _ (c .if2 .left)

@@ -1,11 +1,11 @@
 -- `mapping::map_ready` meets its contract. Assumes nothing.
-use mathlib.Core.Path.{_≡_, sym, _∙_, ap, subst}
+use mathlib.Core.Path.{_≡_, sym, _∙_, ap}
 use Rattle.laws.specs.Asking.{firstNo}
 use Rattle.laws.proofs.Asked.{told}
-use Rattle.mapping.specs.declared.Scale.{Scale}
-use Rattle.mapping.specs.Mapping.{LowOnPage, scaleQuestions, mappedBy}
+use Rattle.axis.specs.declared.Limits.{Limits}
+use Rattle.mapping.specs.Mapping.{scaleQuestions, mappedBy}
 use Rattle.mapping.proofs.Answers.{refused, by-scale}
-use Rattle.mapping.proofs.Ranges.{low-on-page}
+use Rattle.mapping.proofs.Ranges.{limits-of, scale-for}
 use Rattle.mapping.proofs.map_ready.Statement.{statement}
 use Rattle.mapping.proofs.map_ready.Tie as tie
 
@@ -23,11 +23,8 @@ map-by-requires c κs =
     let e = c .before in
     let s = e .before .before in
     let x = s .args in
-    let row = scaleQuestions (x .a) (x .l) in (
-      subst (λ (y : Scale). LowOnPage y) (sym (s .pre .scale (e .if1 .left)))
-          (low-on-page (x .a) (x .l) (told 7 row tt (none e))),
-      told 3 row tt (none e),
-    )
+    let row = scaleQuestions (x .a) (x .l) in
+    (scale-for (x .a) (x .l) (x .m .scale) (s .pre .scale (e .if1 .left)) (told 7 row tt (none e)), told 3 row tt (none e))
 
 returns-2 : tie.Need-returns-2
 returns-2 c =
@@ -35,7 +32,8 @@ returns-2 c =
     let s = e .before .before in
     let x = s .args in
     c .map-by .ensures
-    ∙ (ap (λ (y : Scale). mappedBy y (x .a) (x .v)) (s .pre .scale (e .if1 .left)) ∙ by-scale (x .a) (x .l) (x .v) (none e))
+    ∙ (ap (λ (y : Limits). mappedBy (x .a) y (x .v)) (limits-of (x .a) (x .l) (x .m .scale) (s .pre .scale (e .if1 .left)))
+    ∙ by-scale (x .a) (x .l) (x .v) (none e))
 
 pub map-ready-spec : {M : Type 1} → statement M
 map-ready-spec = tie.close (tie.spec returns map-by-requires returns-2)

@@ -10,9 +10,10 @@ use Rattle.mapping.proofs.quotient.Tie as tie
 returns : tie.Need-returns
 unfolding quotientOf
 returns c =
-    let s = c .before in
-    ap (λ (f : Float). div binary64 (mul binary64 (s .args .width) f) (s .args .total))
-    (c .from-i64 .ensures ∙ ap (ofInt binary64) (toZ-ofZ (s .fits .offset)))
+    let f = c .before in
+    let s = f .before in
+    ap (λ (x : Float). div binary64 (mul binary64 (s .args .width) x) (s .args .total))
+    (f .from-i64 .ensures .0 ∙ ap (ofInt binary64) (toZ-ofZ (s .fits .offset)))
 
 pub quotient-spec : {M : Type 1} → statement M
 quotient-spec = tie.close (tie.spec (λ c κs. search needs) returns)

@@ -2,50 +2,47 @@
 use borrow.Author.Needs.{needs}
 use mathlib.Core.Path.{_≡_, sym, _∙_, ap}
 use Prim.Native.Nat.{ℕ}
-use lib.IntN.{ℤ}
 use mir.Syntax.{w64}
-use mir.Val.{toZ, ofZ}
 use mir.Facts.{toZ-ofZ}
 use Rattle.axis.specs.declared.Axis.{Axis}
+use Rattle.axis.specs.declared.Limits.{Limits}
 use Rattle.axis.specs.declared.ValueAnswer.{ValueAnswer}
 use Rattle.axis.specs.Axes.{closed}
 use Rattle.axis.specs.Questions.{checked}
-use Rattle.mapping.specs.declared.Scale.{Scale}
-use Rattle.mapping.specs.Mapping.{scaleOf, LowOnPage, placedBy, placed}
+use Rattle.mapping.specs.declared.Hairline.{Hairline}
+use Rattle.mapping.specs.Mapping.{limitsOf, ScaleFor, hairline}
+use Rattle.mapping.proofs.Ranges.{limits-of}
 use Rattle.counting.proofs.Counting.{value-on}
 use Rattle.discrete.specs.Answers.{nextIn}
 use Rattle.discrete.proofs.Laws.{next-on}
 use Rattle.segmented.specs.declared.SegmentValue.the-variants.{CenterOf}
 use Rattle.segmented.specs.Segments.{segments, marginOf, inner, beside, between, segmentWorked, pixelChecked}
-use Rattle.segmented.proofs.Margins.{low-inner}
+use Rattle.segmented.proofs.Margins.{inner-for}
 use Rattle.segmented.proofs.Pixels.{onward, centre-is}
 use Rattle.segmented.proofs.centre.Statement.{statement}
 use Rattle.segmented.proofs.centre.Tie as tie
 
--- the scale is that of the definition
-scale-is : (c : tie.After-inner-scale) → let x = c .before .args in
-    c .inner-scale .result ≡ scaleOf (x .a) (inner (segments (x .a)) (x .l))
-scale-is c = let s = c .before in
-    c .inner-scale .ensures ∙ ap (λ (n : ℕ). scaleOf (s .args .a) (inner n (s .args .l))) (s .pre .4)
+-- the scale and its limits are those of the definition
+scaled : (c : tie.After-inner-scale) → ScaleFor (c .before .args .a) (c .inner-scale .result)
+scaled c = let s = c .before in
+    inner-for (s .args .a) (s .args .size) (s .args .l) (c .inner-scale .result) (s .pre .2) (s .pre .1) (c .inner-scale .ensures)
 
-on-page : (c : tie.After-inner-scale) → LowOnPage (c .inner-scale .result)
-on-page c = let s = c .before in
-    rw (c .inner-scale .ensures) (low-inner (s .args .a) (s .args .size) (s .args .l) (s .pre .2) (s .pre .1))
+limits-is : (c : tie.After-inner-scale) → let x = c .before .args in
+    limitsOf (c .inner-scale .result) ≡ inner (segments (x .a)) (x .l)
+limits-is c = let s = c .before in
+    limits-of (s .args .a) (inner (s .args .size) (s .args .l)) (c .inner-scale .result) (c .inner-scale .ensures)
+    ∙ ap (λ (n : ℕ). inner n (s .args .l)) (s .pre .4)
 
 pixel-by-requires : tie.Need-pixel-by-requires
-pixel-by-requires c κs = let s = c .before in (on-page c, s .pre .0 .real, s .pre .3)
+pixel-by-requires c κs = let s = c .before in (scaled c, s .pre .0 .real, s .pre .3)
 
-abbrev left : tie.Start → ℤ
-left s = placed (s .args .a) (inner (segments (s .args .a)) (s .args .l)) (s .args .v)
+abbrev left : tie.Start → Hairline
+left s = hairline (s .args .a) (inner (segments (s .args .a)) (s .args .l)) (s .args .v)
 
 -- the pixel of v
-left-is : (c : tie.After-pixel-by) → toZ w64 (ofZ w64 (c .pixel-by .result)) ≡ left (c .before .before)
-unfolding placed
-left-is c =
-    let x = c .before .before .args in
-    toZ-ofZ {w = w64} {z = c .pixel-by .result} (search needs)
-    ∙ c .pixel-by .ensures
-    ∙ ap (λ (y : Scale). placedBy y (x .a) (x .v)) (scale-is (c .before))
+left-is : (c : tie.After-pixel-by) → c .pixel-by .result ≡ left (c .before .before)
+left-is c = let x = c .before .before .args in
+    c .pixel-by .ensures ∙ ap (λ (y : Limits). hairline (x .a) y (x .v)) (limits-is (c .before))
 
 closed-requires : tie.Need-closed-requires
 closed-requires c κs = c .before .before .pre .0 .real
@@ -66,7 +63,7 @@ pixel-by-requires-2 c κs =
     let i = n .before .before .before in
     let s = i .before in
     let w = k .w .given .0 .0 in (
-      on-page i,
+      scaled i,
       s .pre .0 .real,
       sym (value-on (s .args .a) w)
           ∙ next-on (closed (s .args .a)) (s .args .v) w (s .pre .0 .counted) (sym (next-is n) ∙ k .w .given .1),
@@ -97,17 +94,14 @@ returns-2 c =
     ∙ by n _ (k .enum-told .given .1)
 
 returns-3 : tie.Need-returns-3
-unfolding placed
 returns-3 c =
     let m = c .before in
     let k = m .before .before in
     let n = k .before .before in
     let i = n .before .before .before in
     let x = i .before .args in
-    let right : toZ w64 (ofZ w64 (m .pixel-by2 .result)) ≡ placed (x .a) (inner (segments (x .a)) (x .l)) (k .w .given .0 .0) =
-    toZ-ofZ {w = w64} {z = m .pixel-by2 .result} (search needs)
-    ∙ m .pixel-by2 .ensures
-    ∙ ap (λ (y : Scale). placedBy y (x .a) (k .w .given .0 .0)) (scale-is i) in
+    let right : m .pixel-by2 .result ≡ hairline (x .a) (inner (segments (x .a)) (x .l)) (k .w .given .0 .0) =
+    m .pixel-by2 .ensures ∙ ap (λ (y : Limits). hairline (x .a) y (k .w .given .0 .0)) (limits-is i) in
     c .between .ensures
     ∙ (λ j. pixelChecked (between (left-is (n .before .before) j) (right j)))
     ∙ by n _ (k .w .given .1)

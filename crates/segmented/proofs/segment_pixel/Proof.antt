@@ -1,17 +1,20 @@
 -- `segmented::segment_pixel` meets its contract. Assumes nothing.
 use borrow.Author.Needs.{needs}
 use mathlib.Core.Path.{sym, _∙_, ap, subst}
+use mathlib.Core.Bool.{true, false}
 use Prim.Native.Nat.{ℕ}
 use lib.IntN.{ℤ}
 use mir.Syntax.{w64}
 use mir.Val.{SFits}
 use mir.Facts.{toZ-ofZ}
+use Rattle.axis.specs.declared.Limits.{Limits}
 use Rattle.mapping.specs.declared.Pixel.the-variants as pixel
-use Rattle.mapping.specs.declared.Scale.{Scale}
-use Rattle.mapping.specs.Mapping.{scaleOf, placedBy, placed}
+use Rattle.mapping.specs.declared.Hairline.{Hairline}
+use Rattle.mapping.specs.Mapping.{hairline}
+use Rattle.mapping.proofs.Ranges.{limits-of}
 use Rattle.segmented.specs.declared.SegmentValue.{SegmentValue}
 use Rattle.segmented.specs.Segments.{SegmentOn, alone, inner, segmentWorked, pixelChecked}
-use Rattle.segmented.proofs.Margins.{low-inner}
+use Rattle.segmented.proofs.Margins.{inner-for}
 use Rattle.segmented.proofs.segment_pixel.Statement.{statement}
 use Rattle.segmented.proofs.segment_pixel.Tie as tie
 
@@ -22,7 +25,8 @@ pixel-by-requires : tie.Need-pixel-by-requires
 pixel-by-requires c κs =
     let k = c .before .before in
     let s = k .before .before in (
-      rw (c .inner-scale .ensures) (low-inner (s .args .a) (s .args .size) (s .args .l) (s .pre .2) (s .pre .1)),
+      inner-for (s .args .a) (s .args .size) (s .args .l) (c .inner-scale .result) (s .pre .2) (s .pre .1)
+          (c .inner-scale .ensures),
       s .pre .0 .real,
       subst (λ (y : SegmentValue). SegmentOn (s .args .a) y) (k .v .given .1) (s .pre .3),
     )
@@ -39,7 +43,7 @@ centre-requires c κs =
     )
 
 returns : tie.Need-returns
-unfolding segmentWorked placed
+unfolding segmentWorked
 returns c =
     let p = c .before in
     let n = p .before in
@@ -47,11 +51,11 @@ returns c =
     let s = k .before .before in
     let x = s .args in
     c .alone .ensures
-    ∙ ap (λ (z : ℤ). pixelChecked (alone z))
-    (toZ-ofZ {w = w64} {z = p .pixel-by .result} (search needs)
-    ∙ p .pixel-by .ensures
-    ∙ ap (λ (y : Scale). placedBy y (x .a) (k .v .given .0 .0)) (n .inner-scale .ensures
-    ∙ ap (λ (m : ℕ). scaleOf (x .a) (inner m (x .l))) (s .pre .4)))
+    ∙ ap (λ (h : Hairline). pixelChecked (alone h))
+    (p .pixel-by .ensures
+    ∙ ap (λ (y : Limits). hairline (x .a) y (k .v .given .0 .0))
+    (limits-of (x .a) (inner (x .size) (x .l)) (n .inner-scale .result) (n .inner-scale .ensures)
+    ∙ ap (λ (m : ℕ). inner m (x .l)) (s .pre .4)))
     ∙ ap (λ (v : SegmentValue). pixelChecked (segmentWorked (x .a) (x .l) v)) (sym (k .v .given .1))
 
 returns-2 : tie.Need-returns-2
@@ -65,7 +69,7 @@ unfolding segmentWorked
 returns-3 c =
     let k = c .before in
     let s = k .before .before in
-    ap pixel.At (toZ-ofZ (high-fits s))
+    ap (λ (p : ℤ). pixel.At (record { pixel = p; exact = true; lost = false })) (toZ-ofZ (high-fits s))
     ∙ ap (λ (v : SegmentValue). pixelChecked (segmentWorked (s .args .a) (s .args .l) v)) (sym (k .enum-told .given .1))
 
 pub segment-pixel-spec : {M : Type 1} → statement M

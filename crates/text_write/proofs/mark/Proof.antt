@@ -9,8 +9,8 @@ use Rattle.text_write.proofs.mark.Tie as tie
 
 returns : tie.Need-returns
 returns c =
-    let g = c .before .before .before .before .before .p .given in
-    let f : SFits w64 (g .0 .0) = search needs in
+    let g = c .before .before .before .before .before .before .p .given in
+    let f : SFits w64 (g .0 .0 .pixel) = search needs in
     (rw (g .1) (rw (toZ-ofZ f) at (c .before .before .signed .ensures .0)), search needs)
 
 returns-2 : tie.Need-returns-2

@@ -23,23 +23,23 @@ width-fits : (c : tie.Start) → SFits w64 (c .args .o .width)
 width-fits c = search needs
 
 -- the days, as the code has them
-moved : (c : tie.After-to-i64) → let x = c .before .before .before .before .before .before .args in
+moved : (c : tie.After-to-i64) → let x = c .before .before .before .before .before .before .before .before .before .args in
     c .to-i64 .result ≡ byDays (x .span) (x .o .width) (x .o .pixels)
 moved c =
-    let w = c .before in
-    let n = w .before .before in
+    let w = c .before .before in
+    let n = w .before .before .before .before in
     let p = n .before in
     let s = p .before .before in
-    let P = p .from-i64 .ensures ∙ ap (ofInt binary64) (toZ-ofZ (pixels-fit s)) in
-    let N = n .from-i642 .ensures ∙ ap (ofInt binary64) (toZ-ofZ (s .fits .span)) in
-    let W = w .from-i643 .ensures ∙ ap (ofInt binary64) (toZ-ofZ (width-fits s)) in
+    let P = p .from-i64 .ensures .0 ∙ ap (ofInt binary64) (toZ-ofZ (pixels-fit s)) in
+    let N = n .from-i642 .ensures .0 ∙ ap (ofInt binary64) (toZ-ofZ (s .fits .span)) in
+    let W = w .from-i643 .ensures .0 ∙ ap (ofInt binary64) (toZ-ofZ (width-fits s)) in
     c .to-i64 .ensures ∙ (λ i. toSigned 63 (div binary64 (mul binary64 (P i) (N i)) (W i)))
 
 returns : tie.Need-returns
 returns c =
     let z = c .before in
     let t = z .before in
-    let x = t .before .before .before .before .before .before .args in
+    let x = t .before .before .before .before .before .before .before .before .before .args in
     let at = instant (x .day) (x .nano) in
     let n = t .to-i64 .result in
     let back = toZ-ofZ {w = w64} {z = n} (search needs) in

@@ -7,7 +7,7 @@ use mir.Facts.{toZ-ofZ}
 use Rattle.values.specs.declared.Parts.{Parts}
 use Rattle.values.specs.Parts.{sum}
 use Rattle.values.proofs.Fits.{yes}
-use Rattle.values.proofs.Joining.{InRange, near}
+use Rattle.values.proofs.Joining.{InRange, fewer-near}
 use Rattle.values.proofs.joined.Statement.{statement}
 use Rattle.values.proofs.joined.Tie as tie
 
@@ -22,9 +22,9 @@ module _ (c : tie.Then2) where
   range = search needs
 
   both-fit : SFits w64 (p .heads *ℤ p .unit) × SFits w64 (sum p)
-  both-fit = near (p .heads) (p .tails) (p .unit) (p .most) (p .least) (s .pre .known) (s .pre .tails-up) (s .pre .tails-dn)
-      (rw (toZ-ofZ (range .heads), toZ-ofZ (range .most)) at (c .before .before .before .if1 .taken))
-      (rw (toZ-ofZ (range .heads), toZ-ofZ (range .least)) at (c .if2 .taken))
+  both-fit = fewer-near (p .heads) (p .tails) (p .unit) (p .most) (p .least) (s .pre .known) (s .pre .tails-up) (s .pre .tails-dn)
+      (rw (toZ-ofZ (range .heads)) at (c .before .before .before .if1 .taken))
+      (rw (toZ-ofZ (range .heads)) at (c .if2 .taken))
 
 mul-t4 : tie.Need-mul-t4
 mul-t4 c = let d = c .before .before in
