@@ -20,7 +20,8 @@ use Rattle.axis.specs.Axes.{axis_of, start, end, span_of}
 use Rattle.axis.specs.Questions.{ends, in_order, value_on, equals}
 
 pub axis_read : {k sh st eh et x : ℤ} → SFits w64 k → SFits w64 sh → SFits w64 st → SFits w64 eh → SFits w64 et → SFits w64 x →
-    axis_of (to_z w64 (of_z w64 k)) (to_z w64 (of_z w64 sh)) (to_z w64 (of_z w64 st)) (to_z w64 (of_z w64 eh)) (to_z w64 (of_z w64 et))
+    axis_of (to_z w64 (of_z w64 k)) (to_z w64 (of_z w64 sh)) (to_z w64 (of_z w64 st)) (to_z w64 (of_z w64 eh))
+    (to_z w64 (of_z w64 et))
     (to_z w64 (of_z w64 x))
     ≡ axis_of k sh st eh et x
 axis_read k sh st eh et x =

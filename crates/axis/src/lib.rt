@@ -1,5 +1,7 @@
 // An axis, its limits and its hints by value, and the questions that come before an answer: one test for each, and the
 // first rows of them. Also the span of an axis, a value's offset on it, and the axis by which it counts and lists.
+#![tactic(auto)]
+
 ghost use Rattle.std.specs.Prelude.{◌≡◌, true, false, cond, pos};
 ghost use Rattle.laws.specs.Asking.{then_ask, first_no};
 ghost use Rattle.values.specs.Values.{over_dates, is_duration, is_value};
@@ -14,7 +16,7 @@ use calendar::LAST_DAY;
 use values::{Nanoseconds, Value};
 
 // The end belongs to the axis where end_excluded is 0.
-#[derive(Drop)]
+#[derive(Clone, Copy)]
 pub struct Axis {
     pub kind: i64,
     pub start_head: i64,
@@ -25,34 +27,34 @@ pub struct Axis {
 }
 
 // The pixels of start and of end.
-#[derive(Drop)]
+#[derive(Clone, Copy)]
 pub struct Limits {
     pub low: i64,
     pub high: i64,
 }
 
 // A bold hint: at most n ticks.
-#[derive(Drop)]
+#[derive(Clone, Copy)]
 pub struct BoldPoints {
     pub n: i64,
 }
 
 // A light hint: the count of bold ticks, and at most n ticks.
-#[derive(Drop)]
+#[derive(Clone, Copy)]
 pub struct LightPoints {
     pub bold: i64,
     pub n: i64,
 }
 
 // Either hint.
-#[derive(Drop)]
+#[derive(Clone, Copy)]
 pub enum Hint {
     Bold(BoldPoints),
     Light(LightPoints),
 }
 
 // What an operation answers that gives a value.
-#[derive(Drop)]
+#[derive(Clone, Copy)]
 pub enum ValueAnswer {
     Refused(u8),
     None,

@@ -75,7 +75,13 @@ unfolding years
 years_again zero = refl
 years_again (suc k) =
     let more : suc k + 400 ≡ suc (k + 400) = omega arith in
-    rw more (omega (arith, years_again k, year_length_is (suc k), year_length_is (suc (k + 400)), rw more at (leap_again (suc k))))
+    rw more (omega (
+      arith,
+      years_again k,
+      year_length_is (suc k),
+      year_length_is (suc (k + 400)),
+      rw more at (leap_again (suc k)),
+    ))
 
 right_years : ℕ → Bool
 right_years k = eqb (years k + k / 100) (365 * k + k / 4)
@@ -360,7 +366,8 @@ module _ (n : ℕ) (n-le : n ≤ 3652425) where
       rw (p, q) (lo, omega (arith, lo, hi, years_next (quarters n / 1461), year_length_is (suc (quarters n / 1461))))
 
 month_range : (f : ℕ) (b : Bool) → (b ≡ true → 306 ≤ f) → (b ≡ false → f < 306) → f < 366
-    → (12 * bool_byte b ≤ scale f / 65536) × ((1 ≤ scale f / 65536 - 12 * bool_byte b) × (scale f / 65536 - 12 * bool_byte b ≤ 12))
+    → (12 * bool_byte b ≤ scale f / 65536) × ((1 ≤ scale f / 65536 - 12 * bool_byte b) ×
+    (scale f / 65536 - 12 * bool_byte b ≤ 12))
 month_range f true h l r = omega (arith, h refl)
 month_range f false h l r = omega (arith, l refl)
 

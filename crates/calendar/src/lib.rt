@@ -1,5 +1,7 @@
 // The proleptic Gregorian calendar: a date's day number, the date of a day number, and the days of a date-time.
 // No loop: a year is taken to begin in March, so that a leap day is its last (Neri and Schneider's formulas).
+#![tactic(auto)]
+
 ghost use Rattle.std.specs.Prelude.{◌≡◌, ◌+◌, ◌-◌, ◌*◌, ◌≤◌, ◌<◌, true, false, leb, pos};
 ghost use Rattle.std.specs.Int.Signed.{lt_z};
 ghost use Rattle.laws.specs.Numbers.{pos_part};
@@ -7,7 +9,7 @@ ghost use Rattle.calendar.specs.Gregorian.{leap_day, month_length, day_number, d
 ghost use Rattle.calendar.specs.DateTimes.{date_floor, date_ceil};
 ghost use Rattle.calendar.specs.Questions.{last_day, in_ranges, is_day, number_of, date_at};
 
-#[derive(Drop)]
+#[derive(Clone, Copy)]
 pub struct Date {
     pub year: u64,
     pub month: u64,
@@ -15,27 +17,27 @@ pub struct Date {
 }
 
 // Three numbers that may be a date.
-#[derive(Drop)]
+#[derive(Clone, Copy)]
 pub struct Ymd {
     pub year: i64,
     pub month: i64,
     pub day: i64,
 }
 
-#[derive(Drop)]
+#[derive(Clone, Copy)]
 pub enum DayAnswer {
     Refused(u8),
     Answered(u64),
 }
 
-#[derive(Drop)]
+#[derive(Clone, Copy)]
 pub enum DateAnswer {
     Refused(u8),
     Answered(Date),
 }
 
 // A day number and a nanosecond of that day.
-#[derive(Drop)]
+#[derive(Clone, Copy)]
 pub struct DateTime {
     pub day: u64,
     pub nano: u64,

@@ -89,9 +89,9 @@ closed_dated a has e z = record {
   dates = rw (same_kind a) e;
 }
 
-pub value_on : (a : Axis) (v : Value) → value_on (closed a) v ≡ value_on a v
+pub value_on_law : (a : Axis) (v : Value) → value_on (closed a) v ≡ value_on a v
 unfolding value_on
-value_on a v = rw (same_kind a)
+value_on_law a v = rw (same_kind a)
 
 -- ---- values
 pub is_day_law : (v : Value) → DayValue v → is_day v.head ≡ true

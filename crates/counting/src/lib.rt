@@ -1,5 +1,7 @@
 // How an axis counts, as plotters' DiscreteRanged of each kind: its first and last day, where a value stands, in days,
 // months, years or weeks, and its size. Lists, light hints and indices all count with these.
+#![tactic(auto)]
+
 ghost use Rattle.std.specs.Prelude.{◌≡◌, true, ◌+◌, ◌*◌, ◌-◌, ◌≤◌};
 ghost use Rattle.laws.specs.Numbers.{pos_part};
 ghost use Rattle.calendar.specs.Questions.{is_day};
@@ -12,7 +14,7 @@ use calendar::{Date, DateTime};
 use values::Value;
 
 // Where an axis begins and where a value stands, in days, months, years or weeks.
-#[derive(Drop)]
+#[derive(Clone, Copy)]
 pub struct Position {
     pub from: u64,
     pub at: u64,

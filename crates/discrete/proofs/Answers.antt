@@ -17,7 +17,7 @@ use Rattle.discrete.specs.declared.NumberAnswer.TheVariants as number
 use Rattle.axis.specs.declared.ValueAnswer.TheVariants as value
 use Rattle.counting.specs.Counting.{Dated, origin, position, size_of}
 use Rattle.counting.proofs.Sizes.{size_is}
-use Rattle.counting.proofs.Counting.{index_dated, closed_dated, value_on}
+use Rattle.counting.proofs.Counting.{index_dated, closed_dated, value_on_law}
 use Rattle.discrete.specs.Indices.{is_indexed, index_of, value_at}
 use Rattle.discrete.specs.Answers.{size_questions, value_questions, index_in, next_in, previous_in, value_in}
 
@@ -38,7 +38,7 @@ counted a e = closed_dated a (has_index a) (index_dated a (told 2 (size_question
 pub value_asked : (a : Axis) (v : Value) → first_no (value_questions a v) ≡ 0 → Dated (closed a) × (value_on (closed a) v ≡ true)
 value_asked a v none =
     let (s, o) = fewer (size_questions a) (ask 8 (value_on a v)) (omega arith) none in
-    (counted a s, value_on a v ∙ o)
+    (counted a s, value_on_law a v ∙ o)
 
 -- ---- neighbours, by where a value stands
 module _ (a : Axis) (v : Value) where

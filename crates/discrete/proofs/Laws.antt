@@ -33,7 +33,8 @@ use Rattle.discrete.specs.Answers.{size_questions, value_questions, index_questi
 use Rattle.discrete.specs.Answers.{index_in, next_in, previous_in, value_in, stepped, size_answer, index_answer}
 use Rattle.discrete.specs.Answers.{from_index_answer, next_answer, previous_answer, values_answer}
 use Rattle.discrete.specs.Walking.{cursor_at, onward, walk, values_from, Inside}
-use Rattle.counting.proofs.Counting.{size_most, origin_days, position_days, position_weeks, starts, on_day, is_day_law, value_on}
+use Rattle.counting.proofs.Counting.{size_most, origin_days, position_days, position_weeks, starts, on_day, is_day_law}
+use Rattle.counting.proofs.Counting.{value_on_law}
 use Rattle.discrete.proofs.Indices as indices
 use Rattle.discrete.proofs.Indices.{value_months, value_weeks, value_days, month_first, week_first, week_later}
 use Rattle.laws.proofs.Asked.{more, fewer}
@@ -49,10 +50,10 @@ one_value v w e = cc
 pub one_number : (m n : ℕ) → number.Is m ≡ number.Is n → m ≡ n
 one_number m n e = cc
 
-pub index_in : (a : Axis) (v : Value) (i : ℕ) → index_in a v ≡ number.Is i → (origin a ≤ position a v)
+pub index_in_law : (a : Axis) (v : Value) (i : ℕ) → index_in a v ≡ number.Is i → (origin a ≤ position a v)
     × (position a v - origin a ≡ i)
 unfolding index_in is_indexed index_of
-index_in a v i e = go (leb (origin a) (position a v)) (leb-true (origin a) (position a v)) e
+index_in_law a v i e = go (leb (origin a) (position a v)) (leb-true (origin a) (position a v)) e
   where
     go : (b : Bool) → (b ≡ true → origin a ≤ position a v) → cond b (number.Is (position a v - origin a)) number.None
         ≡ number.Is i → (origin a ≤ position a v) × (position a v - origin a ≡ i)
@@ -145,7 +146,7 @@ module _ (a : Axis) where
       let c = counted a s in
       let o = of_kind (closed a) c i (ap (λ (w : Value). is_day w.head) e ∙ d) in
       record {
-        row = on_row v s (sym (value_on a v) ∙ ap (value_on (closed a)) (sym e) ∙ o);
+        row = on_row v s (sym (value_on_law a v) ∙ ap (value_on (closed a)) (sym e) ∙ o);
         place = ap (position (closed a)) (sym e) ∙ at_index (closed a) c i;
       }
 
@@ -183,8 +184,8 @@ module _ (a : Axis) (v : Value) (i : ℕ) (has : index_answer a v ≡ number.Is 
   indexed =
       let (r, f) = counted_as (value_questions a v) (index_in (closed a) v) i has in
       let (s, o) = fewer (size_questions a) (ask 8 (value_on a v)) (omega arith) r in
-      let (h, e) = index_in (closed a) v i f in
-      let on = value_on a v ∙ o in
+      let (h, e) = index_in_law (closed a) v i f in
+      let on = value_on_law a v ∙ o in
       record { row = s; on = on; from = h; at = e; most = omega (arith, e, indices.index_most (closed a) (counted a s) v on) }
 
   pub index_most : i ≤ 3652058
@@ -344,7 +345,8 @@ from_index_of a v i k has =
     same (pos (pos_part (closed a).start_head + i)) v.head (omega arith) in
     let e : value_at (closed a) i ≡ v =
     value_days (closed a) i m y u ∙ (λ j. record { head = same-day j; tail = sym (no_tail (closed a) v kind x.on) j }) in
-    from_place a i x.row (omega (arith, x.most)) ∙ ap (λ (w : Value). checked (value.At w)) e ∙ sym (in_range_law v (is_day_law v d))
+    from_place a i x.row (omega (arith, x.most)) ∙ ap (λ (w : Value). checked (value.At w)) e ∙ sym
+    (in_range_law v (is_day_law v d))
 
 -- ---- on kind 8 the value of a date's index is in the date's week, and that is all: from day 3 to 10 the index of day 2 is
 -- 0 and gives day 3, the start, which is no Monday, and the index of day 10 is 1 and gives day 8

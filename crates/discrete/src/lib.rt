@@ -1,5 +1,7 @@
 // Indices of the kinds that count days, months, years or weeks, as plotters' DiscreteRanged: size, index_of, from_index, next,
 // previous, the values cursor, and the value under a pixel. Whole-number work, with no float.
+#![tactic(auto)]
+
 ghost use Rattle.std.specs.Prelude.{◌≡◌, true, false, ◌≤◌, ◌<◌, pos, nat_abs};
 ghost use Rattle.laws.specs.Asking.{first_no};
 ghost use Rattle.calendar.specs.Gregorian.{day_number};
@@ -17,7 +19,7 @@ use axis::{Axis, Limits, ValueAnswer};
 use calendar::LAST_COUNT;
 use values::Value;
 
-#[derive(Drop)]
+#[derive(Clone, Copy)]
 pub enum NumberAnswer {
     Refused(u8),
     None,
@@ -25,20 +27,20 @@ pub enum NumberAnswer {
 }
 
 // What was asked of an index, and the index as a count where the refusal is 0.
-#[derive(Drop)]
+#[derive(Clone, Copy)]
 pub struct AskedIndex {
     pub refusal: u8,
     pub index: u64,
 }
 
 // The place of the value that comes next.
-#[derive(Drop)]
+#[derive(Clone, Copy)]
 pub struct Cursor {
     pub place: i64,
 }
 
 // A value and the cursor behind it; where there is none, the cursor as it was.
-#[derive(Drop)]
+#[derive(Clone, Copy)]
 pub enum StepAnswer {
     Refused(u8),
     None(Cursor),

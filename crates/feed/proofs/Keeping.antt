@@ -21,7 +21,8 @@ module _ (b p l : List ℕ) (n i : ℕ) (e : take (n + i) l ≡ b ++ take i p) w
   pub more : i < length p → n + i < length l → take (n + (i + 1)) (set l (n + i) (get_or p i 0)) ≡ b ++ take (i + 1) p
   more h k =
       let q : n + (i + 1) ≡ suc (n + i) = omega arith in
-      rw (q, add-one i, take-suc-set l (n + i) (get_or p i 0) k, e, take-suc p i 0 h) (append_assoc b (take i p) (get_or p i 0 ∷ []))
+      rw (q, add-one i, take-suc-set l (n + i) (get_or p i 0) k, e, take-suc p i 0 h)
+      (append_assoc b (take i p) (get_or p i 0 ∷ []))
 
   module _ (size : length b ≡ n) (room : length l ≡ 121) where
     -- 121 bytes are kept

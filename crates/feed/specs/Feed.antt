@@ -20,4 +20,5 @@ pub record Ate (begun chunk : List ℕ) (r : Fed) (after : List ℕ) : Type 0 wh
   pub same_size : length after ≡ 121
   pub line : take r.len after ≡ line_of begun (take (until_of line_feed chunk) chunk)
   pub ended : r.ended ≡ ltb (until_of line_feed chunk) (length chunk)
-  pub used : r.used ≡ cond (ltb (until_of line_feed chunk) (length chunk)) (until_of line_feed chunk + 1) (until_of line_feed chunk)
+  pub used : r.used ≡ cond (ltb (until_of line_feed chunk) (length chunk)) (until_of line_feed chunk + 1)
+      (until_of line_feed chunk)

@@ -1,5 +1,7 @@
 // Lines out of chunks of any size. `kept` holds the bytes of the line that was begun: at most 121, which tell that the line
 // is too long.
+#![tactic(auto)]
+
 ghost use Rattle.std.specs.Prelude.{◌≡◌, ◌≤◌, length, take};
 ghost use Rattle.feed.specs.Feed.{Kept, Ate};
 
@@ -20,7 +22,7 @@ fn keep(kept: &mut [u8], n: usize, part: &[u8]) -> usize
     n + i
 }
 
-#[derive(Drop)]
+#[derive(Clone, Copy)]
 pub struct Fed {
     // how many bytes are kept of the line
     pub len: usize,

@@ -69,7 +69,8 @@ scale_val : HasValue scale false (2 ^ 32) 1
 unfolding of_bits
 scale_val = (refl, refl)
 
-scaled_val : (z : ℤ) → nat_abs z ≤ 2 ^ 31 → HasValue (mul binary64 (of_int binary64 z) scale) (below_zero z) (nat_abs z * 2 ^ 32) 1
+scaled_val : (z : ℤ) → nat_abs z ≤ 2 ^ 31 → HasValue (mul binary64 (of_int binary64 z) scale) (below_zero z) (nat_abs z * 2 ^ 32)
+    1
 scaled_val z h =
     let s = below_zero z in
     let n = nat_abs z in

@@ -2,7 +2,7 @@
 -- binary digits from its first to its last that is set. Assumes nothing.
 use mathlib.Core.Path.{◌≡◌, refl, sym, ap, ◌∙◌, subst}
 use mathlib.Core.Bool.{Bool, true, false, not, cond, ◌&&◌, beq, true≢false, false≢true}
-use Prim.Native.Nat.{ℕ, zero, suc, ◌+◌, ◌-◌, ◌*◌, ◌/◌, ◌%◌, ◌^◌, ◌≤◌, ◌<◌}
+use Prim.Native.Nat.{ℕ, zero, suc, ◌+◌, ◌*◌, ◌/◌, ◌%◌, ◌^◌, ◌≤◌, ◌<◌}
 use native.Mathlib.Nat.{le_trans, le_of_eq, lt_of_lt_of_le, lt_of_le_of_lt, lt_irrefl, mul-one, zero-mul, mul_assoc, mul-pos}
 use native.Mathlib.Nat.{mul_comm, le-mul_of_pos_right, pow-suc}
 use native.Mathlib.Decide.{dec_le}
@@ -59,7 +59,8 @@ kept_value : (z : ℤ) → lost_in z ≡ false → HasValue (of_int binary64 z) 
 unfolding lost_in
 kept_value z = go (is_whole (of_int binary64 z) z) refl
   where
-    go : (b : Bool) → is_whole (of_int binary64 z) z ≡ b → not b ≡ false → HasValue (of_int binary64 z) (below_zero z) (nat_abs z) 1
+    go : (b : Bool) → is_whole (of_int binary64 z) z ≡ b → not b ≡ false → HasValue (of_int binary64 z) (below_zero z) (nat_abs z)
+        1
     go true e h = whole_value (of_int binary64 z) z e
     go false e h = absurd (true≢false h)
 
@@ -151,7 +152,8 @@ odd_part (suc k) n p h = go (n % 2) refl (λ q. odd_part k (n / 2) q (half h))
     twice : (t m : ℕ) → m * 2 ^ t ≡ n / 2 → n % 2 ≡ 0 → m * 2 ^ suc t ≡ n
     twice t m e z = omega (arith, ap (λ (x : ℕ). m * x) (pow-suc 2 t))
 
-    go : (d : ℕ) → n % 2 ≡ d → (0 < n / 2 → Odd (n / 2) (count_trailing_zeros k (n / 2))) → Odd n (under d (count_trailing_zeros k (n / 2)))
+    go : (d : ℕ) → n % 2 ≡ d → (0 < n / 2 → Odd (n / 2) (count_trailing_zeros k (n / 2))) → Odd n
+        (under d (count_trailing_zeros k (n / 2)))
     go zero e rest =
         let (m, o, is) = rest (omega arith) in
         (m, o, twice (count_trailing_zeros k (n / 2)) m is e)

@@ -1,6 +1,8 @@
 // Rust's casts between floats and whole numbers, the rounding of an f32 on bits, and floor and ceil of a quotient in whole
 // numbers.
 // Each statement is an equation with what IEEE 754 says (lib.Ieee).
+#![tactic(auto)]
+
 ghost use Rattle.std.specs.Prelude.{◌≡◌, cond, not, ◌||◌, suc, ◌^◌, ◌≤◌, ◌<◌, min, T, pos, neg_ℤ, nat_abs};
 ghost use Rattle.std.specs.Float.{binary32, binary64};
 ghost use Rattle.std.specs.Float.Ieee.{of_int, div, of_bits, nan_bits, to_signed, to_unsigned};
@@ -41,7 +43,7 @@ fn with_sign(below: bool, n: u64) -> i64
 }
 
 // A whole number as f64, and whether that is another number.
-#[derive(Drop)]
+#[derive(Clone, Copy)]
 pub struct Rounded {
     pub value: f64,
     pub lost: bool,

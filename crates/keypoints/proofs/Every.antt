@@ -1,5 +1,5 @@
--- The days of a span that pass a test are all of them and nothing else, and a row where it is known which comes next; every
--- m-th of a list is those m places apart. Assumes nothing.
+-- The days of a span that pass a test are all of them and nothing else, and a row where it is known which comes next.
+-- Assumes nothing.
 use mathlib.Core.Path.{◌≡◌, refl, sym, ap, ◌∙◌}
 use mathlib.Core.Logic.{inl, inr}
 use mathlib.Core.Bool.{Bool, true, false, true≢false}
@@ -11,14 +11,13 @@ use native.Mathlib.Decide.{dec_le}
 use native.Mathlib.Numerals.{add-one}
 use native.Mathlib.Omega.{arith}
 use lib.IntN.{pos}
-use lib.ListN.{length}
 use Rattle.values.specs.declared.Value.{Value}
 use Rattle.values.specs.Values.{midnight}
 use Rattle.axis.specs.declared.Axis.{Axis}
 use Rattle.counting.specs.Counting.{from_day, to_day}
 use Rattle.steps.specs.Progression.{fitting, values_of}
 use Rattle.plans.proofs.Cases.{choose, by_test}
-use Rattle.keypoints.specs.Every.{days_from, days_on, every_after, every}
+use Rattle.keypoints.specs.Every.{days_from, days_on}
 use Rattle.keypoints.proofs.Loops.{values_same}
 use Rattle.keypoints.proofs.Dates.{on}
 
@@ -82,58 +81,6 @@ module _ (test : ℕ → Bool) where
 pub values_first : (f : ℕ → Value) (n : ℕ) → values_of f (suc n) ≡ f 0 ∷ values_of (λ i. f (suc i)) n
 values_first f zero = refl
 values_first f (suc n) = ap (λ (l : List Value). l ++ (f (suc n) ∷ [])) (values_first f n)
-
--- ---- every m-th of a list
--- past the first of m, a step less fits
-step_less : (c m : ℕ) → 1 ≤ m → fitting (c - (m - 1)) m ≡ c / m
-step_less c m h =
-    elim (dec_le m c) [
-      | yes l ↦ let e : c - (m - 1) ≡ suc (c - m) = omega arith in rw (e, div-eq-sub-div h l)
-      | no l ↦
-          let e : c - (m - 1) ≡ 0 = omega arith in
-          let q : c / m ≡ 0 = div-eq_of_lt (omega arith) in
-          rw (e, q)
-    ]
-
-module _ (m : ℕ) (h : 1 ≤ m) where
-  after_length : (left : ℕ) (vs : List Value) → length (every_after left m vs) ≡ fitting (length vs - left) m
-  unfolding every_after
-  after_length left [] = let z : 0 - left ≡ 0 = omega arith in rw z
-  after_length zero (v ∷ vs) =
-      let z : suc (length vs) - 0 ≡ suc (length vs) = omega arith in
-      rw (z, after_length (m - 1) vs, step_less (length vs) m h) (omega arith)
-  after_length (suc left) (v ∷ vs) =
-      let z : suc (length vs) - suc left ≡ length vs - left = omega arith in
-      rw z (after_length left vs)
-
-  -- of any list, as many as steps of m fit its length
-  pub every_length : (vs : List Value) → length (every m vs) ≡ fitting (length vs) m
-  every_length vs = let z : length vs - 0 ≡ length vs = omega arith in rw z at (after_length 0 vs)
-
-  after_are : (f : ℕ → Value) (c left : ℕ) →
-      every_after left m (values_of f c) ≡ values_of (λ i. f (left + i * m)) (fitting (c - left) m)
-  unfolding every_after
-  after_are f zero left = let z : 0 - left ≡ 0 = omega arith in rw z
-  after_are f (suc c) zero =
-      let z : suc c - 0 ≡ suc c = omega arith in
-      let g : ℕ → Value = λ i. f (0 + i * m) in
-      let one : 0 + 0 * m ≡ 0 = omega arith in
-      rw (values_first f c, after_are (λ i. f (suc i)) c (m - 1), step_less c m h, z, add-one (c / m))
-      (rw (values_first g (c / m), one)
-      (ap (λ (l : List Value). f 0 ∷ l)
-      (values_same (λ i. f (suc (m - 1 + i * m))) (λ i. g (suc i)) (c / m) (λ i l. ap f (omega arith)))))
-  after_are f (suc c) (suc left) =
-      let z : suc c - suc left ≡ c - left = omega arith in
-      rw (values_first f c, z, after_are (λ i. f (suc i)) c left)
-      (values_same (λ i. f (suc (left + i * m))) (λ i. f (suc left + i * m)) (fitting (c - left) m)
-      (λ i l. ap f (omega arith)))
-
-  -- of the values of a row, those m places apart
-  pub every_are : (f : ℕ → Value) (c : ℕ) → every m (values_of f c) ≡ values_of (λ i. f (i * m)) (fitting c m)
-  every_are f c =
-      let z : c - 0 ≡ c = omega arith in
-      rw z at (after_are f c 0)
-      ∙ values_same (λ i. f (0 + i * m)) (λ i. f (i * m)) (fitting c m) (λ i l. ap f (omega arith))
 
 -- of those w apart from f to e, as many as steps of w * m fit
 pub apart_fit : (f e w m : ℕ) → 1 ≤ w → fitting ((e + w - f) / w) m ≡ fitting (e + 1 - f) (w * m)

@@ -29,7 +29,8 @@ use Rattle.plans.proofs.Months.{month_wide, months_kept, last_most, first_month,
 use Rattle.plans.proofs.Promise.{heads_in_order}
 use Rattle.keypoints.specs.Loops.{while}
 use Rattle.keypoints.specs.Months.{first_of, YearMonth, ym, start_of, start_month, end_month, carried, generate_key_points}
-use Rattle.keypoints.specs.Months.{last_year, generate_yearly_keypoints, total_month, months_from, month_key_points, year_key_points}
+use Rattle.keypoints.specs.Months.{last_year, generate_yearly_keypoints, total_month, months_from, month_key_points}
+use Rattle.keypoints.specs.Months.{year_key_points}
 use Rattle.keypoints.proofs.Loops.{while_is}
 use Rattle.keypoints.proofs.Years.{freq_is}
 
@@ -291,8 +292,8 @@ module _ (a : Axis) (d : Dated a) where
       at_is t.year t.month (to_month a) refl r.year r.month r.last
 
   -- the first month is at most the one after the last
-  in_order : in_order a ≡ true → from_month a ≤ to_month a + 1
-  in_order o =
+  in_order_law : in_order a ≡ true → from_month a ≤ to_month a + 1
+  in_order_law o =
       elim (dec_le (from_month a) (to_month a + 1)) [
         | yes l ↦ l
         | no l ↦ absurd (clash ((first_month a d).first (to_month a + 1) (omega arith)))
@@ -311,8 +312,8 @@ module _ (a : Axis) (d : Dated a) where
   module _ (n turns : ℕ) (o : in_order a ≡ true) (t : n + 10 ≤ turns) where
     pub years_same : year_key_points turns a n ≡ ticks (year_plan a n)
     unfolding year_key_points year_plan
-    years_same = rw (start_is, end_is) (yearly_is (from_month a) (to_month a) n turns (in_order o) small t)
+    years_same = rw (start_is, end_is) (yearly_is (from_month a) (to_month a) n turns (in_order_law o) small t)
 
     pub months_same : n ≤ 4096 → month_key_points turns a n ≡ ticks (month_plan a n)
     unfolding month_key_points month_plan
-    months_same m = rw (start_is, end_is) (monthly_is (from_month a) (to_month a) n turns (in_order o) small t m)
+    months_same m = rw (start_is, end_is) (monthly_is (from_month a) (to_month a) n turns (in_order_law o) small t m)

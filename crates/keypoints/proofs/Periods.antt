@@ -13,13 +13,15 @@ use lib.ListN.{length, get_or}
 use borrow.Author.Tests.{leb-true, leb-false, ltb-true, ltb-false, eqb-true, eqb-false, not-true, not-false}
 use Rattle.laws.specs.Units.{per_second, per_hour, per_day}
 use Rattle.period.specs.Ladders.{Ladder, decimal_ladder, Climbable, first_wide}
-use Rattle.period.specs.Periods.{exponent_of, power_of, ten_days, second_ladder, hour_ladder, day_ladder, ladder_of, no_period, period_of}
+use Rattle.period.specs.Periods.{exponent_of, power_of, ten_days, second_ladder, hour_ladder, day_ladder, ladder_of, no_period}
+use Rattle.period.specs.Periods.{period_of}
 use Rattle.period.proofs.Exponents.{from_top, largest, power_in}
 use Rattle.period.proofs.Climbing.{Climbed, climb_start, in_list, climb_step, climb_same, climb_next}
 use Rattle.period.proofs.Ladders.{is_decimal, is_seconds, is_hours, is_days, is_longest, chosen_ends}
 use Rattle.period.proofs.Periods.{below_day, any_step, days_listed, answers, answers_none}
 use Rattle.plans.proofs.Cases.{both_ways, choose}
-use Rattle.keypoints.specs.Periods.{exponent_from, determine_actual_ns_per_point, days_from, period_from, compute_period_per_point}
+use Rattle.keypoints.specs.Periods.{exponent_from, determine_actual_ns_per_point, days_from, period_from}
+use Rattle.keypoints.specs.Periods.{compute_period_per_point}
 
 -- ---- the exponent
 -- document 01: 'the largest k with 10^k × N ≤ span, or 0'

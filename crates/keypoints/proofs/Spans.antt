@@ -130,5 +130,7 @@ module _ (a : Axis) (n turns : ℕ) (l : Long a) (t : n + 30 ≤ turns) where
       let (small, fits) = total_range a l in
       let e = pos_up total (total_dn a l) in
       let f = first_fit (pos_part total) n in
-      let d : days_per_tick turns total n 1 0 ≡ f = rw e at (days_per_tick_law (pos_part total) n (omega arith) turns (omega arith)) in
-      rw d (by_days_law f (fit_above (pos_part total) n) (omega (arith, left_most a l, fit_room (pos_part total) n (omega arith))))
+      let d : days_per_tick turns total n 1 0 ≡ f =
+      rw e at (days_per_tick_law (pos_part total) n (omega arith) turns (omega arith)) in
+      rw d (by_days_law f (fit_above (pos_part total) n) (omega
+      (arith, left_most a l, fit_room (pos_part total) n (omega arith))))

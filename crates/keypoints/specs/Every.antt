@@ -1,4 +1,4 @@
--- The days of a span that pass a test, and every m-th of a list: how document 02 says which days get a tick. Definitions only.
+-- The days of a span that pass a test: how document 02 says which days get a tick. Definitions only.
 use Rattle.std.specs.Prelude.{ℕ, zero, suc, ◌+◌, ◌-◌, Bool, cond, List, [], ◌∷◌, pos}
 use Rattle.values.specs.declared.Value.{Value}
 use Rattle.values.specs.Values.{midnight}
@@ -13,13 +13,3 @@ days_from test (suc k) n = cond (test n) (midnight (pos n) ∷ days_from test k 
 -- those of the span, both ends included
 unfoldable pub days_on : (ℕ → Bool) → Axis → List Value
 days_on test a = days_from test (to_day a + 1 - from_day a) (from_day a)
-
--- every m-th of a list, where so many are left out before the first
-unfoldable pub every_after : ℕ → ℕ → List Value → List Value
-every_after left m [] = []
-every_after zero m (v ∷ vs) = v ∷ every_after (m - 1) m vs
-every_after (suc left) m (v ∷ vs) = every_after left m vs
-
--- every m-th from the first
-abbrev pub every : ℕ → List Value → List Value
-every m vs = every_after 0 m vs

@@ -16,7 +16,8 @@ determine_actual_ns_per_point zero totalNs actual units base maxPoints idx = get
 determine_actual_ns_per_point (suc turns) totalNs actual units base maxPoints idx =
     let around = eqb (idx + 1) (length units) in
     cond (ltb (maxPoints * get_or units idx 0) (totalNs / actual))
-    (determine_actual_ns_per_point turns totalNs (cond around (actual * base) actual) units base maxPoints (cond around 0 (idx + 1)))
+    (determine_actual_ns_per_point turns totalNs (cond around (actual * base) actual) units base maxPoints
+    (cond around 0 (idx + 1)))
     (get_or units idx 0 * actual)
 
 -- from a day on: if actual_ns_per_point < 3600_000_000_000 * 24 * 10 { .. } else { .. }

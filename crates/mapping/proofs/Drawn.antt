@@ -73,7 +73,8 @@ module _ (a : Axis) (l : Limits) (v : Value) (p : ℤ) where
   exact_by_near f = rw f refl
 
   exact_by_days : in_nanoseconds a v ≡ false → divides_nothing a ≡ false →
-      exact_at a l v p ≡ not (is_number (whole_days (span_of a)) 0) && on_pixel l (whole_days (offset_of a v)) (whole_days (span_of a)) p
+      exact_at a l v p ≡ not (is_number (whole_days (span_of a)) 0) && on_pixel l (whole_days (offset_of a v))
+      (whole_days (span_of a)) p
   unfolding exact_at
   exact_by_days f g = rw (f, g) refl
 

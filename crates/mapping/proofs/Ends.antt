@@ -105,7 +105,8 @@ on_page_fits p e = let r = pixel_range p e in
     rw (is_le (minus 2147483648) p (omega arith), is_le p (pos 2147483647) (omega arith))
 
 answered : (a : Axis) (l : Limits) (v : Value) (p : ℤ) →
-    (first_no (scale_questions a l) ≡ 0 → (value_on a v ≡ true) × (mappable a v ≡ true) × (is_pixel p ≡ true) × (placed a l v ≡ p)) →
+    (first_no (scale_questions a l) ≡ 0 → (value_on a v ≡ true) × (mappable a v ≡ true) × (is_pixel p ≡ true) ×
+    (placed a l v ≡ p)) →
     mapped a l v ≡ answered_at a l (hairline_at a l v p)
 unfolding hairline mapped_by
 answered a l v p f = in_parts a l v ∙ go (first_no (scale_questions a l)) refl

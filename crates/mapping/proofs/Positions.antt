@@ -1,7 +1,7 @@
 -- How far a pixel may be off, as mapping answers it. Assumes nothing.
 use mathlib.Core.Path.{◌≡◌, refl, sym, ap, ◌∙◌, subst}
 use mathlib.Core.Bool.{Bool, true, false, true≢false}
-use Prim.Native.Nat.{ℕ, suc, ◌+◌, ◌*◌, ◌/◌, ◌^◌, ◌≤◌, ◌<◌}
+use Prim.Native.Nat.{ℕ, suc, ◌*◌, ◌/◌, ◌^◌, ◌≤◌, ◌<◌}
 use native.Mathlib.Nat.{le_trans, lt_of_le_of_lt, mul_assoc, mul-le-mul, mul-le-mul_right, div-mul-le_self, mul-div_cancel}
 use native.Mathlib.Decide.{dec_le}
 use native.Mathlib.Omega.{arith}
@@ -59,7 +59,8 @@ cut_from_law false z o t q u W Tp O T Up few w =
     (within_apart q u (quotient_units (nat_abs z) o t) unit Up (pow_pos 1074) w)
 cut_from_law true z o t q u W Tp O T Up few w =
     add_cut (quotient_of (of_int binary64 z) (pos o) (of_int binary64 (pos t))) nudge (below_zero z) q u
-    (quotient_units (nat_abs z) o t) unit 7737125245533627 (2 ^ 86) Up few (pow_pos 1074) (pow_pos 86) (position_val z o t W Tp O T)
+    (quotient_units (nat_abs z) o t) unit 7737125245533627 (2 ^ 86) Up few (pow_pos 1074) (pow_pos 86)
+    (position_val z o t W Tp O T)
     nudge_is (lit≤ tt) w
 
 -- ---- offset and span, where the value lies from start to end

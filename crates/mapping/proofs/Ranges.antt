@@ -26,12 +26,12 @@ use Rattle.floats.specs.Rounding.{cut}
 
 -- the scale of an axis between limits on the page, as the code has it
 module _ (a : Axis) (l : Limits) (s : Scale) (e : s ≡ scale_of a l) where
-  pub limits_of : limits_of s ≡ l
+  pub limits_of_law : limits_of s ≡ l
   unfolding scale_of
-  limits_of = ap limits_of e
+  limits_of_law = ap limits_of e
 
   pub scale_for : pixels l ≡ true → ScaleFor a s
-  scale_for page = record { scale = e ∙ ap (scale_of a) (sym limits_of); on_page = ap pixels limits_of ∙ page }
+  scale_for page = record { scale = e ∙ ap (scale_of a) (sym limits_of_law); on_page = ap pixels limits_of_law ∙ page }
 
 pub wider : (z : ℤ) → SFits w32 z → SFits w64 z
 wider z h = record { sfits = lt_of_lt_of_le h.sfits (lit≤ tt) }

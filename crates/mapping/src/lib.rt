@@ -1,5 +1,7 @@
 // The pixel of a value between two limits, as plotters' map_coord and the duration's own map.
 // Floats where the Rust computes in floats, each step rounded as IEEE 754 says.
+#![tactic(auto)]
+
 ghost use Rattle.std.specs.Prelude.{◌≡◌, true, false};
 ghost use Rattle.laws.specs.Asking.{first_no};
 ghost use Rattle.values.specs.Values.{is_duration};
@@ -15,7 +17,7 @@ use values::Value;
 
 // What all values on an axis share, worked out once for an axis and its limits: these, the width as f64, and the span in
 // nanoseconds, where it fits, with the same as f64.
-#[derive(Drop)]
+#[derive(Clone, Copy)]
 pub struct Scale {
     pub low: i64,
     pub high: i64,
@@ -26,7 +28,7 @@ pub struct Scale {
 }
 
 // What is asked once for many values, and their scale; no number of it is used where the refusal is not 0.
-#[derive(Drop)]
+#[derive(Clone, Copy)]
 pub struct Ready {
     pub refusal: u8,
     pub scale: Scale,
@@ -34,7 +36,7 @@ pub struct Ready {
 
 // A pixel, whether it is the exact position, and whether an offset or a span that was divided had lost something. The flags
 // stand apart: side by side they are read back as one number, which has to wait for both.
-#[derive(Drop)]
+#[derive(Clone, Copy)]
 pub struct Hairline {
     pub exact: bool,
     pub pixel: i64,
@@ -43,7 +45,7 @@ pub struct Hairline {
 
 // The position W × offset ÷ span in floats, before the cut, and what was divided; some says whether there was something to divide
 // by, without which no position is exact.
-#[derive(Drop)]
+#[derive(Clone, Copy)]
 pub struct Divided {
     pub some: bool,
     pub x: f64,
@@ -51,7 +53,7 @@ pub struct Divided {
     pub span: i64,
 }
 
-#[derive(Drop)]
+#[derive(Clone, Copy)]
 pub enum Pixel {
     Refused(u8),
     At(Hairline),

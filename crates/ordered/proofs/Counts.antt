@@ -71,7 +71,8 @@ pub rows_most : (t : List ℕ) → row_count (rules_answer t) < 2 ^ 63
 unfolding rules_answer
 rows_most t = go (first_no (table_questions t)) (rows_few t)
   where
-    go : (q : ℕ) → (q ≡ 0 → length (rows_in t) ≤ 64) → row_count (unless q rules.Refused (rules.Rows (length (rows_in t)))) < 2 ^ 63
+    go : (q : ℕ) → (q ≡ 0 → length (rows_in t) ≤ 64) → row_count (unless q rules.Refused (rules.Rows (length (rows_in t)))) < 2 ^
+        63
     go zero f = omega (arith, f refl)
     go (suc q) f = omega arith
 

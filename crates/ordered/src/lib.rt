@@ -1,5 +1,7 @@
 // The C interface: takes numbers, calls, and turns the answer into numbers.
-// include/ordered.h declares the same functions for C.
+// The crate ordered_c exports them to C.
+#![tactic(auto)]
+
 ghost use Rattle.std.specs.Prelude.{◌≡◌, ◌^◌, ◌<◌, length};
 ghost use Rattle.calendar.specs.Questions.{number_of, date_at};
 ghost use Rattle.weeks.specs.Questions.{week_day_number, week_date_at};
@@ -31,14 +33,14 @@ use weeks::{WeekAnswer, Ywd};
 
 // A day number, count, size or index.
 #[repr(C)]
-#[derive(Drop)]
+#[derive(Clone, Copy)]
 pub struct OrderedNumber {
     pub status: i64,
     pub value: i64,
 }
 
 #[repr(C)]
-#[derive(Drop)]
+#[derive(Clone, Copy)]
 pub struct OrderedPixel {
     pub status: i64,
     pub pixel: i64,
@@ -47,14 +49,14 @@ pub struct OrderedPixel {
 }
 
 #[repr(C)]
-#[derive(Drop)]
+#[derive(Clone, Copy)]
 pub struct OrderedPeriod {
     pub status: i64,
     pub nanoseconds: i64,
 }
 
 #[repr(C)]
-#[derive(Drop)]
+#[derive(Clone, Copy)]
 pub struct OrderedValue {
     pub status: i64,
     pub head: i64,
@@ -63,7 +65,7 @@ pub struct OrderedValue {
 
 // A value, and the next place of the cursor.
 #[repr(C)]
-#[derive(Drop)]
+#[derive(Clone, Copy)]
 pub struct OrderedStep {
     pub status: i64,
     pub head: i64,
@@ -73,7 +75,7 @@ pub struct OrderedStep {
 
 // A segment value: 1 exact, 2 centre, 3 last.
 #[repr(C)]
-#[derive(Drop)]
+#[derive(Clone, Copy)]
 pub struct OrderedSegment {
     pub status: i64,
     pub segment: i64,
@@ -82,7 +84,7 @@ pub struct OrderedSegment {
 }
 
 #[repr(C)]
-#[derive(Drop)]
+#[derive(Clone, Copy)]
 pub struct OrderedDate {
     pub status: i64,
     pub year: i64,
@@ -91,7 +93,7 @@ pub struct OrderedDate {
 }
 
 #[repr(C)]
-#[derive(Drop)]
+#[derive(Clone, Copy)]
 pub struct OrderedWeekDate {
     pub status: i64,
     pub year: i64,
@@ -115,8 +117,7 @@ fn day_reply(a: DayAnswer) -> OrderedNumber
     }
 }
 
-#[unsafe(no_mangle)]
-pub extern "C" fn ordered_day_number(year: i64, month: i64, day: i64) -> OrderedNumber
+pub fn ordered_day_number(year: i64, month: i64, day: i64) -> OrderedNumber
     ensures { result ≡ day_reply (number_of (record { year = year; month = month; day = day })) }
 {
     let t = Ymd {
@@ -127,8 +128,7 @@ pub extern "C" fn ordered_day_number(year: i64, month: i64, day: i64) -> Ordered
     day_reply(calendar::number_of(t))
 }
 
-#[unsafe(no_mangle)]
-pub extern "C" fn ordered_date_of(day_number: i64) -> OrderedDate
+pub fn ordered_date_of(day_number: i64) -> OrderedDate
     ensures { result ≡ date_reply (date_at day_number) }
 {
     match calendar::date_at(day_number) {
@@ -147,8 +147,7 @@ pub extern "C" fn ordered_date_of(day_number: i64) -> OrderedDate
     }
 }
 
-#[unsafe(no_mangle)]
-pub extern "C" fn ordered_week_day_number(year: i64, week: i64, weekday: i64) -> OrderedNumber
+pub fn ordered_week_day_number(year: i64, week: i64, weekday: i64) -> OrderedNumber
     ensures { result ≡ day_reply (week_day_number (record { year = year; week = week; weekday = weekday })) }
 {
     let t = Ywd {
@@ -159,8 +158,7 @@ pub extern "C" fn ordered_week_day_number(year: i64, week: i64, weekday: i64) ->
     day_reply(weeks::week_day_number(t))
 }
 
-#[unsafe(no_mangle)]
-pub extern "C" fn ordered_week_date_of(day_number: i64) -> OrderedWeekDate
+pub fn ordered_week_date_of(day_number: i64) -> OrderedWeekDate
     ensures { result ≡ week_reply (week_date_at day_number) }
 {
     match weeks::week_date_at(day_number) {
@@ -205,8 +203,7 @@ fn pixel_reply(a: Pixel) -> OrderedPixel
     }
 }
 
-#[unsafe(no_mangle)]
-pub extern "C" fn ordered_map(
+pub fn ordered_map(
     kind: i64,
     start_head: i64,
     start_tail: i64,
@@ -278,8 +275,7 @@ fn list_segment_ticks(a: Axis, h: Hint, lent: &mut [i64]) -> OrderedNumber
     count_reply(segmented::list(a, h, lent))
 }
 
-#[unsafe(no_mangle)]
-pub extern "C" fn ordered_ticks_bold(
+pub fn ordered_ticks_bold(
     kind: i64,
     start_head: i64,
     start_tail: i64,
@@ -308,8 +304,7 @@ pub extern "C" fn ordered_ticks_bold(
     list_ticks(a, Hint::Bold(h), lent)
 }
 
-#[unsafe(no_mangle)]
-pub extern "C" fn ordered_count_bold(
+pub fn ordered_count_bold(
     kind: i64,
     start_head: i64,
     start_tail: i64,
@@ -335,8 +330,7 @@ pub extern "C" fn ordered_count_bold(
     count_ticks(a, Hint::Bold(h), lent_len as u64)
 }
 
-#[unsafe(no_mangle)]
-pub extern "C" fn ordered_ticks_light(
+pub fn ordered_ticks_light(
     kind: i64,
     start_head: i64,
     start_tail: i64,
@@ -366,8 +360,7 @@ pub extern "C" fn ordered_ticks_light(
     list_ticks(a, Hint::Light(h), lent)
 }
 
-#[unsafe(no_mangle)]
-pub extern "C" fn ordered_count_light(
+pub fn ordered_count_light(
     kind: i64,
     start_head: i64,
     start_tail: i64,
@@ -410,8 +403,7 @@ fn rules_reply(a: RulesAnswer) -> OrderedNumber
     }
 }
 
-#[unsafe(no_mangle)]
-pub extern "C" fn ordered_rules(table: &[u8]) -> OrderedNumber
+pub fn ordered_rules(table: &[u8]) -> OrderedNumber
     ensures { result ≡ rules_reply (rules_answer table.now) }
 {
     rules_reply(rules::count(table))
@@ -430,8 +422,7 @@ fn list_ruled(a: Axis, table: &[u8], lent: &mut [i64]) -> OrderedNumber
     count_reply(ruled::list(a, table, lent))
 }
 
-#[unsafe(no_mangle)]
-pub extern "C" fn ordered_ticks_ruled(
+pub fn ordered_ticks_ruled(
     kind: i64,
     start_head: i64,
     start_tail: i64,
@@ -457,8 +448,7 @@ pub extern "C" fn ordered_ticks_ruled(
     list_ruled(a, table, lent)
 }
 
-#[unsafe(no_mangle)]
-pub extern "C" fn ordered_count_ruled(
+pub fn ordered_count_ruled(
     kind: i64,
     start_head: i64,
     start_tail: i64,
@@ -482,8 +472,7 @@ pub extern "C" fn ordered_count_ruled(
     count_ruled(a, table, lent_len as u64)
 }
 
-#[unsafe(no_mangle)]
-pub extern "C" fn ordered_period_per_point(
+pub fn ordered_period_per_point(
     kind: i64,
     start_head: i64,
     start_tail: i64,
@@ -588,8 +577,7 @@ fn step_reply(a: StepAnswer) -> OrderedStep
     }
 }
 
-#[unsafe(no_mangle)]
-pub extern "C" fn ordered_unmap(
+pub fn ordered_unmap(
     kind: i64,
     start_head: i64,
     start_tail: i64,
@@ -619,8 +607,7 @@ pub extern "C" fn ordered_unmap(
     value_reply(discrete::unmap(a, l, pixel))
 }
 
-#[unsafe(no_mangle)]
-pub extern "C" fn ordered_size(
+pub fn ordered_size(
     kind: i64,
     start_head: i64,
     start_tail: i64,
@@ -642,8 +629,7 @@ pub extern "C" fn ordered_size(
     number_reply(discrete::size(a))
 }
 
-#[unsafe(no_mangle)]
-pub extern "C" fn ordered_index_of(
+pub fn ordered_index_of(
     kind: i64,
     start_head: i64,
     start_tail: i64,
@@ -672,8 +658,7 @@ pub extern "C" fn ordered_index_of(
     number_reply(discrete::index_of(a, v))
 }
 
-#[unsafe(no_mangle)]
-pub extern "C" fn ordered_from_index(
+pub fn ordered_from_index(
     kind: i64,
     start_head: i64,
     start_tail: i64,
@@ -697,8 +682,7 @@ pub extern "C" fn ordered_from_index(
     value_reply(discrete::from_index(a, index))
 }
 
-#[unsafe(no_mangle)]
-pub extern "C" fn ordered_next(
+pub fn ordered_next(
     kind: i64,
     start_head: i64,
     start_tail: i64,
@@ -727,8 +711,7 @@ pub extern "C" fn ordered_next(
     value_reply(discrete::next(a, v))
 }
 
-#[unsafe(no_mangle)]
-pub extern "C" fn ordered_previous(
+pub fn ordered_previous(
     kind: i64,
     start_head: i64,
     start_tail: i64,
@@ -757,8 +740,7 @@ pub extern "C" fn ordered_previous(
     value_reply(discrete::previous(a, v))
 }
 
-#[unsafe(no_mangle)]
-pub extern "C" fn ordered_values(
+pub fn ordered_values(
     kind: i64,
     start_head: i64,
     start_tail: i64,
@@ -783,8 +765,7 @@ pub extern "C" fn ordered_values(
     step_reply(discrete::values(a, c))
 }
 
-#[unsafe(no_mangle)]
-pub extern "C" fn ordered_segment_map(
+pub fn ordered_segment_map(
     kind: i64,
     start_head: i64,
     start_tail: i64,
@@ -821,8 +802,7 @@ pub extern "C" fn ordered_segment_map(
     pixel_reply(segmented::map(a, l, s))
 }
 
-#[unsafe(no_mangle)]
-pub extern "C" fn ordered_segment_ticks_bold(
+pub fn ordered_segment_ticks_bold(
     kind: i64,
     start_head: i64,
     start_tail: i64,
@@ -851,8 +831,7 @@ pub extern "C" fn ordered_segment_ticks_bold(
     list_segment_ticks(a, Hint::Bold(h), lent)
 }
 
-#[unsafe(no_mangle)]
-pub extern "C" fn ordered_segment_ticks_light(
+pub fn ordered_segment_ticks_light(
     kind: i64,
     start_head: i64,
     start_tail: i64,
@@ -882,8 +861,7 @@ pub extern "C" fn ordered_segment_ticks_light(
     list_segment_ticks(a, Hint::Light(h), lent)
 }
 
-#[unsafe(no_mangle)]
-pub extern "C" fn ordered_segment_size(
+pub fn ordered_segment_size(
     kind: i64,
     start_head: i64,
     start_tail: i64,
@@ -905,8 +883,7 @@ pub extern "C" fn ordered_segment_size(
     number_reply(segmented::size(a))
 }
 
-#[unsafe(no_mangle)]
-pub extern "C" fn ordered_segment_index_of(
+pub fn ordered_segment_index_of(
     kind: i64,
     start_head: i64,
     start_tail: i64,
@@ -982,8 +959,7 @@ fn segment_reply(a: SegmentAnswer) -> OrderedSegment
     }
 }
 
-#[unsafe(no_mangle)]
-pub extern "C" fn ordered_segment_from_index(
+pub fn ordered_segment_from_index(
     kind: i64,
     start_head: i64,
     start_tail: i64,

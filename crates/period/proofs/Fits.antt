@@ -16,7 +16,8 @@ step_above i h = ltb→lt 0 (step_at (decimal_ladder 1) i) (at (λ (i : ℕ). lt
 
 step_most : (i : ℕ) → i < 22 → step_at (decimal_ladder 1) i ≤ 10000000
 unfolding all
-step_most i h = leb→le (step_at (decimal_ladder 1) i) 10000000 (at (λ (i : ℕ). leb (step_at (decimal_ladder 1) i) 10000000) 22 tt i h)
+step_most i h =
+    leb→le (step_at (decimal_ladder 1) i) 10000000 (at (λ (i : ℕ). leb (step_at (decimal_ladder 1) i) 10000000) 22 tt i h)
 
 fit_is : (total n : ℕ) → step_at (decimal_ladder 1) (first_from (rare total n) 21 0) ≡ first_fit total n
 unfolding first_fit

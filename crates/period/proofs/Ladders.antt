@@ -59,7 +59,8 @@ module _ (p : ℕ) where
     where
       go : (t u v w : Bool) → (t ≡ true → p < per_second) → (u ≡ true → p < per_hour) → (v ≡ true → p < per_day) →
           (w ≡ true → p < ten_days)
-          → P (cond t (decimal_ladder p) (cond u second_ladder (cond v hour_ladder (cond w day_ladder (decimal_ladder ten_days)))))
+          → P (cond t (decimal_ladder p) (cond u second_ladder
+          (cond v hour_ladder (cond w day_ladder (decimal_ladder ten_days)))))
       go true u v w f g h i = a (f refl)
       go false true v w f g h i = b (g refl)
       go false false true w f g h i = c (h refl)

@@ -55,7 +55,8 @@ in_steps {span} {n} {l} c =
 
 -- ---- the laws
 module _ (span n : ℕ) (s : Bool) where
-  none_or : (P : ℕ → Type 0) → (no_period (power_of span n) s ≡ true → P 0) → P (first_wide span n (ladder_of (power_of span n))) →
+  none_or : (P : ℕ → Type 0) → (no_period (power_of span n) s ≡ true → P 0) → P (first_wide span n (ladder_of (power_of span n)))
+      →
       P (period_of span n s)
   unfolding period_of
   none_or P none some = go (no_period (power_of span n) s) refl

@@ -1,5 +1,7 @@
 // The period of the ticks over a span of nanoseconds, and the first of 1, 2, 5, 10, 20, .. that fits a total.
 // All on whole numbers: the power of ten comes from a table, and each search goes step by step up a ladder.
+#![tactic(auto)]
+
 ghost use Rattle.std.specs.Prelude.{◌≡◌, ◌+◌, ◌≤◌, ◌<◌, ◌^◌};
 ghost use Rattle.period.specs.Ladders.{ladder, rung_of, first_wide, Climbable, first_fit};
 ghost use Rattle.period.specs.Periods.{power_of, period_of, tested_of};
@@ -43,7 +45,7 @@ const HOURS: [u64; 5] = [1, 2, 4, 8, 12];
 const DAYS: [u64; 4] = [1, 2, 5, 7];
 
 // The nanoseconds from tick to tick, and how many steps of the ladder were tested for them; 0 and 0 for none.
-#[derive(Drop)]
+#[derive(Clone, Copy)]
 pub struct Period {
     pub nanoseconds: u64,
     pub tested: u64,

@@ -138,7 +138,8 @@ module _ (v : Value) (r : DurationValue v) where
   second_fits =
       let (x, y) = days_range in
       let d = days_in v in
-      fits (d *ℤ pos 86400) (pos_part d * 86400) (neg_part d * 86400) (omega (arith, mul_up d 86400, mul_dn d 86400)) (omega arith)
+      fits (d *ℤ pos 86400) (pos_part d * 86400) (neg_part d * 86400) (omega (arith, mul_up d 86400, mul_dn d 86400))
+      (omega arith)
       (omega arith)
 
   pub later_fits : SFits w64 (days_in v *ℤ pos 86400 +ℤ pos 86400)
@@ -249,7 +250,8 @@ module _ (a : Axis) (l : Long a) where
   abbrev total : ℤ
   total = days_in (end a) -ℤ days_in (start a)
 
-  ends_apart : pos_part (days_in (start a)) + neg_part (days_in (end a)) ≤ pos_part (days_in (end a)) + neg_part (days_in (start a))
+  ends_apart : pos_part (days_in (start a)) + neg_part (days_in (end a)) ≤ pos_part (days_in (end a)) + neg_part
+      (days_in (start a))
   ends_apart =
       omega (arith, apart, days_low (start a) from, days_high (end a) to)
 

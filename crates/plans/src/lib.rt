@@ -1,5 +1,7 @@
 // The tick list of each kind, as plotters' key_points: a plan, which is a progression. Days, months, years and weeks;
 // date_times and durations a period apart; whole days of a long duration.
+#![tactic(auto)]
+
 ghost use Rattle.std.specs.Prelude.{◌≡◌, true, ◌+◌, ◌≤◌, ◌<◌, ◌^◌, min, pos};
 ghost use Rattle.values.specs.Values.{is_value};
 ghost use Rattle.values.specs.Differences.{unit, days_in};
@@ -21,7 +23,7 @@ use values::{Nanoseconds, Value};
 
 // Ticks step apart from the number first to the number end, which is left out. A head has per numbers, and base is the
 // head of 0.
-#[derive(Drop)]
+#[derive(Clone, Copy)]
 pub struct Even {
     pub per: u64,
     pub base: i64,
@@ -31,7 +33,7 @@ pub struct Even {
 }
 
 // The first month that begins on an axis, and the month of its last day.
-#[derive(Drop)]
+#[derive(Clone, Copy)]
 pub struct MonthRange {
     pub first: u64,
     pub last: u64,

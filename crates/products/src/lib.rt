@@ -1,5 +1,7 @@
 // Whether two products of whole numbers are the same, where each can have 95 bits.
 // They are compared by halves of 32 bits, so that nothing exceeds 64.
+#![tactic(auto)]
+
 ghost use Rattle.std.specs.Prelude.{◌≡◌, ◌^◌, ◌≤◌, nat_abs, ◌*ℤ◌};
 ghost use Rattle.laws.specs.Numbers.{equal};
 

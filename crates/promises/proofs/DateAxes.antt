@@ -27,9 +27,9 @@ module _ (s e : ℕ) (first : 1 ≤ s) (order : s ≤ e) (last : e ≤ 3652059) 
       let y = le-leb 1 e (omega arith) in
       rw (le-leb 1 s first, x, y, le-leb e 3652059 last)
 
-  in_order : in_order a ≡ true
+  in_order_law : in_order a ≡ true
   unfolding in_order earlier
-  in_order = rw (le-ltb e s order, and_false (leb e s))
+  in_order_law = rw (le-ltb e s order, and_false (leb e s))
 
   hint : (h : BoldPoints) → is_count h.n ≡ true → hint_on a (Bold h) ≡ true
   unfolding bold_hint
@@ -37,4 +37,4 @@ module _ (s e : ℕ) (first : 1 ≤ s) (order : s ≤ e) (last : e ≤ 3652059) 
 
   pub dates_accepted : (h : BoldPoints) → is_count h.n ≡ true → first_no (tick_questions a (Bold h)) ≡ 0
   unfolding known excludable near_or_long
-  dates_accepted h c = rw (real, in_order, hint h c)
+  dates_accepted h c = rw (real, in_order_law, hint h c)

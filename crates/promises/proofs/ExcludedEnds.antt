@@ -37,7 +37,7 @@ use Rattle.mapping.specs.Days.{DayOf}
 use Rattle.calendar.specs.Gregorian as calendar
 use Rattle.counting.specs.Counting as counts
 use Rattle.counting.specs.Counting.{size_of}
-use Rattle.counting.proofs.Counting.{value_on}
+use Rattle.counting.proofs.Counting.{value_on_law}
 use Rattle.steps.specs.declared.Listed.TheVariants as listed
 use Rattle.steps.specs.Listing.{listed_of, lent_after, front}
 use Rattle.steps.specs.Promise.{Later, by_head, nth}
@@ -110,14 +110,15 @@ module _ (a : Axis) where
   -- ---- sizes and indices
   size_of_law : discrete.size_answer a ≡ asked (size_questions a) number.Refused (discrete.size_answer b)
   unfolding discrete.size_answer
-  size_of_law = more_on number.Refused (number.Is (size_of b)) (number.Is (size_of (closed b))) (size_questions a) (size_questions b)
+  size_of_law =
+      more_on number.Refused (number.Is (size_of b)) (number.Is (size_of (closed b))) (size_questions a) (size_questions b)
       [] [] size_passed (λ i. number.Is (size_of (twice i)))
 
   index_of : (v : Value) → discrete.index_answer a v ≡ asked (size_questions a) number.Refused (discrete.index_answer b v)
   unfolding discrete.index_answer
   index_of v = more_on number.Refused (index_in b v) (index_in (closed b) v) (size_questions a) (size_questions b)
       (ask 8 (value_on a v) ∷ []) (ask 8 (value_on b v) ∷ []) size_passed
-      (λ i. asked (ask 8 (sym (value_on a v) i) ∷ []) number.Refused (index_in (twice i) v))
+      (λ i. asked (ask 8 (sym (value_on_law a v) i) ∷ []) number.Refused (index_in (twice i) v))
 
   -- a value that is answered after question 8, and then 10
   module _ (eight nine : Bool) (same : eight ≡ nine) (f : Axis → ValueAnswer) where
@@ -135,11 +136,11 @@ module _ (a : Axis) where
 
   next : (v : Value) → discrete.next_answer a v ≡ asked (size_questions a) value.Refused (discrete.next_answer b v)
   unfolding discrete.next_answer asks.answered
-  next v = by_value (value_on a v) (value_on b v) (sym (value_on a v)) (λ x. next_in x v)
+  next v = by_value (value_on a v) (value_on b v) (sym (value_on_law a v)) (λ x. next_in x v)
 
   previous : (v : Value) → discrete.previous_answer a v ≡ asked (size_questions a) value.Refused (discrete.previous_answer b v)
   unfolding discrete.previous_answer asks.answered
-  previous v = by_value (value_on a v) (value_on b v) (sym (value_on a v)) (λ x. previous_in x v)
+  previous v = by_value (value_on a v) (value_on b v) (sym (value_on_law a v)) (λ x. previous_in x v)
 
   step_refused : (c : Cursor) (q : ℕ) (v : ValueAnswer) →
       stepped c (unless q value.Refused v) ≡ unless q step.Refused (stepped c v)
@@ -193,7 +194,7 @@ module _ (a : Axis) where
 
   same_segment : (s : Segment) → segment_on a s ≡ segment_on b s
   unfolding segment_on
-  same_segment s = rw (value_on a (head_tail s))
+  same_segment s = rw (value_on_law a (head_tail s))
 
   segment_index : (s : Segment) →
       segmented.segment_index_answer a s ≡ asked (size_questions a) number.Refused (segmented.segment_index_answer b s)
@@ -241,7 +242,8 @@ module _ (a : Axis) where
   segment_count h k = by_segments listed.Refused (ticks_answer a h k) (ticks_answer b h k) (count h k)
 
   segment_written : (h : Hint) (d : List ℤ) →
-      segmented.segment_ticks_written a h d ≡ asked (axis_questions (has_index a) a) (λ q. d) (segmented.segment_ticks_written b h d)
+      segmented.segment_ticks_written a h d ≡ asked (axis_questions (has_index a) a) (λ q. d)
+      (segmented.segment_ticks_written b h d)
   unfolding segmented.segment_ticks_written
   segment_written h d = by_segments (λ q. d) (ticks_written a h d) (ticks_written b h d) (written h d)
 
@@ -301,7 +303,8 @@ as_day_earlier k sh st eh et x e =
 
 -- ---- mapping goes to the end as written
 pub to_written_end : ToWrittenEnd
-unfolding over_dates is_value earlier span_of offset_of asks.known asks.ends asks.in_order asks.excludable asks.near_or_long asks.value_on
+unfolding over_dates is_value earlier span_of offset_of asks.known asks.ends asks.in_order asks.excludable asks.near_or_long
+    asks.value_on
     asks.mappable mapping.scale_of mapping.placed mapping.hairline mapping.mapped exact_at lost_at
 to_written_end k sh st eh et x l v =
     let a = axis_of k sh st eh et x in

@@ -113,7 +113,8 @@ at_the_power = spanned (10 ^ 15) (4 * per_hour) refl refl
 
 -- ---- an index
 pub earlier_year : EarlierYear
-unfolding closed index_answer index_in is_indexed index_of known has_index ends is_value in_order excludable earlier value_on monthly
+unfolding closed index_answer index_in is_indexed index_of known has_index ends is_value in_order excludable earlier value_on
+    monthly
     yearly from_day first_date date_on origin position
 earlier_year last least most =
     rw (

@@ -46,7 +46,8 @@ shown k z e = record { accepted = z; as_times = times k; no_period = e }
 pub no_other_list : NoOtherList
 unfolding closed nanoseconds difference nanoseconds_of over_dates is_value earlier span_of asks.known asks.has_period asks.ends
     asks.in_order asks.excludable asks.near_or_long asks.bold_hint asks.light_hint count.monthly count.yearly count.weekly
-    count.from_day count.to_day dates_from date_key_points exponent_from determine_actual_ns_per_point period_from compute_period_per_point
+    count.from_day count.to_day dates_from date_key_points exponent_from determine_actual_ns_per_point period_from
+    compute_period_per_point
     period_on date_time_key_points key_points light_key_points key_points_for ticks_of ticks_written period_answer
 no_other_list = record {
   from_floor = λ f. let z = ap (number_at 0) (f (span 1000000000 3 0) (bold_of 1) sevens (shown refl refl refl)) in omega arith;
@@ -57,8 +58,10 @@ no_other_list = record {
 
 pub on_each_kind : OnEachKind
 unfolding calendar.leap calendar.leap_day calendar.month_length calendar.months calendar.year_length calendar.years
-    calendar.day_number calendar.next_day calendar.days_later calendar.date_of nanoseconds difference nanoseconds_of over_dates is_value
-    earlier span_of asks.known asks.has_period asks.ends asks.in_order asks.excludable asks.near_or_long asks.bold_hint asks.light_hint
+    calendar.day_number calendar.next_day calendar.days_later calendar.date_of nanoseconds difference nanoseconds_of over_dates
+    is_value
+    earlier span_of asks.known asks.has_period asks.ends asks.in_order asks.excludable asks.near_or_long asks.bold_hint
+    asks.light_hint
     count.monthly count.yearly count.weekly count.from_day count.to_day count.first_date count.date_on count.size_of exponent_from
     determine_actual_ns_per_point period_from compute_period_per_point period_on period_answer
 on_each_kind =

@@ -17,4 +17,5 @@ value_read h t = λ i. record { head = to_z-of_z h i; tail = to_z-of_z t i }
 pub pixel_read : {r : OrderedPixel} {a b : Axis} {low high : ℤ} {v w : Value} → a ≡ b → SFits w64 low → SFits w64 high → v ≡ w →
     r ≡ pixel_reply (mapped a (record { low = to_z w64 (of_z w64 low); high = to_z w64 (of_z w64 high) }) v) →
     r ≡ pixel_reply (mapped b (record { low = low; high = high }) w)
-pixel_read p low high q e = e ∙ (λ i. pixel_reply (mapped (p i) (record { low = to_z-of_z low i; high = to_z-of_z high i }) (q i)))
+pixel_read p low high q e =
+    e ∙ (λ i. pixel_reply (mapped (p i) (record { low = to_z-of_z low i; high = to_z-of_z high i }) (q i)))

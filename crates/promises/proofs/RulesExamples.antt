@@ -25,6 +25,7 @@ use Rattle.steps.specs.declared.Listed.TheVariants as listed
 use Rattle.steps.specs.Listing.{listed_of, lent_after}
 use Rattle.plans.specs.Months.{from_month, to_month}
 use Rattle.keypoints.specs.Every as every
+use Rattle.keypoints.specs.Weeks as weekly
 use Rattle.rules.specs.declared.Row.{Row}
 use Rattle.rules.specs.declared.RulesAnswer.TheVariants as rules
 use Rattle.rules.specs.Rows as rows
@@ -62,7 +63,7 @@ record AllRead : Type 0 where
   names : Reads names_line []
   weekly : Reads (names_line ++ all_weekly) (for_all 1 7 ∷ [])
   twice : Reads (names_line ++ all_weekly ++ all_weekly) (for_all 1 7 ∷ (for_all 1 7 ∷ []))
-  from_one : Reads (names_line ++ from_one) (row_of 1 3652058 1 7 ∷ [])
+  from_one_law : Reads (names_line ++ from_one) (row_of 1 3652058 1 7 ∷ [])
   to_less_law : Reads (names_line ++ to_less) (row_of 0 3652057 1 7 ∷ [])
   ones : Reads (names_line ++ from_one ++ from_one) (row_of 1 3652058 1 7 ∷ (row_of 1 3652058 1 7 ∷ []))
   days : Reads (names_line ++ all_second_days) (for_all 1 2 ∷ [])
@@ -78,7 +79,7 @@ reads = record {
   names = refl;
   weekly = refl;
   twice = refl;
-  from_one = refl;
+  from_one_law = refl;
   to_less_law = refl;
   ones = refl;
   days = refl;
@@ -187,7 +188,7 @@ none_for_least : Holds examples.none_for_least
 unfolding rows_for
 none_for_least =
     let s = names_line ++ from_one in
-    verdict_on_law s _ 15 reads.from_one (lacks s _ 0 reads.from_one least refl)
+    verdict_on_law s _ 15 reads.from_one_law (lacks s _ 0 reads.from_one_law least refl)
 
 none_for_greatest : Holds examples.none_for_greatest
 unfolding rows_for
@@ -215,8 +216,9 @@ date_times = count_by (names_line ++ all_second_days) (between 4 1 5) 0 by_days_
 pub days_listed : Holds examples.second_days × Holds examples.row_before_end
 unfolding closed over_dates is_value earlier asks.known asks.ends asks.in_order asks.excludable has_rules from_day to_day
     fields.until_of fields.digits_from fields.digits_of fields.read_number lines.lines_of lines.same_as lines.occurrences
-    lines.in_form rows.unit_of rows.in_range rows.row_read rows.read_row rows_of_lines table_of first_for every.days_from every.days_on
-    every.every_after is_of ruled_ticks ruled_on
+    lines.in_form rows.unit_of rows.in_range rows.row_read rows.read_row rows_of_lines table_of first_for every.days_from
+    every.days_on
+    weekly.every_after is_of ruled_ticks ruled_on
 days_listed =
     let s = names_line ++ short_daily ++ long_second_days in
     let v = ((judges s).others _ reads.two).accepted.1 one_of_two in

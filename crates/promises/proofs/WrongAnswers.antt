@@ -27,7 +27,6 @@ use Rattle.floats.specs.Rounding.{ceil_of}
 use Rattle.keypoints.specs.Loops.{while}
 use Rattle.keypoints.specs.Dates as dates
 use Rattle.keypoints.specs.Months as months
-use Rattle.keypoints.specs.Every as every
 use Rattle.keypoints.specs.Weeks as mondays
 use Rattle.keypoints.specs.Periods as periods
 use Rattle.keypoints.specs.Times as times
@@ -90,19 +89,22 @@ computed_out : AllRuledOut computed_rows
 unfolding closed calendar.leap calendar.leap_day calendar.month_length calendar.months calendar.year_length calendar.years
     calendar.day_number calendar.next_day calendar.days_later calendar.date_of is_date in_ranges number_of date_at weeks.weekday
     weeks.monday weeks.thursday weeks.counted weeks.day_from weeks.week_year weeks.thursdays weeks.week_number weeks.week_date_of
-    weeks.weeks_of weeks.first_thursday weeks.week_day is_week_date week_day_number week_date_at weeks.mondays_to ieee.span ieee.climb
+    weeks.weeks_of weeks.first_thursday weeks.week_day is_week_date week_day_number week_date_at weeks.mondays_to ieee.span
+    ieee.climb
     ieee.size ieee.odd ieee.units ieee.round ieee.mul ieee.div ieee.of_int ieee.to_unsigned ieee.to_signed rounding.floor_f
-    rounding.ceil_f rounding.ceil_of rounding.round_f rounding.quotient_of nanoseconds difference nanoseconds_of over_dates is_value
+    rounding.ceil_f rounding.ceil_of rounding.round_f rounding.quotient_of nanoseconds difference nanoseconds_of over_dates
+    is_value
     earlier span_of offset_of asks.known asks.has_unmap asks.has_index asks.has_period asks.ends asks.in_order asks.excludable
     asks.near_or_long asks.bold_hint asks.light_hint asks.pixels asks.differ asks.unmap_pixels asks.value_on asks.mappable
     asks.checked asks.answered mapping.scale_of mapping.map_coord mapping.placed mapping.hairline
     mapping.mapped exact_at lost_at is_whole lost_in count.monthly count.yearly count.weekly count.from_day count.to_day
-    count.first_date count.date_on count.origin count.position count.size_of while every.days_from every.days_on every.every_after
+    count.first_date count.date_on count.origin count.position count.size_of while mondays.mondays_from mondays.every_after
     mondays.least_from mondays.weeks_per_point mondays.mondays_on mondays.week_key_points dates.dates_from dates.date_key_points
     months.start_of months.carried months.generate_key_points months.last_year months.exp10_from months.try_freq months.freq_of
     months.generate_yearly_keypoints months.total_month months.months_from months.month_key_points periods.exponent_from
     periods.determine_actual_ns_per_point periods.days_from periods.period_from periods.compute_period_per_point times.plus
-    times.period_on times.aligned_up times.date_times_by times.date_time_key_points times.aligned times.duration_of times.durations_by
+    times.period_on times.aligned_up times.date_times_by times.date_time_key_points times.aligned times.duration_of
+    times.durations_by
     times.duration_key_points key_points monthly_light light_key_points key_points_for ticks.ticks_of ticks.ticks_answer
     ticks.ticks_written ticks.period_answer index.is_indexed index.index_of index.month_at index.january index.week_at
     index.value_at index.index_at index.index_under discrete.index_in discrete.next_in discrete.previous_in discrete.value_in

@@ -51,7 +51,8 @@ pub record AsOf (a b : Axis) : Type 0 where
   pub written : (h : Hint) (d : List ℤ) → ticks_written a h d ≡ asked (axis_questions true a) (λ q. d) (ticks_written b h d)
   pub handed : (h : Hint) (k : ℕ) → ticks_handed a h k ≡ asked (axis_questions true a) (λ q. []) (ticks_handed b h k)
   pub segment_size : segment_size_answer a ≡ asked (size_questions a) number.Refused (segment_size_answer b)
-  pub segment_index : (s : Segment) → segment_index_answer a s ≡ asked (size_questions a) number.Refused (segment_index_answer b s)
+  pub segment_index : (s : Segment) → segment_index_answer a s ≡ asked (size_questions a) number.Refused
+      (segment_index_answer b s)
   pub segment_from : (i : ℤ) → segment_from_answer a i ≡ asked (size_questions a) segment.Refused (segment_from_answer b i)
   pub segment_count : (h : Hint) (k : ℕ) →
       segment_ticks_answer a h k ≡ asked (axis_questions (has_index a) a) listed.Refused (segment_ticks_answer b h k)
@@ -156,7 +157,8 @@ lefts =
 abbrev pub refused_ends : Example
 refused_ends =
     record {
-      answer = count_numbers (number_reply (size_answer (before 1 5 5))) ++ count_numbers (number_reply (size_answer (before 5 5 6)));
+      answer =
+          count_numbers (number_reply (size_answer (before 1 5 5))) ++ count_numbers (number_reply (size_answer (before 5 5 6)));
       settled = pos 14 ∷ (pos 0 ∷ (pos 14 ∷ (pos 0 ∷ [])));
     }
 

@@ -117,7 +117,8 @@ ordered_ticks_light =
 abbrev pub ordered_count_bold : Row
 ordered_count_bold =
     record {
-      answer = count_numbers (count_reply (ticks_answer (axis_from (pos 1) (midnight (pos 1)) (midnight (pos 15))) (bold_of 1) 2));
+      answer =
+          count_numbers (count_reply (ticks_answer (axis_from (pos 1) (midnight (pos 1)) (midnight (pos 15))) (bold_of 1) 2));
       wrong = pos 0 ∷ (pos 2 ∷ []);
       other = pos 0 ∷ (pos 1 ∷ []);
     }
@@ -126,7 +127,8 @@ ordered_count_bold =
 abbrev pub ordered_count_light : Row
 ordered_count_light =
     record {
-      answer = count_numbers (count_reply (ticks_answer (axis_from (pos 1) (midnight (pos 1)) (midnight (pos 15))) (light_of 0 1) 4));
+      answer =
+          count_numbers (count_reply (ticks_answer (axis_from (pos 1) (midnight (pos 1)) (midnight (pos 15))) (light_of 0 1) 4));
       wrong = pos 11 ∷ (pos 0 ∷ []);
       other = pos 0 ∷ (pos 3 ∷ []);
     }
@@ -175,7 +177,8 @@ ordered_index_of =
 abbrev pub ordered_from_index : Row
 ordered_from_index =
     record {
-      answer = value_numbers (value_reply (from_index_answer (axis_from (pos 1) (midnight (pos 1)) (midnight (pos 2))) (pos 3652059)));
+      answer =
+          value_numbers (value_reply (from_index_answer (axis_from (pos 1) (midnight (pos 1)) (midnight (pos 2))) (pos 3652059)));
       wrong = pos 0 ∷ (pos 3652060 ∷ (pos 0 ∷ []));
       other = pos 8 ∷ (pos 0 ∷ (pos 0 ∷ []));
     }
@@ -251,12 +254,13 @@ ordered_segment_size =
 abbrev pub ordered_segment_index_of : Row
 ordered_segment_index_of =
     record {
-      answer = count_numbers (number_reply (segment_index_answer (axis_from (pos 1) (midnight (pos 5)) (midnight (pos 6))) (record {
-        case = pos 3;
-        head =
-            pos 0;
-        tail = pos 0;
-      })));
+      answer =
+          count_numbers (number_reply (segment_index_answer (axis_from (pos 1) (midnight (pos 5)) (midnight (pos 6))) (record {
+            case = pos 3;
+            head =
+                pos 0;
+            tail = pos 0;
+          })));
       wrong = minus 1 ∷ (pos 0 ∷ []);
       other = pos 0 ∷ (pos 1 ∷ []);
     }
@@ -265,7 +269,8 @@ ordered_segment_index_of =
 abbrev pub ordered_segment_from_index : Row
 ordered_segment_from_index =
     record {
-      answer = segment_numbers (segment_reply (segment_from_answer (axis_from (pos 1) (midnight (pos 5)) (midnight (pos 6))) (pos 2)));
+      answer =
+          segment_numbers (segment_reply (segment_from_answer (axis_from (pos 1) (midnight (pos 5)) (midnight (pos 6))) (pos 2)));
       wrong = pos 0 ∷ (pos 1 ∷ (pos 7 ∷ (pos 0 ∷ [])));
       other = minus 1 ∷ (pos 0 ∷ (pos 0 ∷ (pos 0 ∷ [])));
     }

@@ -1,6 +1,8 @@
 // Claims about what the calls of C hand back: functions that make the calls, and ensure the claim of their answers.
 // Demand 3 stands in specs/Demand.antt, one list for date_times and dates in specs/OneList.antt, how far a pixel may be off in
 // specs/HowFarOff.antt, how it is drawn in specs/Hairlines.antt, house rules in specs/HouseRules.antt; theorems in proofs/.
+#![tactic(auto)]
+
 ghost use Rattle.axis.specs.Axes.{axis_of};
 ghost use Rattle.promises.specs.Demand.{FineList, FinePart, DaysApart};
 ghost use Rattle.promises.specs.OneList.{SameLists};
@@ -12,14 +14,14 @@ use axis::{Axis, Hint};
 use ordered::{OrderedNumber, OrderedPeriod, OrderedPixel};
 
 // What the mappings of two values answered.
-#[derive(Drop)]
+#[derive(Clone, Copy)]
 pub struct TwoPixels {
     pub first: OrderedPixel,
     pub second: OrderedPixel,
 }
 
 // What the calls of a period, of a list of date_times and of a list of dates answered.
-#[derive(Drop)]
+#[derive(Clone, Copy)]
 pub struct Lists {
     pub period: OrderedPeriod,
     pub times: OrderedNumber,

@@ -2,7 +2,7 @@
 use mathlib.Core.Path.{◌≡◌, refl, sym, ap, ◌∙◌, subst}
 use mathlib.Core.Bool.{Bool, true, false, cond}
 use mathlib.Core.List.{List, [], ◌∷◌, append-nil}
-use Prim.Native.Nat.{ℕ, zero, suc, ◌+◌, ◌*◌, ◌/◌, ◌-◌, ◌<◌, ◌≤◌}
+use Prim.Native.Nat.{ℕ, zero, suc, ◌+◌, ◌*◌, ◌/◌, ◌<◌, ◌≤◌}
 use native.Mathlib.Decide.{dec_le}
 use native.Mathlib.Omega.{arith}
 use lib.Dec.{eqb}
@@ -34,8 +34,7 @@ use Rattle.text_read.proofs.Fields.{until_le, same_both, fraction_none, fraction
 use Rattle.text_line.specs.declared.Request.{Request}
 use Rattle.text_line.specs.declared.Line.{Line}
 use Rattle.text_line.specs.declared.Line.TheVariants as line
-use Rattle.text_read.specs.Lines.{occurrences, fields_from}
-use Rattle.text_line.specs.Line.{kind_of, span_value, of_span, read_value, read_line}
+use Rattle.text_line.specs.Line.{occurrences, kind_of, fields_from, span_value, of_span, read_value, read_line}
 use Rattle.text_write.specs.Texts.{signed_text, span_text}
 use Rattle.text_write.specs.Rows.{tick_text}
 use Rattle.text_rows.specs.Answers.{list_of, shows_fractions, ticks_text, listed_text, request_text, line_text, rows_of}

@@ -162,7 +162,8 @@ module _ (shown : Bool) (n nano : ℕ) where
     day_parts = refl
 
     time_parts : let s = nano / per_second in triple_of 2 colon_byte (take 8 (drop 11 (date_time_text shown n nano ++ t)))
-        ≡ three_of (digits_of (fixed_text 2 (s / 3600))) (digits_of (fixed_text 2 (s / 60 % 60))) (digits_of (fixed_text 2 (s % 60)))
+        ≡ three_of (digits_of (fixed_text 2 (s / 3600))) (digits_of (fixed_text 2 (s / 60 % 60)))
+        (digits_of (fixed_text 2 (s % 60)))
     unfolding triple_of fixed_text
     time_parts = refl
 

@@ -28,13 +28,12 @@ use Rattle.text_line.specs.declared.Request.{Request}
 use Rattle.text_line.specs.declared.Line.{Line}
 use Rattle.text_line.specs.declared.Line.TheVariants as line
 use Rattle.text_line.specs.declared.ValueField.TheVariants as value
-use Rattle.text_read.specs.Lines.{rest_of}
-use Rattle.text_line.specs.Line.{read_value, read_line}
+use Rattle.text_line.specs.Line.{rest_of, read_value, read_line}
 use Rattle.text_write.specs.Texts.{decimal_text, signed_text, date_text, date_time_text, span_text}
 use Rattle.text_write.specs.Rows.{tick_text, mark_text, row_text, refusal_text}
 use Rattle.text_rows.specs.Answers.{shows_fractions, tick_row, ticks_text, list_text, list_of, listed_text, request_text}
 use Rattle.text_rows.specs.Answers.{line_text, rows_of}
-use Rattle.text_read.specs.Lines.{lines_of}
+use Rattle.text_plate.specs.Plate.{lines_of}
 use Rattle.readback.specs.Claims.{NotIn, AllDiffer, tick_texts, RowReadsBack, RowsDiffer}
 use Rattle.readback.proofs.Digits.{Free, free_none, free_one, free_then, free_decimal}
 use Rattle.readback.proofs.Forms.{field_is, free_fraction, free_date, free_stamp}

@@ -26,8 +26,7 @@ use Rattle.text_line.specs.declared.ValueField.TheVariants as value
 use Rattle.text_line.specs.declared.Request.{Request}
 use Rattle.text_line.specs.declared.Line.{Line}
 use Rattle.text_line.specs.declared.Line.TheVariants as line
-use Rattle.text_read.specs.Lines.{in_form, fields_from}
-use Rattle.text_line.specs.Line.{kind_of, of_date, of_stamp, request_of}
+use Rattle.text_line.specs.Line.{in_form, kind_of, fields_from, of_date, of_stamp, request_of}
 use Rattle.text_write.specs.Texts.{decimal_text, signed_text, date_text, time_text}
 use Rattle.text_write.specs.Rows.{mark_text, refusal_text}
 use Rattle.text_rows.specs.Answers.{list_of}
@@ -65,7 +64,7 @@ fields_before kind s =
 -- the request of a line
 unfoldable pub line_before : List ℕ → Line
 line_before s =
-    cond (in_form 5 s)
+    cond (in_form s)
     (cond (eqb (kind_of (field_of s)) 0) line.Unread (fields_before (kind_of (field_of s)) s))
     line.Unread
 

@@ -15,11 +15,10 @@ use Rattle.text_line.specs.declared.Request.{Request}
 use Rattle.text_line.specs.declared.Line.{Line}
 use Rattle.text_line.specs.declared.Line.TheVariants as line
 use Rattle.text_line.specs.declared.ValueField.TheVariants as value
-use Rattle.text_read.specs.Lines.{occurrences, rest_of}
-use Rattle.text_line.specs.Line.{span_value, read_value, read_line}
+use Rattle.text_line.specs.Line.{occurrences, rest_of, span_value, read_value, read_line}
 use Rattle.text_write.specs.Rows.{tick_text}
 use Rattle.text_rows.specs.Answers.{has_fraction, shows_fractions, tick_row, list_of, rows_of}
-use Rattle.text_read.specs.Lines.{lines_of}
+use Rattle.text_plate.specs.Plate.{lines_of}
 use Rattle.readback.specs.Before.{rows_before}
 
 -- ---- a tick

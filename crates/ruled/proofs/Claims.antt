@@ -23,7 +23,8 @@ use Rattle.steps.specs.Promise.{Later, by_head, by_tail}
 use Rattle.steps.proofs.Pairs.{length_numbers}
 use Rattle.steps.proofs.Order.{smaller, is_smaller}
 use Rattle.plans.proofs.Cases.{choose, by_test}
-use Rattle.keypoints.specs.Every.{days_from, days_on, every_after, every}
+use Rattle.keypoints.specs.Every.{days_from, days_on}
+use Rattle.keypoints.specs.Weeks.{every_after, every}
 use Rattle.ruled.specs.Ruled.{is_of, ruled_ticks}
 use Rattle.ruled.specs.Claims.{units_before, TickDay, TickAt, Ruled}
 

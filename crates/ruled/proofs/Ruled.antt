@@ -17,10 +17,12 @@ use Rattle.plans.specs.Months.{from_month, to_month, months_by}
 use Rattle.plans.proofs.Cases.{choose}
 use Rattle.plans.proofs.Months.{last_month, first_most, last_most}
 use Rattle.plans.proofs.Promise.{heads_tick}
-use Rattle.keypoints.specs.Every.{days_on, every}
+use Rattle.keypoints.specs.Every.{days_on}
+use Rattle.keypoints.specs.Weeks.{every}
 use Rattle.keypoints.proofs.Loops.{values_same}
 use Rattle.keypoints.proofs.Dates.{on}
-use Rattle.keypoints.proofs.Every.{every_are, apart_fit, Moves, span_are}
+use Rattle.keypoints.proofs.Every.{apart_fit, Moves, span_are}
+use Rattle.keypoints.proofs.Weeks.{every_are}
 use Rattle.ruled.specs.Ruled.{is_first, is_new_year, is_of, ruled_ticks}
 use Rattle.ruled.specs.Plans.{january, ruled_plan}
 use Rattle.ruled.proofs.Units.{each_day, each_month, each_january, month_after}

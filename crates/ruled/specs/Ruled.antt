@@ -4,7 +4,8 @@ use Rattle.std.specs.Prelude.{ℕ, Bool, true, cond, ◌&&◌, List, eqb}
 use Rattle.calendar.specs.Gregorian.{date_of}
 use Rattle.values.specs.declared.Value.{Value}
 use Rattle.axis.specs.declared.Axis.{Axis}
-use Rattle.keypoints.specs.Every.{days_on, every}
+use Rattle.keypoints.specs.Every.{days_on}
+use Rattle.keypoints.specs.Weeks.{every}
 
 -- the first of a month
 abbrev pub is_first : ℕ → Bool

@@ -1,5 +1,7 @@
 // The ticks of a date axis by house rules: the table and the axis are asked, the row for the axis's length gives a plan of
 // every few days, months or Januaries, and it is listed as the plans of hints are.
+#![tactic(auto)]
+
 ghost use Rattle.std.specs.Prelude.{◌≡◌, ◌≤◌, ◌<◌, length};
 ghost use Rattle.laws.specs.Asking.{unless, first_no};
 ghost use Rattle.axis.specs.Questions.{plain_questions};

@@ -236,7 +236,8 @@ as_many (l ∷ ls) = go (read_row l) (rows_of_lines ls) (as_many ls)
 
 module _ (s : List ℕ) (ws : List Row) where
   rows_from_law : (ls : List (List ℕ)) (left : List ℕ) → rows_from 64 ls left ≡ some ws → (length ws ≤ 64) × AllInRange ws
-  rows_from_law ls left e = go (leb (length ls) 64) (leb-true (length ls) 64) _ (rows_of_lines ls) (as_many ls) (lines_in_range ls) e
+  rows_from_law ls left e =
+      go (leb (length ls) 64) (leb-true (length ls) 64) _ (rows_of_lines ls) (as_many ls) (lines_in_range ls) e
     where
       go : (b : Bool) → (b ≡ true → length ls ≤ 64) → (c : Bool) (o : Option (List Row)) → CountIn (length ls) o → RangesIn o →
           cond (b && c) o none ≡ some ws → (length ws ≤ 64) × AllInRange ws

@@ -1,5 +1,7 @@
 // House rules: a table of rows in plate's lines, each for the span lengths between its two ends. The table's text, the
 // questions 12, 15 and 16, and the row of a length.
+#![tactic(auto)]
+
 ghost use Rattle.std.specs.Prelude.{◌≡◌, [], ◌∷◌, ◌++◌, ◌+◌, ◌≤◌, ◌<◌};
 ghost use Rattle.text_read.specs.Fields.{field_of};
 ghost use Rattle.rules.specs.Rows.{unit_of, in_range, row_read, row_from, read_row, AllInRange};
@@ -12,7 +14,7 @@ use text_read::NumberField;
 const LENGTHS: u64 = 3652059;
 
 // Every step-th day, first of a month or January, for the lengths from..=to; the unit is 1 day, 2 month, 3 year.
-#[derive(Drop)]
+#[derive(Clone, Copy)]
 pub struct Row {
     pub from: u64,
     pub to: u64,
@@ -21,14 +23,14 @@ pub struct Row {
 }
 
 // The first count of the rows are in use.
-#[derive(Drop)]
+#[derive(Clone, Copy)]
 pub struct Rules {
     pub rows: [Row; 64],
     pub count: usize,
 }
 
 // A row's numbers as they are typed; the unit is 0 where it is none.
-#[derive(Drop)]
+#[derive(Clone, Copy)]
 struct Typed {
     from: i64,
     to: i64,
@@ -36,28 +38,28 @@ struct Typed {
     step: i64,
 }
 
-#[derive(Drop)]
+#[derive(Clone, Copy)]
 pub enum RowField {
     Read(Row),
     Unread,
 }
 
 // Whether all of a table reads, and the rows that were read.
-#[derive(Drop)]
+#[derive(Clone, Copy)]
 struct TextRows {
     reads: bool,
     rules: Rules,
 }
 
 // How many rows a table has, or the question that refused it.
-#[derive(Drop)]
+#[derive(Clone, Copy)]
 pub enum RulesAnswer {
     Refused(u8),
     Rows(u64),
 }
 
 // What was asked of a table, and its rows; none of them is used where the refusal is not 0.
-#[derive(Drop)]
+#[derive(Clone, Copy)]
 pub struct Table {
     pub refusal: u8,
     pub rules: Rules,

@@ -24,13 +24,13 @@ use Rattle.axis.specs.Questions.{pixels, value_on, mappable, checked}
 use Rattle.mapping.specs.declared.Pixel.{Pixel}
 use Rattle.mapping.specs.declared.Pixel.TheVariants as pixel
 use Rattle.counting.specs.Counting.{Dated, size_of}
-use Rattle.counting.proofs.Counting.{size_most, value_on}
+use Rattle.counting.proofs.Counting.{size_most, value_on_law}
 use Rattle.discrete.specs.declared.NumberAnswer.TheVariants as number
 use Rattle.discrete.specs.Indices.{index_of, value_at}
 use Rattle.discrete.specs.Answers.{size_questions, index_in}
 use Rattle.discrete.proofs.Indices as indices
 use Rattle.discrete.proofs.Answers.{counted_as, counted}
-use Rattle.discrete.proofs.Laws.{one_number, index_in}
+use Rattle.discrete.proofs.Laws.{one_number, index_in_law}
 use Rattle.segmented.specs.declared.SegmentValue.{SegmentValue}
 use Rattle.segmented.specs.declared.SegmentValue.TheVariants.{Exact, CenterOf, Last}
 use Rattle.segmented.specs.declared.SegmentAnswer.TheVariants as segment
@@ -88,8 +88,8 @@ module _ (a : Axis) (s : Segment) where
 
 -- on the axis by which it counts
 pub on_closed : (a : Axis) (v : SegmentValue) → SegmentOn a v → SegmentOn (closed a) v
-on_closed a (Exact v) o = value_on a v ∙ o
-on_closed a (CenterOf v) o = value_on a v ∙ o
+on_closed a (Exact v) o = value_on_law a v ∙ o
+on_closed a (CenterOf v) o = value_on_law a v ∙ o
 on_closed a Last o = tt
 
 -- ---- mapping: a refusal of the first questions, of question 9, and none
@@ -120,7 +120,8 @@ module _ (a : Axis) (l : Limits) (s : Segment) where
   in_parts = in_two pixel.Refused (pixel.At found.hairline) (segment_value_questions a l s)
       (ask 9 (segment_mappable a (segment_of s)) ∷ (ask 10 found.fits ∷ []))
 
-  pub map_refused : (q : ℕ) → q ≡ first_no (segment_value_questions a l s) → (q ≡ 0 → ⊥) → pixel.Refused q ≡ segment_map_answer a l s
+  pub map_refused : (q : ℕ) → q ≡ first_no (segment_value_questions a l s) → (q ≡ 0 → ⊥) → pixel.Refused q ≡ segment_map_answer a
+      l s
   map_refused q e n =
       let r = rest (segment_mappable a (segment_of s)) found.fits in
       sym (in_parts ∙ ap (λ (k : ℕ). unless k pixel.Refused r) (sym e) ∙ refuses pixel.Refused r q n)
@@ -147,7 +148,7 @@ segment_size_range a n e =
 module _ (a : Axis) (c : Dated a) (n : ℕ) where
   index_most : (v : Value) → value_on a v ≡ true → index_in a v ≡ number.Is n → n ≤ 3652059
   unfolding index_of
-  index_most v o e = let (l, i) = index_in a v n e in omega (arith, i, indices.index_most a c v o)
+  index_most v o e = let (l, i) = index_in_law a v n e in omega (arith, i, indices.index_most a c v o)
 
   within_size : (v : SegmentValue) → SegmentOn a v → segment_index_in a v ≡ number.Is n → n ≤ 3652059
   unfolding segment_index_in

@@ -21,7 +21,7 @@ use Rattle.mapping.specs.Mapping.{hairline}
 use Rattle.mapping.proofs.Answers.{answer_at}
 use Rattle.mapping.proofs.Drawn.{kept_dates}
 use Rattle.counting.specs.Counting.{Dated}
-use Rattle.counting.proofs.Counting.{value_on}
+use Rattle.counting.proofs.Counting.{value_on_law}
 use Rattle.discrete.specs.Answers.{next_in}
 use Rattle.discrete.proofs.Answers.{counted}
 use Rattle.discrete.proofs.Laws.{next_on}
@@ -37,7 +37,7 @@ use Rattle.segmented.proofs.Answers.{first_passed, on_kind}
 next_value : (a : Axis) (v w : Value) → Dated (closed a) → next_in (closed a) v ≡ value.At w → is_day w.head ≡ true →
     value_on a w ≡ true
 unfolding checked
-next_value a v w c e day = sym (value_on a w) ∙ next_on (closed a) v w c (rw (e, day) refl)
+next_value a v w c e day = sym (value_on_law a w) ∙ next_on (closed a) v w c (rw (e, day) refl)
 
 module _ (a : Axis) (l : Limits) (e : ends a ≡ true) (c : Dated (closed a)) (dates : over_dates a.kind ≡ true) where
   line_kept : (m : Limits) (v : Value) → value_on a v ≡ true → (hairline a m v).lost ≡ false

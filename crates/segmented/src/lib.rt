@@ -1,5 +1,7 @@
 // Segments of the kinds that count, as plotters' SegmentedCoord: each value has the room up to the next one. The pixel of
 // an exact value, of a centre and of the last end; sizes, indices and ticks.
+#![tactic(auto)]
+
 ghost use Rattle.std.specs.Prelude.{◌≡◌, true, ◌≤◌, length};
 ghost use Rattle.laws.specs.Asking.{first_no};
 ghost use Rattle.calendar.specs.Questions.{last_day};
@@ -21,21 +23,21 @@ use steps::Listed;
 use values::Value;
 
 // The three numbers of a segment value: case 1 exact, 2 centre, 3 last.
-#[derive(Drop)]
+#[derive(Clone, Copy)]
 pub struct Segment {
     pub case: i64,
     pub head: i64,
     pub tail: i64,
 }
 
-#[derive(Drop)]
+#[derive(Clone, Copy)]
 pub enum SegmentValue {
     Exact(Value),
     CenterOf(Value),
     Last,
 }
 
-#[derive(Drop)]
+#[derive(Clone, Copy)]
 pub enum SegmentAnswer {
     Refused(u8),
     None,

@@ -39,7 +39,8 @@ month_next m =
     ]
 
 next_later : (m : ℕ) → first_day m < first_day (m + 1)
-next_later m = let h : m % 12 + 1 ≤ 12 = omega arith in omega (arith, month_next m, month_length_range (m / 12 + 1) (m % 12 + 1) h)
+next_later m = let h : m % 12 + 1 ≤ 12 = omega arith in
+    omega (arith, month_next m, month_length_range (m / 12 + 1) (m % 12 + 1) h)
 
 pub first_days : (x y : ℕ) → x < y → first_day x < first_day y
 first_days x zero h = absurd (not-suc-le-zero h)

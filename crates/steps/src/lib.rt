@@ -1,5 +1,7 @@
 // Value lists: the numbers of a progression, the tick of each, and the listing of their pairs in lent numbers.
 // What a month is to a tick list stands here too; which progression a kind lists does not.
+#![tactic(auto)]
+
 ghost use Rattle.std.specs.Prelude.{◌≡◌, true, false, ◌++◌, ◌*◌, ◌<◌, ◌≤◌, length, drop};
 ghost use Rattle.steps.specs.Months.{first_day, month_number, month_of, whole_month};
 ghost use Rattle.steps.specs.Progression.{fitting, ticks, Sound};
@@ -7,7 +9,7 @@ ghost use Rattle.steps.specs.Listing.{numbers, has_room, listed_of, lent_after, 
 
 // The numbers first, first + step, .. : count of them. With by_month set a number is a month, counted from 0001-01,
 // which is 0. Else a head has per numbers, and base is the head at which they start.
-#[derive(Drop)]
+#[derive(Clone, Copy)]
 pub struct Steps {
     pub by_month: bool,
     pub base: i64,
@@ -18,7 +20,7 @@ pub struct Steps {
 }
 
 // A refusal's number, or how many ticks were listed.
-#[derive(Drop)]
+#[derive(Clone, Copy)]
 pub enum Listed {
     Refused(u8),
     Ticks(u64),

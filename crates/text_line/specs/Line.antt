@@ -1,6 +1,7 @@
 -- The names line, which lines of values read, and the request that such a line makes. Definitions only.
 -- A line is its bytes without the LF. Its fields are kind start end hint low high, with one space between them.
-use Rattle.std.specs.Prelude.{Bool, ◌&&◌, cond, List, [], ◌∷◌, ℕ, zero, suc, ◌+◌, ◌-◌, ◌*◌, ltb, eqb, ℤ, pos}
+use Rattle.std.specs.Prelude.{Bool, true, false, ◌&&◌, cond, List, [], ◌∷◌, ℕ, zero, suc, ◌+◌, ◌-◌, ◌*◌, leb, ltb, eqb, ℤ, pos}
+use Rattle.std.specs.Prelude.{length, drop}
 use Rattle.laws.specs.Numbers.{minus}
 use Rattle.laws.specs.Units.{per_second}
 use Rattle.calendar.specs.Questions.{number_of}
@@ -9,8 +10,8 @@ use Rattle.calendar.specs.declared.DayAnswer.TheVariants as day
 use Rattle.values.specs.declared.Value.{Value}
 use Rattle.values.specs.Values.{over_date_times, is_duration}
 use Rattle.axis.specs.Axes.{axis_of}
-use Rattle.text_read.specs.Lines.{same_as, place_in, in_form, fields_from}
-use Rattle.text_read.specs.Fields.{field_of, read_number, read_date, read_stamp, read_span}
+use Rattle.text_read.specs.Bytes.{space_byte}
+use Rattle.text_read.specs.Fields.{until_of, field_of, read_number, read_date, read_stamp, read_span}
 use Rattle.text_read.specs.declared.Day.{Day}
 use Rattle.text_read.specs.declared.Moment.{Moment}
 use Rattle.text_read.specs.declared.Duration.{Duration}
@@ -29,6 +30,13 @@ use Rattle.text_line.specs.declared.Line.{Line}
 use Rattle.text_line.specs.declared.Line.TheVariants as line
 
 -- ---- words
+-- the same bytes
+unfoldable pub same_as : List ℕ → List ℕ → Bool
+same_as [] [] = true
+same_as [] (b ∷ t) = false
+same_as (a ∷ s) [] = false
+same_as (a ∷ s) (b ∷ t) = cond (eqb a b) (same_as s t) false
+
 -- "kind start end hint low high"
 abbrev pub names : List ℕ
 names =
@@ -52,9 +60,33 @@ kinds =
     ∷ (119 ∷ 101 ∷ 101 ∷ 107 ∷ [])
     ∷ []
 
+-- where w stands among words of which the first counts as k; 0: it is none of them
+abbrev pub place_in : ℕ → List (List ℕ) → List ℕ → ℕ
+place_in k [] w = 0
+place_in k (v ∷ vs) w = cond (same_as w v) k (place_in (suc k) vs w)
+
 -- 1 to 8, or 0
 unfoldable pub kind_of : List ℕ → ℕ
 kind_of w = place_in 1 kinds w
+
+-- ---- fields
+-- how often c stands in s
+unfoldable pub occurrences : ℕ → List ℕ → ℕ
+occurrences c [] = 0
+occurrences c (b ∷ s) = cond (eqb b c) (suc (occurrences c s)) (occurrences c s)
+
+-- at most 120 bytes, and six fields
+unfoldable pub in_form : List ℕ → Bool
+in_form s = leb (length s) 120 && eqb (occurrences space_byte s) 5
+
+-- what stands after the first space
+abbrev pub rest_of : List ℕ → List ℕ
+rest_of s = drop (until_of space_byte s + 1) s
+
+-- the line from its field k on; the kind is its field 0
+abbrev pub fields_from : ℕ → List ℕ → List ℕ
+fields_from zero s = s
+fields_from (suc k) s = rest_of (fields_from k s)
 
 -- ---- a start or an end as a value
 -- what is typed in form and is not real: no value of the kinds over dates and date_times, whose heads begin at 1
@@ -149,9 +181,9 @@ fields_of kind s =
     (read_number (fields_from 4 s))
     (read_number (fields_from 5 s))
 
--- the request that a line makes, or that it does not read: it is in form, six fields, and its kind is known
+-- the request that a line makes, or that it does not read: it is in form, and its kind is known
 unfoldable pub read_line : List ℕ → Line
 read_line s =
-    cond (in_form 5 s)
+    cond (in_form s)
     (cond (eqb (kind_of (field_of s)) 0) line.Unread (fields_of (kind_of (field_of s)) s))
     line.Unread

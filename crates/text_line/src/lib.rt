@@ -1,9 +1,11 @@
 // The lines of plate's input: the names line, and a line of values with the request that it makes. A line is its bytes
 // without the LF; its fields are kind start end hint low high, with one space between them.
-ghost use Rattle.std.specs.Prelude.{◌≡◌, ◌≤◌, ◌<◌, ◌^◌};
+#![tactic(auto)]
+
+ghost use Rattle.std.specs.Prelude.{◌≡◌, cond, ◌≤◌, ◌<◌, ◌^◌};
 ghost use Rattle.laws.specs.Units.{per_second, per_day};
 ghost use Rattle.text_read.specs.Fields.{field_of, Typed};
-ghost use Rattle.text_line.specs.Line.{is_names, kind_of};
+ghost use Rattle.text_line.specs.Line.{same_as, is_names, occurrences, in_form, kind_of, rest_of};
 ghost use Rattle.text_line.specs.Line.{on_day, is_time, stamp_value, below_zero, span_value, read_value, request_of, read_line};
 
 use axis::{Axis, BoldPoints, Limits};
@@ -12,45 +14,91 @@ use text_read::{DateField, Day, Duration, Moment, NumberField, SpanField, StampF
 use values::Value;
 
 // The numbers of a line. No question was asked of them yet.
-#[derive(Drop)]
+#[derive(Clone, Copy)]
 pub struct Request {
     pub axis: Axis,
     pub hint: BoldPoints,
     pub limits: Limits,
 }
 
-#[derive(Drop)]
+#[derive(Clone, Copy)]
 pub enum Line {
     Read(Request),
     Unread,
 }
 
 // A start or an end.
-#[derive(Drop)]
+#[derive(Clone, Copy)]
 pub enum ValueField {
     Read(Value),
     Unread,
+}
+
+// Are the two the same bytes?
+pub fn same(a: &[u8], b: &[u8]) -> bool
+    ensures { result ≡ same_as a.now b.now }
+{
+    if a.len() != b.len() {
+        return false;
+    }
+    let mut i: usize = 0;
+    while i < a.len() {
+        if a[i] != b[i] {
+            return false;
+        }
+        i += 1;
+    }
+    true
 }
 
 // Is it the names line?
 pub fn is_names(s: &[u8]) -> bool
     ensures { result ≡ is_names s.now }
 {
-    text_read::same(s, b"kind start end hint low high")
+    same(s, b"kind start end hint low high")
+}
+
+// How often c stands in s.
+fn occurrences(s: &[u8], c: u8) -> usize
+    ensures { result ≡ occurrences c s.now }
+{
+    let mut n: usize = 0;
+    let mut i: usize = 0;
+    while i < s.len() {
+        if s[i] == c {
+            n += 1;
+        }
+        i += 1;
+    }
+    n
+}
+
+// At most 120 bytes, and six fields.
+fn in_form(s: &[u8]) -> bool
+    ensures { result ≡ in_form s.now }
+{
+    (s.len() <= 120) & (occurrences(s, b' ') == 5)
+}
+
+// The number where the two are the same, and the other one where not.
+fn if_same(a: &[u8], b: &[u8], number: u64, other: u64) -> u64
+    ensures { result ≡ cond (same_as a.now b.now) number other }
+{
+    if same(a, b) { number } else { other }
 }
 
 // The kind that the word names, or 0.
 fn kind_of(w: &[u8]) -> u64
     ensures { result ≡ kind_of w.now }
 {
-    let k = text_read::if_same(w, b"week", 8, 0);
-    let k = text_read::if_same(w, b"span", 7, k);
-    let k = text_read::if_same(w, b"stampyear", 6, k);
-    let k = text_read::if_same(w, b"stampmonth", 5, k);
-    let k = text_read::if_same(w, b"stamp", 4, k);
-    let k = text_read::if_same(w, b"year", 3, k);
-    let k = text_read::if_same(w, b"month", 2, k);
-    text_read::if_same(w, b"date", 1, k)
+    let k = if_same(w, b"week", 8, 0);
+    let k = if_same(w, b"span", 7, k);
+    let k = if_same(w, b"stampyear", 6, k);
+    let k = if_same(w, b"stampmonth", 5, k);
+    let k = if_same(w, b"stamp", 4, k);
+    let k = if_same(w, b"year", 3, k);
+    let k = if_same(w, b"month", 2, k);
+    if_same(w, b"date", 1, k)
 }
 
 // The kind that the field at the front of s names, or 0.
@@ -59,6 +107,18 @@ fn read_kind(s: &[u8]) -> u64
 {
     let k = text_read::until(s, b' ');
     kind_of(&s[..k])
+}
+
+// The part after the first space, or an empty part.
+fn rest_of(s: &[u8]) -> &[u8]
+    ensures { result.now ≡ rest_of s.now }
+{
+    let k = text_read::until(s, b' ');
+    if k == s.len() {
+        return &s[k..];
+    }
+    let at = k + 1;
+    &s[at..]
 }
 
 // A day and a nanosecond of it. A date that is not real gets 0 and 0, which is no value of a kind that is asked for it.
@@ -190,18 +250,18 @@ fn together(
 pub fn read_line(s: &[u8]) -> Line
     ensures { result ≡ read_line s.now }
 {
-    if !text_read::in_form(s, 5) {
+    if !in_form(s) {
         return Line::Unread;
     }
     let k = read_kind(s);
     if k == 0 {
         return Line::Unread;
     }
-    let a = text_read::rest_of(s);
-    let b = text_read::rest_of(a);
-    let c = text_read::rest_of(b);
-    let d = text_read::rest_of(c);
-    let e = text_read::rest_of(d);
+    let a = rest_of(s);
+    let b = rest_of(a);
+    let c = rest_of(b);
+    let d = rest_of(c);
+    let e = rest_of(d);
     let start = read_value(k, a);
     let end = read_value(k, b);
     let hint = text_read::number(c);

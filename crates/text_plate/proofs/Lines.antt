@@ -11,9 +11,8 @@ use lib.ListN.{length, take}
 use lib.Seq.{take_all, length-take-le}
 use borrow.Author.Tests.{lt-leb}
 use Rattle.text_line.specs.declared.Line.TheVariants.{Unread}
-use Rattle.text_read.specs.Lines.{in_form}
-use Rattle.text_line.specs.Line.{names, is_names, read_line}
-use Rattle.text_read.proofs.Lines.{same_length_not}
+use Rattle.text_line.specs.Line.{names, is_names, in_form, read_line}
+use Rattle.text_line.proofs.Lines.{same_length_not}
 use Rattle.text_write.specs.Rows.{refusal_text}
 use Rattle.text_rows.specs.Answers.{rows_of}
 use Rattle.text_rows.proofs.Lists.{line_unread}

@@ -19,8 +19,7 @@ use Rattle.feed.specs.declared.Fed.{Fed}
 use Rattle.feed.specs.Feed.{Ate}
 use Rattle.feed.proofs.Keeping.{take_front, used_some}
 use Rattle.text_rows.specs.Answers.{rows_of}
-use Rattle.text_read.specs.Lines.{Lines, byte_before, lines_of}
-use Rattle.text_plate.specs.Plate.{output_names, no_names, lines_text, plate_text, plate_of}
+use Rattle.text_plate.specs.Plate.{output_names, no_names, Lines, byte_before, lines_of, lines_text, plate_text, plate_of}
 use Rattle.text_plate.specs.declared.State.{State}
 use Rattle.text_plate.specs.declared.Taken.{Taken}
 use Rattle.text_plate.specs.Turns.{finished_text, goes_on, ended_text, to_come, Turned}
@@ -41,14 +40,16 @@ same_to_come (x ∷ s) n a b e = rw (
 )
 
 -- ---- a chunk with no LF, and one up to its first LF
-no_end : (chunk : List ℕ) (n : ℕ) (begun more : List ℕ) → length chunk ≤ until_of line_feed chunk → to_come n begun (chunk ++ more)
+no_end : (chunk : List ℕ) (n : ℕ) (begun more : List ℕ) → length chunk ≤ until_of line_feed chunk → to_come n begun
+    (chunk ++ more)
     ≡ to_come n (begun ++ chunk) more
 unfolding to_come until_of
 no_end [] n begun more h = ap (λ (l : List ℕ). to_come n l more) (sym (append-nil begun))
 no_end (x ∷ s) n begun more h = go (eqb x line_feed) h (λ l. no_end s n (begun ++ (x ∷ [])) more l)
   where
     go : (t : Bool) → suc (length s) ≤ cond t 0 (suc (until_of line_feed s))
-        → (length s ≤ until_of line_feed s → to_come n (begun ++ (x ∷ [])) (s ++ more) ≡ to_come n ((begun ++ (x ∷ [])) ++ s) more)
+        → (length s ≤ until_of line_feed s → to_come n (begun ++ (x ∷ [])) (s ++ more) ≡ to_come n ((begun ++ (x ∷ [])) ++ s)
+        more)
         → cond t (finished_text n begun ++ cond (goes_on n begun) (to_come (suc n) [] (s ++ more)) [])
         (to_come n (begun ++ (x ∷ [])) (s ++ more)) ≡ to_come n (begun ++ (x ∷ s)) more
     go true l again = absurd (let z : ⊥ = omega arith in z)
@@ -57,7 +58,8 @@ no_end (x ∷ s) n begun more h = go (eqb x line_feed) h (λ l. no_end s n (begu
 abbrev after_line : ℕ → List ℕ → List ℕ → List ℕ
 after_line n line rest = finished_text n line ++ cond (goes_on n line) (to_come (suc n) [] rest) []
 
-to_end : (chunk : List ℕ) (n : ℕ) (begun more : List ℕ) → until_of line_feed chunk < length chunk → to_come n begun (chunk ++ more)
+to_end : (chunk : List ℕ) (n : ℕ) (begun more : List ℕ) → until_of line_feed chunk < length chunk → to_come n begun
+    (chunk ++ more)
     ≡ after_line n (begun ++ take (until_of line_feed chunk) chunk) (drop (suc (until_of line_feed chunk)) chunk ++ more)
 unfolding to_come until_of
 to_end [] n begun more h = absurd (let z : ⊥ = omega arith in z)

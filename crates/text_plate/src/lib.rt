@@ -1,18 +1,20 @@
 // plate's output for its input, by turns: a turn takes a chunk of the input up to the end of a line, and writes what that
 // line prints into a lent buffer; turns go on over the chunk. Where the chunks end does not matter.
+#![tactic(auto)]
+
 ghost use Rattle.std.specs.Prelude.{◌≡◌, ◌+◌, ◌≤◌, ◌<◌, length, take};
 ghost use Rattle.text_write.specs.Texts.{Wrote};
 ghost use Rattle.text_plate.specs.Plate.{output_names, no_names};
 ghost use Rattle.text_plate.specs.Turns.{finished_text, goes_on, ended_text, Keeps, Turned};
 
 // The number of the line that was begun, 0 for the names line, and how many of its bytes are kept.
-#[derive(Drop)]
+#[derive(Clone, Copy)]
 pub struct State {
     pub number: u64,
     pub len: usize,
 }
 
-#[derive(Drop)]
+#[derive(Clone, Copy)]
 pub struct Taken {
     pub state: State,
     // whether there is more to print

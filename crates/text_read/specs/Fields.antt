@@ -1,6 +1,7 @@
 -- The forms of a line's fields, over the bytes from a field's start: numbers, dates, date_times, spans. Definitions only.
 -- A field is what stands before the next space, or all to the line's end.
-use Rattle.std.specs.Prelude.{Bool, true, false, ◌&&◌, cond, List, [], ◌∷◌, ℕ, suc, ◌+◌, ◌*◌, ◌-◌, ◌^◌, ◌<◌, leb, ltb, eqb, pos, ◌-ℤ◌, length, take, drop, get_or}
+use Rattle.std.specs.Prelude.{Bool, true, false, ◌&&◌, cond, List, [], ◌∷◌, ℕ, suc, ◌+◌, ◌*◌, ◌-◌, ◌^◌, ◌<◌, leb, ltb, eqb, pos}
+use Rattle.std.specs.Prelude.{◌-ℤ◌, length, take, drop, get_or}
 use Rattle.laws.specs.Units.{per_second}
 use Rattle.text_read.specs.Bytes.{space_byte, minus_byte, point_byte, zero_byte, nine_byte, colon_byte, t_byte}
 use Rattle.text_read.specs.declared.Whole.{Whole}
@@ -51,7 +52,8 @@ minus_of whole.Unread = number.Unread
 
 -- a minus and digits, or digits
 unfoldable pub read_number : List ℕ → NumberField
-read_number s = cond (eqb (get_or s 0 0) minus_byte) (minus_of (digits_of (drop 1 (field_of s)))) (plus_of (digits_of (field_of s)))
+read_number s =
+    cond (eqb (get_or s 0 0) minus_byte) (minus_of (digits_of (drop 1 (field_of s)))) (plus_of (digits_of (field_of s)))
 
 -- all three, or none
 abbrev pub three_of : Whole → Whole → Whole → Three

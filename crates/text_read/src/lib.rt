@@ -1,46 +1,48 @@
 // Readers of the fields of a line. Each takes the part of the line from its field's start, and answers the value or that
 // the field has not the form. A field ends before the next space, or where the line ends.
+#![tactic(auto)]
+
 ghost use Rattle.std.specs.Prelude.{◌≡◌, cond, ◌+◌, ◌≤◌, length, take};
 ghost use Rattle.text_read.specs.Lines.{same_as, occurrences, in_form, rest_of};
 ghost use Rattle.text_read.specs.Fields.{until_of, is_digit, digits_of, read_number, three_of, triple_of, read_date};
 ghost use Rattle.text_read.specs.Fields.{nanos_of, fraction_of, read_stamp, seconds_of, read_span};
 ghost use Rattle.text_read.specs.Fields.{Digits, TypedThree, TypedDate, TypedStamp, TypedSpan};
 
-#[derive(Drop)]
+#[derive(Clone, Copy)]
 pub enum Whole {
     Value(u64),
     Unread,
 }
 
-#[derive(Drop)]
+#[derive(Clone, Copy)]
 pub enum NumberField {
     Read(i64),
     Unread,
 }
 
 // Three whole numbers with a separator between them: a date, or a time of day.
-#[derive(Drop)]
+#[derive(Clone, Copy)]
 enum Three {
     Of(u64, u64, u64),
     Unread,
 }
 
 // A date as it is typed, real or not.
-#[derive(Drop)]
+#[derive(Clone, Copy)]
 pub struct Day {
     pub year: u64,
     pub month: u64,
     pub day: u64,
 }
 
-#[derive(Drop)]
+#[derive(Clone, Copy)]
 pub enum DateField {
     Read(Day),
     Unread,
 }
 
 // A date-time as it is typed, real or not.
-#[derive(Drop)]
+#[derive(Clone, Copy)]
 pub struct Moment {
     pub date: Day,
     pub hour: u64,
@@ -50,21 +52,21 @@ pub struct Moment {
     pub nano: u64,
 }
 
-#[derive(Drop)]
+#[derive(Clone, Copy)]
 pub enum StampField {
     Read(Moment),
     Unread,
 }
 
 // A duration as it is typed: seconds and nanoseconds, both away from zero.
-#[derive(Drop)]
+#[derive(Clone, Copy)]
 pub struct Duration {
     pub below: bool,
     pub seconds: u64,
     pub nano: u64,
 }
 
-#[derive(Drop)]
+#[derive(Clone, Copy)]
 pub enum SpanField {
     Read(Duration),
     Unread,

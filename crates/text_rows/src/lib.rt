@@ -1,4 +1,6 @@
 // A line of plate's input, and the lines of output that answer it, in a lent buffer.
+#![tactic(auto)]
+
 ghost use Rattle.std.specs.Prelude.{◌≡◌, ◌≤◌, length, take};
 ghost use Rattle.text_write.specs.Texts.{Wrote};
 ghost use Rattle.text_rows.specs.Answers.{Printable, shows_fractions, list_text, request_text, rows_of};

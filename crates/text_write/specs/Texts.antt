@@ -57,7 +57,8 @@ fraction_text shown q = cond shown ((point_byte ∷ []) ++ fixed_text 9 q) []
 
 -- YYYY-MM-DDThh:mm:ss of a day number and a nanosecond of the day, and the fraction of its second
 abbrev pub date_time_text : Bool → ℕ → ℕ → List ℕ
-date_time_text shown n nano = date_text n ++ (t_byte ∷ []) ++ time_text (nano / per_second) ++ fraction_text shown (nano % per_second)
+date_time_text shown n nano =
+    date_text n ++ (t_byte ∷ []) ++ time_text (nano / per_second) ++ fraction_text shown (nano % per_second)
 
 -- of a span's nanoseconds: a minus where they are below 0, then how far from 0 they are, in whole seconds and a fraction
 abbrev pub span_text : Bool → ℤ → List ℕ

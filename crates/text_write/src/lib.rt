@@ -1,5 +1,7 @@
 // Writers of plate's text into a lent buffer: numbers, dates, ticks, pixels and the lines of the output. Each writes its
 // text from a place on and answers the place after it; the rest of the buffer is as it was.
+#![tactic(auto)]
+
 ghost use Rattle.std.specs.Prelude.{◌≡◌, true, ◌∷◌, [], ◌+◌, ◌≤◌, ◌<◌, pos, length};
 ghost use Rattle.laws.specs.Numbers.{pos_part};
 ghost use Rattle.calendar.specs.Questions.{last_day};

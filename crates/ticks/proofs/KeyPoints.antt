@@ -25,7 +25,8 @@ use Rattle.steps.specs.Progression.{ticks}
 use Rattle.plans.specs.Times.{period_in}
 use Rattle.keypoints.specs.Times.{period_on}
 use Rattle.keypoints.specs.KeyPoints.{key_points}
-use Rattle.keypoints.specs.Hints.{limit, finer, monthly_light, yearly_light, light_key_points, key_points_in, turns_for, key_points_for}
+use Rattle.keypoints.specs.Hints.{limit, finer, monthly_light, yearly_light, light_key_points, key_points_in, turns_for}
+use Rattle.keypoints.specs.Hints.{key_points_for}
 use Rattle.keypoints.proofs.Periods.{optional}
 use Rattle.keypoints.proofs.KeyPoints.{period_on_law, key_points_same}
 use Rattle.ticks.specs.declared.PeriodAnswer.TheVariants as period

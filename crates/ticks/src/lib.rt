@@ -1,5 +1,7 @@
 // The ticks of an axis, as plotters' key_points of every kind and hint: the questions, a plan, then its list in lent
 // numbers. Count and list come from one plan.
+#![tactic(auto)]
+
 ghost use Rattle.std.specs.Prelude.{◌≡◌, true, ◌≤◌, length};
 ghost use Rattle.laws.specs.Asking.{first_no, unless};
 ghost use Rattle.axis.specs.Questions.{ends};
@@ -13,14 +15,14 @@ use axis::{Axis, BoldPoints, Hint};
 use steps::{Listed, Steps};
 
 // What was asked of an axis and a hint, and the plan of their list; no number of it is used where the refusal is not 0.
-#[derive(Drop)]
+#[derive(Clone, Copy)]
 pub struct Planned {
     pub refusal: u8,
     pub plan: Steps,
 }
 
 // A period in nanoseconds; none where days are listed.
-#[derive(Drop)]
+#[derive(Clone, Copy)]
 pub enum PeriodAnswer {
     Refused(u8),
     None,

@@ -1,5 +1,7 @@
 // The date-time under a pixel, kind 4, as plotters' unmap_coord: in whole nanoseconds where the Rust's product fits, else
 // by whole days in floats. Signs apart, all of it is done on counts.
+#![tactic(auto)]
+
 ghost use Rattle.std.specs.Prelude.{◌≡◌, true, false, ◌+◌, ◌*◌, ◌/◌, ◌%◌, ◌<◌, pos, nat_abs, ◌+ℤ◌, ◌-ℤ◌, ◌*ℤ◌};
 ghost use Rattle.std.specs.Int.Signed.{lt_z};
 ghost use Rattle.laws.specs.Units.{per_day};
@@ -17,7 +19,7 @@ use calendar::LAST_COUNT;
 use values::Value;
 
 // Pixels from the low limit, and the width, which is not 0.
-#[derive(Drop)]
+#[derive(Clone, Copy)]
 pub struct Offset {
     pub pixels: i64,
     pub width: i64,

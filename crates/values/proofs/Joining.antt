@@ -39,7 +39,8 @@ tail_fits u t f a b = let l = up_fits u f in fits t (pos_part t) (neg_part t) re
 
 -- ---- products and sums with a numeral
 module _ (h t : ℤ) (k : ℕ) where
-  pub joint : pos_part (h *ℤ pos k +ℤ t) + (neg_part h * k + neg_part t) ≡ pos_part h * k + pos_part t + neg_part (h *ℤ pos k +ℤ t)
+  pub joint : pos_part (h *ℤ pos k +ℤ t) + (neg_part h * k + neg_part t) ≡ pos_part h * k + pos_part t + neg_part
+      (h *ℤ pos k +ℤ t)
   joint = omega (arith, add (h *ℤ pos k) t, mul_up h k, mul_dn h k)
 
   product : pos_part h * k < 2 ^ 63 + neg_part h * k → neg_part h * k ≤ 2 ^ 63 + pos_part h * k → SFits w64 (h *ℤ pos k)

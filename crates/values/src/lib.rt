@@ -1,5 +1,7 @@
 // Values of an axis: which numbers are a value of a kind, the order of values, and how far apart two of them are.
 // Whether a difference fits a signed 64-bit number of nanoseconds is decided on heads and tails, before any product.
+#![tactic(auto)]
+
 ghost use Rattle.std.specs.Prelude.{◌≡◌};
 ghost use Rattle.std.specs.Int.Signed.{quot_z};
 ghost use Rattle.values.specs.Values.{is_duration, is_value, earlier, Both};
@@ -9,14 +11,14 @@ ghost use Rattle.values.specs.Parts.{Bounded, TowardZero, Of, sum};
 use calendar::LAST_DAY;
 
 // Date: day number and 0. Date-time: day number and nanosecond of the day. Duration: seconds and nanoseconds.
-#[derive(Drop)]
+#[derive(Clone, Copy)]
 pub struct Value {
     pub head: i64,
     pub tail: i64,
 }
 
 // A number of nanoseconds; value is 0 where it does not fit.
-#[derive(Drop)]
+#[derive(Clone, Copy)]
 pub struct Nanoseconds {
     pub fits: bool,
     pub value: i64,
@@ -24,7 +26,7 @@ pub struct Nanoseconds {
 
 // A difference as heads and tails, of unit nanoseconds a head. So are the ends of the signed 64-bit numbers: most is
 // 2^63 - 1 nanoseconds, and least is -2^63, both cut toward zero.
-#[derive(Drop)]
+#[derive(Clone, Copy)]
 struct Parts {
     heads: i64,
     tails: i64,

@@ -168,10 +168,15 @@ week_and_back t n e =
     week_at_law (pos n) (day_in n (omega arith) (omega arith)) ∙ ap week.Answered (ap week_date_of (sym r) ∙ week_back _ _ _ k)
 
 -- the Monday of every week of the years 1 to 9999 is a day of the calendar
-pub monday_answered : (y w : ℕ) → InWeeks y w 1 → y ≤ 9999 → week_day_number (raw (week_date y w 1)) ≡ day.Answered (week_day y w 1)
+pub monday_answered : (y w : ℕ) → InWeeks y w 1 → y ≤ 9999 → week_day_number (raw (week_date y w 1)) ≡ day.Answered
+    (week_day y w 1)
 unfolding week_day_number
 monday_answered y w k h =
-    simp (is_week_date_law (week_date y w 1) k h, le-leb (week_day y w 1) 3652059 (omega (arith, monday_most y w k, years_most y h)))
+    simp (
+      is_week_date_law (week_date y w 1) k h,
+      le-leb (week_day y w 1) 3652059
+          (omega (arith, monday_most y w k, years_most y h)),
+    )
 
 -- three numbers with a yes are counts
 pub same_numbers : (t : Ywd) → is_week_date t ≡ true →

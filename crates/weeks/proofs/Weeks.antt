@@ -129,10 +129,12 @@ later : (d n : ℕ) → 1 ≤ n → 1 ≤ d → d ≤ 7 → (weekday n ≡ d →
 unfolding weekday
 later d n h l u e = omega arith
 
-day_from_law : (d k n : ℕ) → 1 ≤ n → 1 ≤ d → d ≤ 7 → 7 * ((n + 6 - d) / 7) + d ≤ n + k → day_from d k n ≡ 7 * ((n + 6 - d) / 7) + d
+day_from_law : (d k n : ℕ) → 1 ≤ n → 1 ≤ d → d ≤ 7 → 7 * ((n + 6 - d) / 7) + d ≤ n + k → day_from d k n ≡ 7 * ((n + 6 - d) / 7) +
+    d
 unfolding day_from
 day_from_law d zero n h l u m = omega arith
-day_from_law d (suc k) n h l u m = go (eqb (weekday n) d) (eqb-true _ _) (eqb-false _ _) (day_from_law d k (n + 1) (omega arith) l u)
+day_from_law d (suc k) n h l u m =
+    go (eqb (weekday n) d) (eqb-true _ _) (eqb-false _ _) (day_from_law d k (n + 1) (omega arith) l u)
   where
     go : (b : Bool) → (b ≡ true → weekday n ≡ d) → (b ≡ false → weekday n ≡ d → ⊥)
         → (7 * ((n + 1 + 6 - d) / 7) + d ≤ n + 1 + k → day_from d k (n + 1) ≡ 7 * ((n + 1 + 6 - d) / 7) + d)

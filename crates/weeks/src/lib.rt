@@ -1,5 +1,7 @@
 // Week dates of ISO 8601, and the Mondays of days. No loop: day 1 is a Monday, so that a seventh of the days before a day
 // is the weeks before it.
+#![tactic(auto)]
+
 ghost use Rattle.std.specs.Prelude.{◌≡◌, ◌+◌, ◌-◌, ◌≤◌, true, leb, pos};
 ghost use Rattle.calendar.specs.Gregorian.{years, date_of};
 ghost use Rattle.calendar.specs.Questions.{last_day};
@@ -8,7 +10,7 @@ ghost use Rattle.weeks.specs.Questions.{in_ranges, week_day_number, week_date_at
 
 use calendar::{DayAnswer, LAST_COUNT};
 
-#[derive(Drop)]
+#[derive(Clone, Copy)]
 pub struct WeekDate {
     pub year: u64,
     pub week: u64,
@@ -16,7 +18,7 @@ pub struct WeekDate {
 }
 
 // Three numbers that may be a week date.
-#[derive(Drop)]
+#[derive(Clone, Copy)]
 pub struct Ywd {
     pub year: i64,
     pub week: i64,
@@ -24,13 +26,13 @@ pub struct Ywd {
 }
 
 // A year, and how many of its days come before a day of it.
-#[derive(Drop)]
+#[derive(Clone, Copy)]
 struct YearDay {
     year: u64,
     day: u64,
 }
 
-#[derive(Drop)]
+#[derive(Clone, Copy)]
 pub enum WeekAnswer {
     Refused(u8),
     Answered(WeekDate),

@@ -1,0 +1,41 @@
+-- `axis::in_order` meets its contract. Assumes nothing.
+use borrow.Author.Rules.{rules}
+use mir.Syntax.{w64}
+use mir.Val.{SFits}
+use mir.Facts.{to_z-of_z}
+use Rattle.axis.proofs.Questions.{heads_apart, heads_not_apart}
+use Rattle.axis.proofs.in_order.Goals as goal
+use Rattle.axis.proofs.in_order.Goals.{Start}
+
+module _ (c : Start) where
+  start_fits : SFits w64 c.args.a.start_head
+  start_fits = search rules
+
+  end_fits : SFits w64 c.args.a.end_head
+  end_fits = search rules
+
+  start_tail_fits : SFits w64 c.args.a.start_tail
+  start_tail_fits = search rules
+
+  end_tail_fits : SFits w64 c.args.a.end_tail
+  end_tail_fits = search rules
+
+pub returns-then-a : goal.returns-then-a
+returns-then-a c =
+    heads_apart c.args.a (rw (
+      to_z-of_z (start_fits (goal.at.returns-then-a c).Start),
+      to_z-of_z (end_fits (goal.at.returns-then-a c).Start),
+    ) at c.if-a.true)
+
+pub returns : goal.returns
+returns c =
+    rw (
+      to_z-of_z (start_fits (goal.at.returns c).Start),
+      to_z-of_z (end_fits (goal.at.returns c).Start),
+      to_z-of_z (start_tail_fits (goal.at.returns c).Start),
+      to_z-of_z (end_tail_fits (goal.at.returns c).Start),
+    )
+    (heads_not_apart c.args.a (rw (
+      to_z-of_z (start_fits (goal.at.returns c).Start),
+      to_z-of_z (end_fits (goal.at.returns c).Start),
+    ) at c.if-a.false))

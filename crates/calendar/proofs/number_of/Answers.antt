@@ -1,0 +1,50 @@
+-- `calendar::number_of` meets its contract: three numbers in their ranges are their counts. Assumes nothing.
+use borrow.Author.Rules.{rules}
+use mathlib.Core.Path.{◌≡◌, sym, ◌∙◌, ap}
+use mathlib.Core.Bool.{true}
+use lib.IntN.{pos}
+use Rattle.calendar.specs.Questions.{in_ranges, number_of}
+use Rattle.calendar.proofs.Questions.{counts_from_0, same_count, out_of_ranges, Ranges, ranges}
+use Rattle.calendar.proofs.number_of.Goals as goal
+use Rattle.calendar.proofs.number_of.Goals.{After-as_count-3, Else-not-in_ranges}
+
+pub returns-then-not-in_ranges : goal.returns-then-not-in_ranges
+unfolding number_of
+returns-then-not-in_ranges c = simp (out_of_ranges c.args.t (sym c.in_ranges.ensures ∙ c.if-not-in_ranges.true))
+
+passed : (c : Else-not-in_ranges) → in_ranges c.args.t ≡ true
+passed c = sym c.in_ranges.ensures ∙ c.if-not-in_ranges.false
+
+fine : (c : Else-not-in_ranges) → Ranges c.args.t
+fine c = ranges c.args.t (passed c)
+
+pub as_count-requires : goal.as_count-requires
+as_count-requires c =
+    counts_from_0 c.args.t.year (search rules) (fine (goal.at.as_count-requires c).Else-not-in_ranges).year_count
+
+pub as_count-requires-2 : goal.as_count-requires-2
+as_count-requires-2 c =
+    counts_from_0 c.args.t.month (search rules) (fine (goal.at.as_count-requires-2 c).Else-not-in_ranges).month_count
+
+pub as_count-requires-3 : goal.as_count-requires-3
+as_count-requires-3 c =
+    counts_from_0 c.args.t.day (search rules) (fine (goal.at.as_count-requires-3 c).Else-not-in_ranges).day_count
+
+counted : (c : After-as_count-3) → record {
+  year = pos c.as_count.result;
+  month =
+      pos c.as_count-2.result;
+  day = pos c.as_count-3.result;
+} ≡ c.args.t
+counted c = let k = fine c.before.before.before.before.before.before in
+    let t = c.args.t in
+    let p = same_count t.year _ (search rules) k.year_is c.as_count.ensures in
+    let q = same_count t.month _ (search rules) k.month_is c.as_count-2.ensures in
+    let r = same_count t.day _ (search rules) k.day_is c.as_count-3.ensures in
+    λ i. record { year = p i; month = q i; day = r i }
+
+pub number_in_ranges-requires : goal.number_in_ranges-requires
+number_in_ranges-requires c = ap in_ranges (counted c) ∙ passed c.before.before.before.before.before.before
+
+pub returns : goal.returns
+returns c = c.number_in_ranges.ensures ∙ ap number_of (counted c.before)

@@ -1,0 +1,89 @@
+-- `discrete::next_day` meets its contract. Assumes nothing.
+use mathlib.Core.Path.{◌≡◌, sym, ◌∙◌, ap}
+use native.Mathlib.Omega.{arith}
+use Prim.Native.Nat.{ℕ, ◌+◌, ◌-◌, ◌≤◌}
+use lib.IntN.{pos}
+use Rattle.laws.specs.Numbers.{pos_part}
+use Rattle.values.specs.declared.Value.{Value}
+use Rattle.axis.specs.Axes.{start, end}
+use Rattle.axis.specs.declared.ValueAnswer.TheVariants as value
+use Rattle.counting.specs.Counting.{origin, position}
+use Rattle.values.specs.Values.{midnight}
+use Rattle.axis.specs.Questions.{checked}
+use Rattle.counting.proofs.Counting.{on_day, starts, end_on, is_day_law, origin_days, position_days}
+use Rattle.discrete.proofs.Indices.{value_days}
+use Rattle.axis.proofs.Checked.{no_value}
+use Rattle.discrete.proofs.Answers.{next_before, next_end, next_inside}
+use Rattle.discrete.proofs.next_day.Goals as goal
+use Rattle.discrete.proofs.next_day.Goals.{After-day_on, After-day_on-2, After-day_on-at, Else-at-day_on}
+
+pub day_on-at-requires : goal.day_on-at-requires
+day_on-at-requires c = is_day_law c.args.v (on_day c.args.a c.requires.0 c.args.v c.requires.1)
+
+pub day_on-requires : goal.day_on-requires
+day_on-requires c = rw c.start.ensures (is_day_law (start c.args.a) (starts c.args.a c.requires.0))
+
+at_is : (c : After-day_on-at) → c.day_on-at.result ≡ position c.args.a c.args.v
+at_is c = c.day_on-at.ensures ∙ sym (position_days c.args.a c.args.v c.requires.2 c.requires.3 c.requires.4)
+
+from_is : (c : After-day_on) → c.day_on.result ≡ origin c.args.a
+from_is c = c.day_on.ensures ∙ ap (λ (v : Value). pos_part v.head) c.start.ensures
+    ∙ sym (origin_days c.args.a c.requires.2 c.requires.3 c.requires.4)
+
+pub returns-then-at-day_on : goal.returns-then-at-day_on
+returns-then-at-day_on c = let x = c.args in
+    no_value ∙ ap checked (sym (next_before x.a x.v (omega (
+      arith,
+      c.if-at-day_on.true,
+      from_is (goal.at.returns-then-at-day_on c).After-day_on,
+      at_is (goal.at.returns-then-at-day_on c).After-day_on-at,
+    ))))
+
+pub day_on-requires-2 : goal.day_on-requires-2
+day_on-requires-2 c = rw c.end.ensures (is_day_law (end c.args.a) (on_day c.args.a c.requires.0 (end c.args.a)
+    (end_on c.args.a c.requires.0)))
+
+to_is : (c : After-day_on-2) → c.day_on-2.result ≡ position c.args.a
+    (end c.args.a)
+to_is c = c.day_on-2.ensures ∙ ap (λ (v : Value). pos_part v.head) c.end.ensures
+    ∙ sym (position_days c.args.a (end c.args.a) c.requires.2 c.requires.3 c.requires.4)
+
+from_to : (c : Else-at-day_on) → origin c.args.a ≤ position c.args.a c.args.v
+from_to c =
+    omega (
+      arith,
+      c.if-at-day_on.false,
+      from_is (goal.at.Else-at-day_on c).After-day_on,
+      at_is (goal.at.Else-at-day_on c).After-day_on-at,
+    )
+
+pub returns-then-day_on-at : goal.returns-then-day_on-at
+returns-then-day_on-at c = let x = c.args in
+    no_value ∙ ap checked (sym (next_end x.a x.v (from_to (goal.at.returns-then-day_on-at c).Else-at-day_on)
+    (omega (
+      arith,
+      c.if-day_on-at.true,
+      to_is (goal.at.returns-then-day_on-at c).After-day_on-2,
+      at_is (goal.at.returns-then-day_on-at c).After-day_on-at,
+    ))))
+
+pub returns : goal.returns
+returns c = let x = c.args in
+    let place : c.day_on-at.result + 1 ≡ pos_part x.a.start_head + (position x.a x.v - origin x.a + 1) =
+    omega (
+      arith,
+      at_is (goal.at.returns c).After-day_on-at,
+      from_to (goal.at.returns c).Else-at-day_on,
+      origin_days x.a c.requires.2 c.requires.3 c.requires.4,
+    ) in
+    c.at_midnight.ensures
+    ∙ ap (λ (k : ℕ). checked (value.At (midnight (pos k)))) place
+    ∙ ap (λ (v : Value). checked (value.At v))
+    (sym (value_days x.a (position x.a x.v - origin x.a + 1) c.requires.2 c.requires.3 c.requires.4))
+    ∙ ap checked (sym (next_inside x.a x.v (from_to (goal.at.returns c).Else-at-day_on)
+    (omega (
+      arith,
+      c.if-day_on-at.false,
+      to_is (goal.at.returns c).After-day_on-2,
+      at_is (goal.at.returns c).After-day_on-at,
+    ))))

@@ -1,0 +1,122 @@
+-- `discrete::next_month` meets its contract. Assumes nothing.
+use mathlib.Core.Path.{◌≡◌, sym, ◌∙◌, ap}
+use native.Mathlib.Omega.{arith}
+use Prim.Native.Nat.{◌+◌, ◌-◌, ◌*◌, ◌/◌, ◌%◌, ◌≤◌}
+use lib.IntN.{pos}
+use Rattle.calendar.specs.declared.Date.{Date}
+use Rattle.values.specs.declared.Value.{Value}
+use Rattle.calendar.specs.Gregorian.{day_number}
+use Rattle.axis.specs.Axes.{end}
+use Rattle.axis.specs.declared.ValueAnswer.TheVariants as value
+use Rattle.counting.specs.Counting.{first_date, date_on, origin, position}
+use Rattle.values.specs.Values.{midnight}
+use Rattle.axis.specs.Questions.{checked}
+use Rattle.counting.proofs.Counting.{Near, on_day, on_near, first_near, position_most, end_on, is_day_law}
+use Rattle.counting.proofs.Counting.{origin_months, position_months}
+use Rattle.discrete.proofs.Indices.{value_months, month_later}
+use Rattle.axis.proofs.Checked.{no_value}
+use Rattle.discrete.proofs.Answers.{next_before, next_end, next_inside}
+use Rattle.discrete.proofs.next_month.Goals as goal
+use Rattle.discrete.proofs.next_month.Goals.{After-first_date-first, After-months_from, After-months_from-at, Else-at-first}
+
+pub date_on-requires : goal.date_on-requires
+date_on-requires c = is_day_law c.args.v (on_day c.args.a c.requires.0 c.args.v c.requires.1)
+
+pub months_from-at-requires : goal.months_from-at-requires
+months_from-at-requires c = let n = on_near c.args.a c.requires.0 c.args.v c.requires.1 in
+    rw c.date_on.ensures (n.year_most, n.month_most)
+
+at_is : (c : After-months_from-at) → c.months_from-at.result ≡ position c.args.a c.args.v
+at_is c = c.months_from-at.ensures
+    ∙ (λ i. 12 * ((c.date_on.ensures i).year - (c.first_date-first.ensures i).year)
+    + (c.date_on.ensures i).month)
+    ∙ sym (position_months c.args.a c.args.v c.requires.2)
+
+from_is : (c : After-first_date-first) → c.first_date-first.result.month ≡ origin c.args.a
+from_is c = ap (λ (t : Date). t.month) c.first_date-first.ensures ∙ sym (origin_months c.args.a c.requires.2)
+
+pub returns-then-at-first : goal.returns-then-at-first
+returns-then-at-first c = let x = c.args in
+    no_value ∙ ap checked (sym (next_before x.a x.v (omega (
+      arith,
+      c.if-at-first.true,
+      from_is (goal.at.returns-then-at-first c).After-first_date-first,
+      at_is (goal.at.returns-then-at-first c).After-months_from-at,
+    ))))
+
+from_to : (c : Else-at-first) → origin c.args.a ≤ position c.args.a c.args.v
+from_to c =
+    omega (
+      arith,
+      c.if-at-first.false,
+      from_is (goal.at.Else-at-first c).After-first_date-first,
+      at_is (goal.at.Else-at-first c).After-months_from-at,
+    )
+
+pub date_on-requires-2 : goal.date_on-requires-2
+date_on-requires-2 c = rw c.end.ensures (is_day_law (end c.args.a) (on_day c.args.a c.requires.0 (end c.args.a)
+    (end_on c.args.a c.requires.0)))
+
+pub months_from-requires : goal.months_from-requires
+months_from-requires c = let n = on_near c.args.a c.requires.0 (end c.args.a) (end_on c.args.a c.requires.0) in
+    rw (c.date_on-2.ensures, c.end.ensures) (n.year_most, n.month_most)
+
+to_is : (c : After-months_from) → c.months_from.result ≡ position c.args.a (end c.args.a)
+to_is c = let last = c.date_on-2.ensures ∙ ap date_on c.end.ensures in
+    c.months_from.ensures
+    ∙ (λ i. 12 * ((last i).year - (c.first_date-first.ensures i).year) + (last i).month)
+    ∙ sym (position_months c.args.a (end c.args.a) c.requires.2)
+
+pub returns-then-months_from-at : goal.returns-then-months_from-at
+returns-then-months_from-at c = let x = c.args in
+    no_value ∙ ap checked (sym (next_end x.a x.v (from_to (goal.at.returns-then-months_from-at c).Else-at-first)
+    (omega (
+      arith,
+      c.if-months_from-at.true,
+      to_is (goal.at.returns-then-months_from-at c).After-months_from,
+      at_is (goal.at.returns-then-months_from-at c).After-months_from-at,
+    ))))
+
+-- the first date's year, and how far a value's month is
+near : (c : After-first_date-first) → Near c.first_date-first.result 10000
+near c = rw c.first_date-first.ensures (first_near c.args.a c.requires.0)
+
+few : (c : After-months_from-at) → c.months_from-at.result ≤ 3652059
+few c = omega (arith, at_is c, position_most c.args.a c.requires.0 c.args.v c.requires.1)
+
+pub overflow_add-first : goal.overflow_add-first
+overflow_add-first c =
+    omega (
+      arith,
+      near (goal.at.overflow_add-first c).After-first_date-first,
+      few (goal.at.overflow_add-first c).After-months_from-at,
+    )
+
+pub month_start-requires : goal.month_start-requires
+month_start-requires c =
+    (omega (arith, (near (goal.at.month_start-requires c).After-first_date-first).year_least), omega arith, omega arith)
+
+pub returns : goal.returns
+returns c = let x = c.args in
+    let i = position x.a x.v - origin x.a + 1 in
+    let m = first_date x.a in
+    let place : c.months_from-at.result ≡ i + (m.month - 1) =
+    omega (
+      arith,
+      at_is (goal.at.returns c).After-months_from-at,
+      from_to (goal.at.returns c).Else-at-first,
+      origin_months x.a c.requires.2,
+      (first_near x.a c.requires.0).month_least,
+    ) in
+    c.month_start.ensures
+    ∙ (λ j. checked (value.At (midnight (pos (day_number ((c.first_date-first.ensures j).year + place j / 12) (place j % 12 + 1)
+    1)))))
+    ∙ ap (λ (v : Value). checked (value.At v))
+    (sym (value_months x.a i c.requires.2 ∙ month_later x.a i (λ z. let w : ⊥ = omega (arith, z) in w)))
+    ∙ ap checked (sym (next_inside x.a x.v (from_to (goal.at.returns c).Else-at-first)
+    (omega (
+      arith,
+      c.if-months_from-at.false,
+      to_is (goal.at.returns c).After-months_from,
+      at_is (goal.at.returns c).After-months_from-at,
+    ))))

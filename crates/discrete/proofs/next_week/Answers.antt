@@ -1,0 +1,136 @@
+-- `discrete::next_week` meets its contract. Assumes nothing.
+use mathlib.Core.Path.{◌≡◌, sym, ◌∙◌, ap}
+use native.Mathlib.Omega.{arith}
+use Prim.Native.Nat.{ℕ, ◌+◌, ◌-◌, ◌*◌, ◌≤◌}
+use lib.IntN.{pos}
+use Rattle.laws.specs.Numbers.{pos_part}
+use Rattle.weeks.specs.Weeks.{monday, mondays_to}
+use Rattle.weeks.proofs.Mondays.{mondays_to_law, monday_is}
+use Rattle.values.specs.declared.Value.{Value}
+use Rattle.values.specs.Values.{midnight}
+use Rattle.axis.specs.Axes.{start, end}
+use Rattle.axis.specs.Questions.{checked}
+use Rattle.axis.specs.declared.ValueAnswer.TheVariants as value
+use Rattle.axis.proofs.Checked.{no_value}
+use Rattle.counting.specs.Counting.{origin, position}
+use Rattle.counting.proofs.Counting.{on_day, starts, end_on, is_day_law, origin_weeks, position_weeks, position_most}
+use Rattle.discrete.proofs.Indices.{value_weeks, week_later}
+use Rattle.discrete.proofs.Answers.{next_before, next_end, next_inside}
+use Rattle.discrete.proofs.next_week.Goals as goal
+use Rattle.discrete.proofs.next_week.Goals.{After-day_on-2, After-day_on-3, After-mondays_to, After-mondays_to-2}
+use Rattle.discrete.proofs.next_week.Goals.{After-mondays_to-at, Else-at-mondays_to, Start}
+
+-- ---- where the value stands
+pub day_on-requires : goal.day_on-requires
+day_on-requires c = is_day_law c.args.v (on_day c.args.a c.requires.0 c.args.v c.requires.1)
+
+pub mondays_to-at-requires : goal.mondays_to-at-requires
+mondays_to-at-requires c = omega (arith, c.day_on.ensures, (on_day c.args.a c.requires.0 c.args.v c.requires.1).head_most)
+
+at_is : (c : After-mondays_to-at) → c.mondays_to-at.result ≡ position c.args.a c.args.v
+at_is c = c.mondays_to-at.ensures ∙ ap mondays_to c.day_on.ensures
+    ∙ sym (position_weeks c.args.a c.args.v c.requires.2 c.requires.3 c.requires.4)
+
+-- ---- where the axis begins
+pub day_on-requires-2 : goal.day_on-requires-2
+day_on-requires-2 c = rw c.start.ensures (is_day_law (start c.args.a) (starts c.args.a c.requires.0))
+
+start_day : (c : After-day_on-2) → c.day_on-2.result ≡ pos_part c.args.a.start_head
+start_day c = c.day_on-2.ensures ∙ ap (λ (v : Value). pos_part v.head) c.start.ensures
+
+pub mondays_to-requires : goal.mondays_to-requires
+mondays_to-requires c =
+    omega (arith, start_day (goal.at.mondays_to-requires c).After-day_on-2, (starts c.args.a c.requires.0).head_most)
+
+from_is : (c : After-mondays_to) → c.mondays_to.result ≡ origin c.args.a
+from_is c = c.mondays_to.ensures ∙ ap mondays_to (start_day (goal.at.After-mondays_to c).After-day_on-2)
+    ∙ sym (origin_weeks c.args.a c.requires.2 c.requires.3 c.requires.4)
+
+pub returns-then-at-mondays_to : goal.returns-then-at-mondays_to
+returns-then-at-mondays_to c = let x = c.args in
+    no_value ∙ ap checked (sym (next_before x.a x.v (omega (
+      arith,
+      c.if-at-mondays_to.true,
+      from_is (goal.at.returns-then-at-mondays_to c).After-mondays_to,
+      at_is (goal.at.returns-then-at-mondays_to c).After-mondays_to-at,
+    ))))
+
+-- ---- where it ends
+pub day_on-requires-3 : goal.day_on-requires-3
+day_on-requires-3 c = rw c.end.ensures (is_day_law (end c.args.a) (on_day c.args.a c.requires.0 (end c.args.a)
+    (end_on c.args.a c.requires.0)))
+
+abbrev begun : After-day_on-3 → Start
+begun c = (goal.at.After-day_on-3 c).Start
+
+end_day : (c : After-day_on-3) → c.day_on-3.result ≡ pos_part (begun c).args.a.end_head
+end_day c = c.day_on-3.ensures ∙ ap (λ (v : Value). pos_part v.head) c.end.ensures
+
+pub mondays_to-requires-2 : goal.mondays_to-requires-2
+mondays_to-requires-2 c = let s = begun (goal.at.mondays_to-requires-2 c).After-day_on-3 in
+    omega (
+      arith,
+      end_day (goal.at.mondays_to-requires-2 c).After-day_on-3,
+      (on_day s.args.a s.requires.0 (end s.args.a) (end_on s.args.a s.requires.0)).head_most,
+    )
+
+to_is : (c : After-mondays_to-2) → let a = (begun (goal.at.After-mondays_to-2 c).After-day_on-3).args.a in
+    c.mondays_to-2.result ≡ position a (end a)
+to_is c = let s = begun (goal.at.After-mondays_to-2 c).After-day_on-3 in
+    c.mondays_to-2.ensures ∙ ap mondays_to (end_day (goal.at.After-mondays_to-2 c).After-day_on-3)
+    ∙ sym (position_weeks s.args.a (end s.args.a) s.requires.2 s.requires.3 s.requires.4)
+
+from_to : (c : Else-at-mondays_to) → origin c.args.a ≤ position c.args.a c.args.v
+from_to c =
+    omega (
+      arith,
+      c.if-at-mondays_to.false,
+      from_is (goal.at.Else-at-mondays_to c).After-mondays_to,
+      at_is (goal.at.Else-at-mondays_to c).After-mondays_to-at,
+    )
+
+pub returns-then-mondays_to-at : goal.returns-then-mondays_to-at
+returns-then-mondays_to-at c = let x = c.args in
+    no_value ∙ ap checked (sym (next_end x.a x.v (from_to (goal.at.returns-then-mondays_to-at c).Else-at-mondays_to)
+    (omega (
+      arith,
+      c.if-mondays_to-at.true,
+      to_is (goal.at.returns-then-mondays_to-at c).After-mondays_to-2,
+      at_is (goal.at.returns-then-mondays_to-at c).After-mondays_to-at,
+    ))))
+
+-- ---- the next Monday
+few : (c : After-mondays_to-at) → c.mondays_to-at.result ≤ 3652059
+few c = omega (arith, at_is c, position_most c.args.a c.requires.0 c.args.v c.requires.1)
+
+pub overflow_mul-at : goal.overflow_mul-at
+overflow_mul-at c = omega (arith, few (goal.at.overflow_mul-at c).After-mondays_to-at)
+
+pub overflow_add-at : goal.overflow_add-at
+overflow_add-at c = omega (arith, few (goal.at.overflow_add-at c).After-mondays_to-at)
+
+pub returns : goal.returns
+returns c = let x = c.args in
+    let i = position x.a x.v - origin x.a + 1 in
+    let h = pos_part x.a.start_head in
+    let place : 7 * c.mondays_to-at.result + 1 ≡ monday h + 7 * i =
+    omega (
+      arith,
+      at_is (goal.at.returns c).After-mondays_to-at,
+      from_to (goal.at.returns c).Else-at-mondays_to,
+      origin_weeks x.a c.requires.2 c.requires.3 c.requires.4,
+      mondays_to_law h,
+      (starts x.a c.requires.0).head_least,
+      monday_is h (starts x.a c.requires.0).head_least,
+    ) in
+    c.at_midnight.ensures
+    ∙ ap (λ (k : ℕ). checked (value.At (midnight (pos k)))) place
+    ∙ ap (λ (v : Value). checked (value.At v))
+    (sym (value_weeks x.a i c.requires.2 c.requires.3 c.requires.4 ∙ week_later x.a i (λ z. omega arith)))
+    ∙ ap checked (sym (next_inside x.a x.v (from_to (goal.at.returns c).Else-at-mondays_to)
+    (omega (
+      arith,
+      c.if-mondays_to-at.false,
+      to_is (goal.at.returns c).After-mondays_to-2,
+      at_is (goal.at.returns c).After-mondays_to-at,
+    ))))

@@ -1,0 +1,37 @@
+-- `ordered::ordered_date_of` meets its contract: each number, read back from its bits, is itself. Assumes nothing.
+use mathlib.Core.Path.{◌≡◌, ◌∙◌, sym, ap}
+use native.Mathlib.Omega.{arith}
+use lib.IntN.{pos}
+use mir.Facts.{to_z-of_z}
+use Rattle.laws.proofs.Signed.{count_fits, read_count}
+use Rattle.calendar.specs.Questions.{date_at}
+use Rattle.calendar.proofs.Questions.{InRange, date_range}
+use Rattle.ordered.specs.Replies.{date_reply}
+use Rattle.ordered.proofs.ordered_date_of.Goals as goal
+use Rattle.ordered.proofs.ordered_date_of.Goals.{After-date_at, After-struct_known-1}
+
+said : (c : After-date_at) → c.date_at.result ≡ date_at c.args.day_number
+said c = rw (to_z-of_z c.ranges.day_number) at c.date_at.ensures
+
+-- the answer's numbers are a date's
+ranges : (c : After-struct_known-1) → InRange c.in-Answered.t
+ranges c = date_range _ c.in-Answered.t (sym (said (goal.at.After-struct_known-1 c).After-date_at) ∙ c.in-Answered.is)
+
+pub overflow_cast-result : goal.overflow_cast-result
+overflow_cast-result c = count_fits _ (omega (arith, ranges (goal.at.overflow_cast-result c).After-struct_known-1))
+
+pub overflow_cast-result-in-Answered : goal.overflow_cast-result-in-Answered
+overflow_cast-result-in-Answered c =
+    count_fits _ (omega (arith, ranges (goal.at.overflow_cast-result-in-Answered c).After-struct_known-1))
+
+pub overflow_cast-result-in-Answered-2 : goal.overflow_cast-result-in-Answered-2
+overflow_cast-result-in-Answered-2 c =
+    count_fits _ (omega (arith, ranges (goal.at.overflow_cast-result-in-Answered-2 c).After-struct_known-1))
+
+pub returns-in-Answered : goal.returns-in-Answered
+returns-in-Answered c = let t = c.in-Answered.t in
+    let y = read_count t.year (omega (arith, ranges (goal.at.returns-in-Answered c).After-struct_known-1)) in
+    let m = read_count t.month (omega (arith, ranges (goal.at.returns-in-Answered c).After-struct_known-1)) in
+    let d = read_count t.day (omega (arith, ranges (goal.at.returns-in-Answered c).After-struct_known-1)) in
+    (λ i. record { status = pos 0; year = y i; month = m i; day = d i })
+    ∙ ap date_reply (sym c.in-Answered.is ∙ said (goal.at.returns-in-Answered c).After-date_at)

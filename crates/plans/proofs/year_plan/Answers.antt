@@ -1,0 +1,27 @@
+-- `plans::year_plan` meets its contract. Assumes nothing.
+use mathlib.Core.Path.{◌≡◌, ◌∙◌}
+use Prim.Native.Nat.{◌-◌, ◌<◌}
+use native.Mathlib.Omega.{arith}
+use Rattle.plans.specs.Months.{from_month, to_month, year_plan}
+use Rattle.plans.proofs.Months.{last_most, year_wide}
+use Rattle.plans.proofs.year_plan.Goals as goal
+use Rattle.plans.proofs.year_plan.Goals.{After-less}
+
+apart : (c : After-less) → c.less.result ≡ to_month c.args.a - from_month c.args.a
+apart c = c.less.ensures ∙ rw c.months_on-m.ensures
+
+few : (c : After-less) → c.less.result < 120000
+few c = omega (arith, apart c, last_most c.args.a c.requires)
+
+pub year_step-requires : goal.year_step-requires
+year_step-requires c = few (goal.at.year_step-requires c).After-less
+
+pub months_by-requires : goal.months_by-requires
+months_by-requires c = (
+  rw c.year_step.ensures (year_wide c.less.result c.args.n (few (goal.at.months_by-requires c).After-less)).0,
+  rw c.months_on-m.ensures (omega (arith, last_most c.args.a c.requires)),
+)
+
+pub returns : goal.returns
+unfolding year_plan
+returns c = c.months_by.ensures ∙ rw (c.year_step.ensures, apart (goal.at.returns c).After-less, c.months_on-m.ensures)

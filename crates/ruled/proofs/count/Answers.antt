@@ -1,0 +1,8 @@
+-- `ruled::count` meets its contract. Assumes nothing.
+use mathlib.Core.Path.{◌∙◌}
+use Rattle.ruled.proofs.Answers.{made_answer}
+use Rattle.ruled.proofs.count.Goals as goal
+
+pub returns : goal.returns
+returns c = let x = c.args in
+    c.count_plan.ensures ∙ made_answer x.table.now x.a c.plan.result c.plan.ensures x.lent_len

@@ -1,0 +1,14 @@
+-- `segmented::inner_scale` meets its contract. Assumes nothing.
+use mathlib.Core.Path.{◌≡◌, sym, subst}
+use mathlib.Core.Bool.{true}
+use Rattle.axis.specs.declared.Limits.{Limits}
+use Rattle.axis.specs.Questions.{pixels}
+use Rattle.segmented.proofs.Margins.{inner_pixels}
+use Rattle.segmented.proofs.inner_scale.Goals as goal
+
+pub scale_of-requires : goal.scale_of-requires
+scale_of-requires c = (
+  c.requires.0,
+  subst (λ (l : Limits). pixels l ≡ true) (sym c.inner.ensures)
+      (inner_pixels c.args.size c.args.l c.requires.2 c.requires.1),
+)

@@ -1,0 +1,84 @@
+-- `unmapping::unmap_coord` meets its contract. Assumes nothing.
+use borrow.Author.Rules.{rules}
+use mathlib.Core.Path.{◌≡◌, sym, ◌∙◌, ap, subst}
+use mathlib.Core.Bool.{true}
+use lib.IntN.{◌+ℤ◌, ◌-ℤ◌}
+use mir.Syntax.{w64}
+use mir.Val.{SFits, to_z, of_z}
+use mir.Facts.{to_z-of_z}
+use Rattle.laws.proofs.Signed.{read_sub}
+use Rattle.values.specs.Differences.{nanoseconds}
+use Rattle.axis.specs.Axes.{start, span_of}
+use Rattle.axis.specs.Questions.{is_pixel, differ}
+use Rattle.axis.proofs.Questions.{unmap_parts}
+use Rattle.unmapping.specs.declared.Offset.{Offset}
+use Rattle.unmapping.specs.Unmapping.{moved_by, unmap_coord}
+use Rattle.unmapping.specs.Sizes.{OnWidth, date_time_answer}
+use Rattle.axis.proofs.PixelRanges.{limits_are, between_fits, between_few, width_some}
+use Rattle.unmapping.proofs.unmap_coord.Goals as goal
+use Rattle.unmapping.proofs.unmap_coord.Goals.{Start}
+
+low_fits : (c : Start) → SFits w64 c.args.l.low
+low_fits c = search rules
+
+high_fits : (c : Start) → SFits w64 c.args.l.high
+high_fits c = search rules
+
+page : (c : Start) → (is_pixel c.args.l.low ≡ true) × (is_pixel c.args.l.high ≡ true)
+    × (is_pixel c.args.pixel ≡ true) × (differ c.args.l ≡ true)
+page c = let (a, p, d) = unmap_parts c.args.l c.args.pixel c.requires.page in
+    let (l, h) = limits_are c.args.l a in
+    (l, h, p, d)
+
+pub overflow_sub-o : goal.overflow_sub-o
+overflow_sub-o c = let (l, h, p, d) = page (goal.at.overflow_sub-o c).Start in
+    rw (to_z-of_z c.ranges.pixel, to_z-of_z (low_fits (goal.at.overflow_sub-o c).Start))
+    (between_fits c.args.pixel c.args.l.low p l)
+
+pub overflow_sub-o-2 : goal.overflow_sub-o-2
+overflow_sub-o-2 c = let (l, h, p, d) = page (goal.at.overflow_sub-o-2 c).Start in
+    rw (to_z-of_z (high_fits (goal.at.overflow_sub-o-2 c).Start), to_z-of_z (low_fits (goal.at.overflow_sub-o-2 c).Start))
+    (between_fits c.args.l.high c.args.l.low h l)
+
+on_width : (c : Start) → OnWidth (record {
+  pixels = c.args.pixel -ℤ c.args.l.low;
+  width =
+      c.args.l.high -ℤ c.args.l.low;
+})
+on_width c = let (l, h, p, d) = page c in
+    record {
+      pixels_most = between_few c.args.pixel c.args.l.low p l;
+      width_most =
+          between_few c.args.l.high c.args.l.low h l;
+      width_some = width_some c.args.l d;
+    }
+
+offset_is : (c : Start) → let x = c.args in
+    ◌≡◌ {A = Offset}
+    (record {
+      pixels = to_z w64 (of_z w64 (to_z w64 (of_z w64 x.pixel) -ℤ to_z w64 (of_z w64 x.l.low)));
+      width =
+          to_z w64 (of_z w64 (to_z w64 (of_z w64 x.l.high) -ℤ to_z w64 (of_z w64 x.l.low)));
+    })
+    (record { pixels = x.pixel -ℤ x.l.low; width = x.l.high -ℤ x.l.low })
+offset_is c = let x = c.args in
+    let (l, h, p, d) = page c in
+    let P = read_sub x.pixel x.l.low c.ranges.pixel (low_fits c) (between_fits x.pixel x.l.low p l) in
+    let W = read_sub x.l.high x.l.low (high_fits c) (low_fits c) (between_fits x.l.high x.l.low h l) in
+    λ i. record { pixels = P i; width = W i }
+
+pub date_time_at-requires : goal.date_time_at-requires
+date_time_at-requires c = (
+  c.requires.dated,
+  c.requires.real,
+  c.requires.order,
+  subst (λ (o : Offset). OnWidth o)
+      (sym (offset_is (goal.at.date_time_at-requires c).Start)) (on_width (goal.at.date_time_at-requires c).Start),
+)
+
+pub returns : goal.returns
+unfolding unmap_coord date_time_answer
+returns c = let a = c.args.a in
+    c.date_time_at.ensures
+    ∙ ap (λ (o : Offset). date_time_answer (nanoseconds a.kind (start a) +ℤ moved_by (span_of a) o.width o.pixels))
+    (offset_is (goal.at.returns c).Start)
