@@ -1,28 +1,61 @@
 // plate: reads axes from standard input, a line for each, and prints their ticks and pixels. What is printed is decided in
 // text_plate; here it is read and written, in memory that does not grow with the input, and what fails is reported.
+#![tactic(auto)]
+
 ghost use Rattle.std.specs.Prelude.{◌≡◌, ◌≤◌, length};
 ghost use Rattle.text_plate.specs.Turns.{Keeps};
 
-use libc::{STDERR_FILENO, STDIN_FILENO, STDOUT_FILENO};
+use std::env::FillError;
+use std::io;
+use std::io::Read;
+use std::rt::Env;
 use text_plate::State;
 
-#[derive(Drop)]
+#[derive(Clone, Copy)]
 struct Went {
     goes: bool,
     state: State,
 }
 
-// Prints a text, or says why it could not; some of it may be printed then.
-fn print(text: &[u8]) -> bool {
-    let wrote = io::write_all(STDOUT_FILENO, text);
-    if !wrote {
-        os::fail(b"plate: write");
+// The reason alone, without the system's number for it.
+fn reason(text: &str) -> &str {
+    match text.rsplit_once(" (os error ") {
+        Some((words, _)) => words,
+        None => text,
     }
-    wrote
+}
+
+// Reports a read or a write that failed. Where that fails too, there is nobody left to tell.
+fn fail(rt: &(impl Eprint + AllocGlobal), what: &str, error: io::Error) {
+    let _ = match format!(in rt.alloc(); "{error}") {
+        Ok(text) => {
+            let words = reason(text.as_str());
+            eprintln!(rt; "plate: {what}: {words}")
+        }
+        Err(_) => eprintln!(rt; "plate: {what}: {error}"),
+    };
+}
+
+// Prints a text, or says why it could not; some of it may be printed then.
+fn print(rt: &(impl Print + Eprint + AllocGlobal), text: &[u8]) -> bool {
+    match rt.write_all(text) {
+        Ok(()) => true,
+        Err(error) => {
+            fail(rt, "write", error);
+            false
+        }
+    }
 }
 
 // The lines of a chunk, printed at once as far as the buffer goes; no more where nothing more can be written.
-fn eat(s: State, kept: &mut [u8], chunk: &[u8], lent: &mut [i64], out: &mut [u8]) -> Went
+fn eat(
+    rt: &(impl Print + Eprint + AllocGlobal),
+    s: State,
+    kept: &mut [u8],
+    chunk: &[u8],
+    lent: &mut [i64],
+    out: &mut [u8],
+) -> Went
     requires { Keeps s kept.old × ((length lent.old ≡ 8194) × (307275 ≤ length out.old)) }
     ensures { Keeps result.state kept.new }
 {
@@ -32,7 +65,7 @@ fn eat(s: State, kept: &mut [u8], chunk: &[u8], lent: &mut [i64], out: &mut [u8]
         let t = text_plate::turns(state, kept, &chunk[at..], lent, out);
         state = t.state;
         let k = t.written;
-        let printed = print(&out[..k]);
+        let printed = print(rt, &out[..k]);
         if !(t.goes & printed) {
             return Went {
                 goes: false,
@@ -48,66 +81,81 @@ fn eat(s: State, kept: &mut [u8], chunk: &[u8], lent: &mut [i64], out: &mut [u8]
 }
 
 // The input has ended.
-fn end(s: State, kept: &[u8], out: &mut [u8])
+fn end(rt: &(impl Print + Eprint + AllocGlobal), s: State, kept: &[u8], out: &mut [u8])
     requires { Keeps s kept.now × (307275 ≤ length out.old) }
 {
     let n = s.len;
     let k = text_plate::ended(s.number, &kept[..n], out);
-    print(&out[..k]);
+    print(rt, &out[..k]);
 }
 
 // The next chunk, or the end; an input that cannot be read has no end.
-fn pull(s: State, kept: &mut [u8], buf: &mut [u8], lent: &mut [i64], out: &mut [u8]) -> Went
+fn pull(
+    rt: &(impl Print + Eprint + AllocGlobal),
+    input: &mut impl Read,
+    s: State,
+    kept: &mut [u8],
+    buf: &mut [u8],
+    lent: &mut [i64],
+    out: &mut [u8],
+) -> Went
     requires { Keeps s kept.old × ((length lent.old ≡ 8194) × (307275 ≤ length out.old)) }
     ensures { Keeps result.state kept.new }
 {
-    let got = libc::read(STDIN_FILENO, buf);
-    if got < 0 {
-        os::fail(b"plate: read");
-        return Went {
-            goes: false,
-            state: s,
-        };
+    match input.read(buf) {
+        Ok(0) => {
+            end(rt, s, kept, out);
+            Went {
+                goes: false,
+                state: s,
+            }
+        }
+        Ok(n) => eat(rt, s, kept, &buf[..n], lent, out),
+        Err(error) => {
+            fail(rt, "read", error);
+            Went {
+                goes: false,
+                state: s,
+            }
+        }
     }
-    if got == 0 {
-        end(s, kept, out);
-        return Went {
-            goes: false,
-            state: s,
-        };
-    }
-    let n = io::count(got, buf);
-    eat(s, kept, &buf[..n], lent, out)
 }
 
 // All of the input. The buffer has room for what a line prints and for 225,335 bytes before it, so a chunk of short lines
 // is printed at once.
-fn run() {
+fn run(rt: &(impl Input + Print + Eprint + AllocGlobal)) {
+    let mut input = rt.reader();
     let mut kept = [0u8; 121];
-    let mut buf = io::large_buffer();
+    let mut buf = [0u8; 65536];
     let mut lent = [0i64; 8194];
     let mut out = [0u8; 532610];
     let mut s = State { number: 0, len: 0 };
-    let mut turns = u64::MAX;
-    while turns > 0 {
-        let t = pull(s, &mut kept, &mut buf, &mut lent, &mut out);
+    for _ in 0..u64::MAX {
+        let t = pull(rt, &mut input, s, &mut kept, &mut buf, &mut lent, &mut out);
         s = t.state;
         if !t.goes {
             break;
         }
-        turns -= 1;
     }
 }
 
-// Is --help the one argument?
-fn asks_help() -> bool {
-    let mut word = [0u8; 6];
-    let n = os::arg(1, &mut word);
-    (os::arg_count() == 2) & text_read::same(&word[..n], b"--help")
+// Is there an argument i? The program's name is argument 0.
+fn has_arg(rt: &impl Env, i: usize) -> bool {
+    !matches!(rt.arg(i, &mut []), Err(FillError::NotPresent))
 }
 
-fn help() {
+// Is --help the one argument?
+fn asks_help(rt: &impl Env) -> bool {
+    let mut word = [0u8; 6];
+    match rt.arg(1, &mut word) {
+        Ok(n) => !has_arg(rt, 2) & text_line::same(&word[..n], b"--help"),
+        Err(_) => false,
+    }
+}
+
+fn help(rt: &(impl Print + Eprint + AllocGlobal)) {
     print(
+        rt,
         b"plate reads axes from standard input, a line for each, and prints their ticks and pixels: plate <INPUT >OUTPUT
 first line    kind start end hint low high
 other lines   a value of each, with one space between; LF at the end, at most 120 bytes before it
@@ -122,15 +170,14 @@ Anything on standard error means that the output is not whole.
     );
 }
 
-fn main() {
-    if os::arg_count() <= 1 {
-        run();
-    } else if asks_help() {
-        help();
+fn main(rt: HostRuntime) {
+    if !has_arg(&rt, 1) {
+        run(&rt);
+    } else if asks_help(&rt) {
+        help(&rt);
     } else {
-        io::write_all(
-            STDERR_FILENO,
-            b"plate: the only argument is --help; axes are read from standard input\n",
+        let _ = rt.eprintln(
+            "plate: the only argument is --help; axes are read from standard input",
         );
     }
 }

@@ -1,13 +1,16 @@
 // Compares the calendar with the rows on standard input, which tests/vectors/make prints; stdin beside src/ keeps them.
 // A published date is its day number, year, month and day, and more that is not read here. An answer of the Rust is f or c,
 // for the floor or the ceiling of a date-time, its day and nanosecond, and the answered day. A line with # is a comment.
+#![tactic(auto)]
+
 ghost use Rattle.std.specs.Prelude.{◌≡◌, ◌+◌, ◌*◌, ◌≤◌, ◌<◌, length};
 
 use calendar::{DateAnswer, DateTime, DayAnswer, LAST_COUNT, Ymd};
-use libc::{STDIN_FILENO, STDOUT_FILENO};
+use std::io;
+use std::io::Read as _;
 
 // A number, and where the text goes on after it.
-#[derive(Drop)]
+#[derive(Clone, Copy)]
 struct Read {
     value: u64,
     next: usize,
@@ -119,7 +122,7 @@ fn day_row_agrees(floor: bool, s: &[u8], at: usize) -> bool
 }
 
 // What a line counts for.
-#[derive(Drop)]
+#[derive(Clone, Copy)]
 struct Compared {
     dates: u64,
     days: u64,
@@ -177,14 +180,16 @@ fn compare(text: &[u8]) -> Compared {
     }
 }
 
-fn main() {
-    let mut buf = io::large_buffer();
-    let len = io::read_full(STDIN_FILENO, &mut buf);
-    let c = compare(&buf[..len]);
-    io::print_decimal(STDOUT_FILENO, c.dates);
-    io::write_all(STDOUT_FILENO, b" published dates compared, ");
-    io::print_decimal(STDOUT_FILENO, c.days);
-    io::write_all(STDOUT_FILENO, b" floors and ceilings compared, ");
-    io::print_decimal(STDOUT_FILENO, c.differ);
-    io::write_all(STDOUT_FILENO, b" differ\n");
+// The first 65,536 bytes are read, which hold all rows.
+fn main(rt: HostRuntime) -> io::Result<()> {
+    let mut text = Vec::new(rt.alloc());
+    rt.reader().take(65536).read_to_end(&mut text)?;
+    let Compared {
+        dates,
+        days,
+        differ,
+    } = compare(text.as_slice());
+    println!(rt;
+        "{dates} published dates compared, {days} floors and ceilings compared, {differ} differ"
+    )
 }
