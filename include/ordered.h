@@ -17,7 +17,7 @@
    together do not overlap. ORDERED_LENT_MOST numbers have room for every list by a hint, ORDERED_LENT_RULED_MOST for every list
    by a table.
    Nothing is allocated and no state is kept: calls may be made on several threads at once, each with a lent slice of its own. A
-   call takes less than 1 KiB of stack, one with a table less than 20 KiB.
+   call takes less than 1 KiB of stack, one with a table less than 24 KiB.
 
    A kind is 1 date, 2 monthly and 3 yearly over dates, 4 date-time, 5 monthly and 6 yearly over date-times, 7 duration, 8 weekly
    over dates. A value is head and tail: a date is its day number (0001-01-01 is 1, a Monday) and 0; a date-time its day number

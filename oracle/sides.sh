@@ -9,7 +9,7 @@ out=build/differential
 build_clients() {
     local flags=(-std=c11 -Wall -Wextra -Werror -O2 -Iinclude)
     [ -x "$oracle" ] || stop "run oracle/build first"
-    [ -f "${archive:?}" ] || stop "no archive $archive: run rt staticlib ordered first"
+    [ -f "${archive:?}" ] || stop "no archive $archive: run examples/make archive first"
     mkdir -p "$out"
     gcc "${flags[@]}" tests/c/requests.c -o "$out/requests"
     gcc "${flags[@]}" tests/c/replay.c "$archive" -o "$out/replay"

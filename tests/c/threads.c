@@ -13,7 +13,7 @@
 
 /* Less than MOST_STACK, and than RULED_STACK with a table, is what the header says. BEHIND: so many numbers more than the list
    are lent. */
-enum { MOST_STACK = 1024, RULED_STACK = 20480, STACK = 1 << 16, PAINT = 0xa5 };
+enum { MOST_STACK = 1024, RULED_STACK = 24576, STACK = 1 << 16, PAINT = 0xa5 };
 enum { THREADS = 4, BEHIND = 3, FIELDS = 4, MOST_N = 4096 };
 enum { BLOCK = 512, SHORT_ROUNDS = 20, LIST_ROUNDS = 3 }; /* so many calls are made so often before the next ones */
 enum { COUNTS = 3 }; /* exports that have no row of their own: three lists have a count beside them */

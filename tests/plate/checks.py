@@ -8,7 +8,6 @@ import itertools
 import os
 import pty
 import random
-import signal
 import socket
 import subprocess
 import sys
@@ -776,11 +775,13 @@ def failing_writes(plate, reading):
         names.seek(0)
         said = said_by(plate, stdin=given, preexec_fn=closing(1))
         group.same("a closed output, " + what, Said(b"", b"plate: write: Bad file descriptor\n"), said)
-    for signals, expected in ((False, Said(b"", b"plate: write: Broken pipe\n")), (True, Said(b"", b"", -signal.SIGPIPE))):
+    # std ignores SIGPIPE at a program's start, so it is the same whether plate inherits that or not
+    for signals in (False, True):
         near, far = os.pipe()
         os.close(near)
         names.seek(0)
-        group.same("nobody reads", expected, said_by(plate, stdin=names, stdout=far, restore_signals=signals))
+        said = said_by(plate, stdin=names, stdout=far, restore_signals=signals)
+        group.same("nobody reads", Said(b"", b"plate: write: Broken pipe\n"), said)
         os.close(far)
     group.same("a pipe that does not wait", b"a part of the rows, and why", full_pipe(plate, reading))
     group.done()
