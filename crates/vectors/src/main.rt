@@ -3,7 +3,7 @@
 // for the floor or the ceiling of a date-time, its day and nanosecond, and the answered day. A line with # is a comment.
 #![tactic(auto)]
 
-ghost use Rattle.std.specs.Prelude.{◌≡◌, ◌+◌, ◌*◌, ◌≤◌, ◌<◌, length};
+ghost use Rattle.std.specs.Prelude.{◌≡◌, ◌+◌, ◌*◌, ◌≤◌, ◌<◌, length, IfOk};
 
 use calendar::{DateAnswer, DateTime, DayAnswer, LAST_COUNT, Ymd};
 use std::io;
@@ -180,15 +180,30 @@ fn compare(text: &[u8]) -> Compared {
     }
 }
 
+// As much of the input as the buffer holds.
+fn read_full(input: &mut impl io::Read, buf: &mut [u8]) -> io::Result<usize>
+    ensures { IfOk result (λ n. n ≤ length buf.new) }
+{
+    let mut len: usize = 0;
+    for _ in 0..u64::MAX {
+        let n = input.read(&mut buf[len..])?;
+        len += n;
+        if n == 0 {
+            break;
+        }
+    }
+    Ok(len)
+}
+
 // The first 65,536 bytes are read, which hold all rows.
 fn main(rt: HostRuntime) -> io::Result<()> {
-    let mut text = Vec::new(rt.alloc());
-    rt.reader().take(65536).read_to_end(&mut text)?;
+    let mut buf = [0u8; 65536];
+    let len = read_full(&mut rt.reader(), &mut buf)?;
     let Compared {
         dates,
         days,
         differ,
-    } = compare(text.as_slice());
+    } = compare(&buf[..len]);
     println!(rt;
         "{dates} published dates compared, {days} floors and ceilings compared, {differ} differ"
     )
