@@ -1,4 +1,4 @@
--- What an axis over dates or date_times tells of its ends and of a value on it, in numbers that `omega` reads.
+-- What an axis over dates or date-times tells of its ends and of a value on it, in numbers that `omega` reads.
 -- Assumes nothing.
 use mathlib.Core.Path.{◌≡◌, refl, ap, ◌∙◌}
 use mathlib.Core.Logic.{inl, inr}
@@ -35,7 +35,7 @@ use Rattle.counting.proofs.Sizes.{size_is}
 use Rattle.counting.proofs.Dates.{ranges, year_9999, year_onward}
 
 -- ---- kinds
--- a kind of at most 6 is over dates or date_times
+-- a kind of at most 6 is over dates or date-times
 below_seven : (a : Axis) (m : ℕ) → m ≤ 6 → le_z a.kind (pos m) ≡ true → is_duration a.kind ≡ false
 below_seven a m h e =
     let l = le_true a.kind (pos m) e in

@@ -15,7 +15,7 @@ use Rattle.axis.specs.declared.Axis.{Axis}
 use Rattle.axis.specs.Axes.{start, end}
 use Rattle.axis.specs.Questions.{is_kind, ends}
 
--- an axis over dates or date_times, of which question 3 is answered
+-- an axis over dates or date-times, of which question 3 is answered
 pub record Dated (a : Axis) : Type 0 where
   pub real : ends a ≡ true
   pub dates : is_duration a.kind ≡ false

@@ -1,4 +1,4 @@
--- The lists of date_times and durations a period apart are the plan's. Assumes nothing.
+-- The lists of date-times and durations a period apart are the plan's. Assumes nothing.
 use mathlib.Core.Path.{◌≡◌, refl, sym, ap, ◌∙◌}
 use mathlib.Core.Bool.{Bool, true, false, cond}
 use mathlib.Core.Logic.{inl, inr}

@@ -1,4 +1,4 @@
--- Where an axis over date_times lists dates: it lists as kind 4, whose period for N is none. Definitions only.
+-- Where an axis over date-times lists dates: it lists as kind 4, whose period for N is none. Definitions only.
 use Rattle.std.specs.Prelude.{◌≡◌, ◌*◌, ◌≤◌, pos}
 use Rattle.laws.specs.Numbers.{pos_part}
 use Rattle.axis.specs.declared.Axis.{Axis}
@@ -17,7 +17,7 @@ date_times a = of_kind (pos 4) a
 abbrev pub Refined : Axis → LightPoints → Type 0
 Refined a l = size_of a ≤ pos_part l.bold * 2
 
--- the axes that list as kind 4: kind 4 itself; with a light hint Monthly over date_times, and Yearly, by way of Monthly
+-- the axes that list as kind 4: kind 4 itself; with a light hint Monthly over date-times, and Yearly, by way of Monthly
 pub data ListsTimes (a : Axis) (h : Hint) : Type 0 where
   times : a.kind ≡ pos 4 → ListsTimes a h
   months : (l : LightPoints) → h ≡ Light l → a.kind ≡ pos 5 → Refined a l → ListsTimes a h

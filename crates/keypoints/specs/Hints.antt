@@ -18,7 +18,7 @@ limit (Light h) = pos_part h.n
 abbrev pub of_kind : ℤ → Axis → Axis
 of_kind k a = axis_of k a.start_head a.start_tail a.end_head a.end_tail a.end_excluded
 
--- months for years, and dates or date_times for months
+-- months for years, and dates or date-times for months
 abbrev pub finer : Axis → Axis
 finer a = of_kind (a.kind -ℤ pos 1) a
 

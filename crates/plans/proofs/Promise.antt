@@ -223,7 +223,7 @@ module _ (a : Axis) (o : in_order a ≡ true) where
       let x = joint heads (a.end_tail -ℤ a.start_tail) per in
       omega (arith, ap pos_part e, ap neg_part e, sub a.end_tail a.start_tail)
 
--- the numbers of an axis over date_times or durations, per to a head
+-- the numbers of an axis over date-times or durations, per to a head
 pub record Counts (a : Axis) (per : ℕ) : Type 0 where
   pub least : per_second ≤ per
   pub most : per ≤ per_day
@@ -395,7 +395,7 @@ date_order a n q d =
     let w = date_value a.kind (end a) (both_ends a q.real).second d in
     omega (arith, date_from a q.real d, to_is a, heads_in_order a q.order)
 
--- date_times have no period just from 10^14 ns for each of the n on
+-- date-times have no period just from 10^14 ns for each of the n on
 module _ (a : Axis) (n : ℕ) (q : Accepted a n) (some : 1 ≤ n) (d : is_duration a.kind ≡ false) where
   period_is : fits_i64 (span_of a) ≡ true → period_of (pos_part (span_of a)) n true ≡ period_in a n
   period_is e = let s : not (is_duration a.kind) ≡ true = rw d in rw s at (some_period a n e)

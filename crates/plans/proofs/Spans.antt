@@ -1,4 +1,4 @@
--- The span of an axis over date_times or durations and its period, and whole days of a long duration. Assumes nothing.
+-- The span of an axis over date-times or durations and its period, and whole days of a long duration. Assumes nothing.
 use mathlib.Core.Path.{◌≡◌, refl, sym, ◌∙◌, ap}
 use mathlib.Core.Bool.{Bool, true, false, cond, not, true≢false}
 use Prim.Native.Nat.{ℕ, ◌+◌, ◌*◌, ◌≤◌, ◌<◌}

@@ -1,4 +1,4 @@
--- The lists of date_times below the day branch and of durations, the end left out: a period apart where the span fits
+-- The lists of date-times below the day branch and of durations, the end left out: a period apart where the span fits
 -- nanoseconds, and whole days of a duration where it does not. Definitions only.
 use Rattle.std.specs.Prelude.{◌≡◌, true, false, not, cond, ℕ, ◌+◌, ◌-◌, ◌*◌, ◌%◌, ◌^◌, ◌<◌, eqb, ℤ, pos, nat_abs, ◌+ℤ◌, ◌-ℤ◌}
 use Rattle.std.specs.Int.Signed.{lt_z, rem_z}
@@ -16,7 +16,7 @@ use Rattle.steps.specs.declared.Steps.{Steps}
 use Rattle.plans.specs.Days.{evenly}
 
 -- ---- ticks a period apart
--- the period, or 0 where days are listed: date_times have none from a day on, durations none beyond i64 nanoseconds
+-- the period, or 0 where days are listed: date-times have none from a day on, durations none beyond i64 nanoseconds
 unfoldable pub period_in : Axis → ℕ → ℕ
 period_in a n = cond (fits_i64 (span_of a)) (period_of (pos_part (span_of a)) n (not (is_duration a.kind))) 0
 

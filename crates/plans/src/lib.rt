@@ -1,5 +1,5 @@
 // The tick list of each kind, as plotters' key_points: a plan, which is a progression. Days, months, years and weeks;
-// date_times and durations a period apart; whole days of a long duration.
+// date-times and durations a period apart; whole days of a long duration.
 #![tactic(auto)]
 
 ghost use Rattle.std.specs.Prelude.{◌≡◌, true, ◌+◌, ◌≤◌, ◌<◌, ◌^◌, min, pos};

@@ -51,7 +51,7 @@ pub ends_as : (a : Axis) (l : Limits) {x y u v : OrderedPixel} → x ≡ u → y
 ends_as a l p q f = rw (p, q) f
 
 -- ---- narrower claims
--- date_times from a nanosecond of day 1 to a later midnight
+-- date-times from a nanosecond of day 1 to a later midnight
 abbrev times : ℕ → ℕ → Axis
 times nano day = axis_from (pos 4) (at_nano (midnight (pos 1)) nano) (midnight (pos day))
 

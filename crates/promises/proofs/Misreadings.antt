@@ -45,7 +45,7 @@ no_inverse f =
     let z = ap (λ (v : Value). pos_part v.head) e in
     omega arith
 
--- months over date_times, from the first nanosecond of 0001-01-01 to the same, N 1: the tick is that midnight
+-- months over date-times, from the first nanosecond of 0001-01-01 to the same, N 1: the tick is that midnight
 first_nanosecond : Axis
 first_nanosecond = axis_from (pos 5) (at_nano (midnight (pos 1)) 1) (at_nano (midnight (pos 1)) 1)
 
@@ -59,7 +59,7 @@ some_before f =
     let later = by_tail refl (smaller (pos 0) (pos 1) (omega arith)) in
     f first_nanosecond (bold_of 1) (pos 7 ∷ (pos 7 ∷ [])) 1 0 refl (omega arith) later
 
--- date_times from the first nanosecond of day 1 to midnight of day 8, between 0 and 15: the end is at 14
+-- date-times from the first nanosecond of day 1 to midnight of day 8, between 0 and 15: the end is at 14
 week_less_one : Axis
 week_less_one = axis_from (pos 4) (at_nano (midnight (pos 1)) 1) (midnight (pos 8))
 

@@ -101,7 +101,7 @@ module _ (a : Axis) (h : Hint) (l : ListsDates a h) where
       let c = (both_true (is_count (bold_points h).n) (enough t (bold_points h).n) (told 6 row tt z)).0 in
       dates_accepted (from_day t) (to_day t) (from_range t d).0 order (to_range t d).1 (bold_points h) c
 
-  -- ---- and its list is that of the date_times, whose end belongs to them
+  -- ---- and its list is that of the date-times, whose end belongs to them
   included : a ≡ closed a
   unfolding excludable over_dates
   included = kept a (go (excluded a) (told 14 (period_questions t (bold_points h)) tt asked_none.0))

@@ -62,7 +62,7 @@ NoFarther a l v p = nat_abs (p -ℤ l.low) ≤ nat_abs (cut_position a l v)
 abbrev pub WithinOneUncut : Axis → Limits → Value → ℤ → Type 0
 WithinOneUncut a l v p = nat_abs ((p -ℤ l.low) *ℤ span_of a -ℤ width l *ℤ offset_of a v) ≤ nat_abs (span_of a)
 
--- "it is always the cut position", on date_times and on dates; claim 2 on date_times; one farther; and two more
+-- "it is always the cut position", on date-times and on dates; claim 2 on date-times; one farther; and two more
 pub record NoNarrower : Type 0 where
   pub always_cut : Claimed over_date_times AtCut → ⊥
   pub always_cut_on_dates : Claimed over_dates AtCut → ⊥

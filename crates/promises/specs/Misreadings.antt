@@ -33,7 +33,7 @@ NeverBefore =
 abbrev pub exact_pixel : Axis → Limits → Value → ℤ
 exact_pixel a l v = l.low +ℤ cut_position a l v
 
--- 'Float pixels equal the exact quotient cut', over dates and date_times that have a span
+-- 'Float pixels equal the exact quotient cut', over dates and date-times that have a span
 abbrev pub AlwaysExact : Type 0
 AlwaysExact =
     (a : Axis) (l : Limits) (v : Value) (h : Hairline) → is_duration a.kind ≡ false → pos 0 <ℤ span_of a

@@ -29,7 +29,7 @@ TwoWeeks =
     → listed_into (dates_apart day 14) (bold_of 1) d
     ≡ pos 0 ∷ (pos 2 ∷ (pos day ∷ (pos 0 ∷ (pos (day + 14) ∷ (pos 0 ∷ drop 4 d)))))
 
--- a span of kind 4 with N 100 has the period k, between any two date_times in order that are so far apart, the end included
+-- a span of kind 4 with N 100 has the period k, between any two date-times in order that are so far apart, the end included
 abbrev pub PeriodOf : ℕ → ℕ → Type 0
 PeriodOf span k =
     (a : Axis) → a.kind ≡ pos 4 → ends a ≡ true → in_order a ≡ true → excluded a ≡ false → span_of a ≡ pos span

@@ -1,5 +1,5 @@
 // Claims about what the calls of C hand back: functions that make the calls, and ensure the claim of their answers.
-// Demand 3 stands in specs/Demand.antt, one list for date_times and dates in specs/OneList.antt, how far a pixel may be off in
+// Demand 3 stands in specs/Demand.antt, one list for date-times and dates in specs/OneList.antt, how far a pixel may be off in
 // specs/HowFarOff.antt, how it is drawn in specs/Hairlines.antt, house rules in specs/HouseRules.antt; theorems in proofs/.
 #![tactic(auto)]
 
@@ -20,7 +20,7 @@ pub struct TwoPixels {
     pub second: OrderedPixel,
 }
 
-// What the calls of a period, of a list of date_times and of a list of dates answered.
+// What the calls of a period, of a list of date-times and of a list of dates answered.
 #[derive(Clone, Copy)]
 pub struct Lists {
     pub period: OrderedPeriod,

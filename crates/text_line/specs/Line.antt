@@ -89,7 +89,7 @@ fields_from zero s = s
 fields_from (suc k) s = rest_of (fields_from k s)
 
 -- ---- a start or an end as a value
--- what is typed in form and is not real: no value of the kinds over dates and date_times, whose heads begin at 1
+-- what is typed in form and is not real: no value of the kinds over dates and date-times, whose heads begin at 1
 abbrev pub unreal : Value
 unreal = record { head = pos 0; tail = pos 0 }
 
@@ -142,7 +142,7 @@ abbrev pub of_span : SpanField → ValueField
 of_span (span.Read p) = value.Read (span_value p)
 of_span span.Unread = value.Unread
 
--- date_times on kinds 4 to 6, spans on 7, dates on all others
+-- date-times on kinds 4 to 6, spans on 7, dates on all others
 unfoldable pub read_value : ℕ → List ℕ → ValueField
 read_value kind s =
     cond (over_date_times (pos kind)) (of_stamp (read_stamp s))

@@ -1,4 +1,4 @@
--- The forms of a line's fields, over the bytes from a field's start: numbers, dates, date_times, spans. Definitions only.
+-- The forms of a line's fields, over the bytes from a field's start: numbers, dates, date-times, spans. Definitions only.
 -- A field is what stands before the next space, or all to the line's end.
 use Rattle.std.specs.Prelude.{Bool, true, false, ◌&&◌, cond, List, [], ◌∷◌, ℕ, suc, ◌+◌, ◌*◌, ◌-◌, ◌^◌, ◌<◌, leb, ltb, eqb, pos}
 use Rattle.std.specs.Prelude.{◌-ℤ◌, length, take, drop, get_or}

@@ -9,7 +9,7 @@ use Rattle.mapping.specs.declared.Pixel.TheVariants.{Refused, At}
 use Rattle.text_read.specs.Bytes.{line_feed, space_byte, exclamation, minus_byte}
 use Rattle.text_write.specs.Texts.{decimal_text, signed_text, date_text, date_time_text, span_text}
 
--- date_times on kinds 4 to 6, spans on 7, dates on all others; `shown`: the tick's list shows fractions
+-- date-times on kinds 4 to 6, spans on 7, dates on all others; `shown`: the tick's list shows fractions
 unfoldable pub tick_text : Bool → ℤ → Value → List ℕ
 tick_text shown kind v =
     cond (over_date_times kind) (date_time_text shown (pos_part v.head) (pos_part v.tail))

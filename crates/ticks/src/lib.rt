@@ -58,7 +58,7 @@ pub fn refusal(a: Axis, h: Hint) -> u8
     axis::then_ask(q, 6, axis::hint_on(a, h))
 }
 
-// The axis that lists: with a light hint years may go to months, and these to dates or date_times.
+// The axis that lists: with a light hint years may go to months, and these to dates or date-times.
 fn axis_for(a: Axis, h: Hint) -> Axis
     requires { first_no (tick_questions a h) ≡ 0 }
     ensures { result ≡ axis_for a h }

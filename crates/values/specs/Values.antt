@@ -1,5 +1,5 @@
 -- Values of the eight kinds (question 3, and question 8 of a value) and their order. Definitions only.
--- Kinds 1 to 3 and 8 are over dates, 4 to 6 over date_times, 7 over durations.
+-- Kinds 1 to 3 and 8 are over dates, 4 to 6 over date-times, 7 over durations.
 use Rattle.std.specs.Prelude.{◌≡◌, Bool, true, ◌&&◌, ◌||◌, ℤ, pos}
 use Rattle.std.specs.Int.Signed.{lt_z, le_z}
 use Rattle.laws.specs.Numbers.{minus, within, is_number}
@@ -10,7 +10,7 @@ use Rattle.values.specs.declared.Value.{Value}
 unfoldable pub over_dates : ℤ → Bool
 over_dates kind = within (pos 1) kind (pos 3) || is_number kind 8
 
--- the kinds over date_times
+-- the kinds over date-times
 abbrev pub over_date_times : ℤ → Bool
 over_date_times kind = within (pos 4) kind (pos 6)
 

@@ -42,7 +42,7 @@ pub fn is_duration(kind: i64) -> bool
     (7 <= kind) & (kind <= 7)
 }
 
-// Is v a value of the kind? Dates, date_times and durations are told apart first, so that one row of tests is asked.
+// Is v a value of the kind? Dates, date-times and durations are told apart first, so that one row of tests is asked.
 pub fn is_value(kind: i64, v: Value) -> bool
     ensures { result ≡ is_value kind v }
 {

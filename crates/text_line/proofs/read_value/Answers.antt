@@ -7,7 +7,7 @@ use Rattle.text_line.specs.Line.{of_date, of_stamp, of_span, read_value}
 use Rattle.text_line.proofs.read_value.Goals as goal
 use Rattle.text_line.proofs.read_value.Goals.{After-date, After-span, After-stamp}
 
--- ---- date_times
+-- ---- date-times
 stamped : (c : After-stamp) (v : StampField) → c.stamp.result ≡ v → let x = c.args in
     of_stamp v ≡ read_value x.kind x.s.now
 unfolding read_value
