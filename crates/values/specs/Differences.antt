@@ -1,11 +1,10 @@
 -- How far apart two values of a kind are, in exact nanoseconds: as a signed 64-bit number where it is one, and in whole
 -- days. Definitions only.
-use Rattle.std.specs.Prelude.{Bool, cond, ℕ, ℤ, pos, ◌+ℤ◌, ◌-ℤ◌, ◌*ℤ◌}
+use Rattle.std.specs.Prelude.{Bool, cond, Option, Some, None, ℕ, ℤ, pos, ◌+ℤ◌, ◌-ℤ◌, ◌*ℤ◌}
 use Rattle.std.specs.Int.Signed.{quot_z}
 use Rattle.laws.specs.Numbers.{minus, within}
 use Rattle.laws.specs.Units.{per_second, per_day, seconds_per_day}
 use Rattle.values.specs.declared.Value.{Value}
-use Rattle.values.specs.declared.Nanoseconds.{Nanoseconds}
 use Rattle.values.specs.Values.{is_duration}
 
 -- what one of the head counts: the nanoseconds of a second, or of a day
@@ -26,8 +25,8 @@ abbrev pub fits_i64 : ℤ → Bool
 fits_i64 d = within (minus 9223372036854775808) d (pos 9223372036854775807)
 
 -- a number of nanoseconds, where it is one of 64 bits
-unfoldable pub nanoseconds_of : ℤ → Nanoseconds
-nanoseconds_of d = record { fits = fits_i64 d; value = cond (fits_i64 d) d (pos 0) }
+unfoldable pub nanoseconds_of : ℤ → Option ℤ
+nanoseconds_of d = cond (fits_i64 d) (Some d) None
 
 -- cut toward zero
 abbrev pub whole_days : ℤ → ℤ

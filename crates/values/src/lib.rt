@@ -17,13 +17,6 @@ pub struct Value {
     pub tail: i64,
 }
 
-// A number of nanoseconds; value is 0 where it does not fit.
-#[derive(Clone, Copy)]
-pub struct Nanoseconds {
-    pub fits: bool,
-    pub value: i64,
-}
-
 // A difference as heads and tails, of unit nanoseconds a head. So are the ends of the signed 64-bit numbers: most is
 // 2^63 - 1 nanoseconds, and least is -2^63, both cut toward zero.
 #[derive(Clone, Copy)]
@@ -124,48 +117,36 @@ fn toward_zero(p: Parts) -> Value
 }
 
 // The parts as one number: cut toward zero, they are compared with the ends before any product.
-fn far(p: Parts) -> Nanoseconds
+fn far(p: Parts) -> Option<i64>
     requires { Bounded p }
     ensures { result ≡ nanoseconds_of (sum p) }
 {
     let v = toward_zero(p);
     if earlier(v, p.least) | earlier(p.most, v) {
-        return Nanoseconds {
-            fits: false,
-            value: 0,
-        };
+        return None;
     }
-    Nanoseconds {
-        fits: true,
-        value: v.head * p.unit + v.tail,
-    }
+    Some(v.head * p.unit + v.tail)
 }
 
 // The same, quicker where there are fewer heads than in the ends: these fit with any tails.
-fn within(p: Parts) -> Nanoseconds
+fn within(p: Parts) -> Option<i64>
     requires { Bounded p }
     ensures { result ≡ nanoseconds_of (sum p) }
 {
     if (p.heads < p.most.head) && (p.least.head < p.heads) {
-        return Nanoseconds {
-            fits: true,
-            value: p.heads * p.unit + p.tails,
-        };
+        return Some(p.heads * p.unit + p.tails);
     }
     far(p)
 }
 
 // The same, quicker still where the heads are fewer than the days of the ends, as those of most charts are: they fit in either
 // unit.
-fn joined(p: Parts) -> Nanoseconds
+fn joined(p: Parts) -> Option<i64>
     requires { Bounded p }
     ensures { result ≡ nanoseconds_of (sum p) }
 {
     if (p.heads < 106751) && (-106751 < p.heads) {
-        return Nanoseconds {
-            fits: true,
-            value: p.heads * p.unit + p.tails,
-        };
+        return Some(p.heads * p.unit + p.tails);
     }
     within(p)
 }
@@ -180,7 +161,7 @@ fn whole(p: Parts) -> i64
 }
 
 // From a to b, in nanoseconds.
-pub fn nanoseconds_between(kind: i64, a: Value, b: Value) -> Nanoseconds
+pub fn nanoseconds_between(kind: i64, a: Value, b: Value) -> Option<i64>
     requires { Both kind a b }
     ensures { result ≡ nanoseconds_of (difference kind a b) }
 {
