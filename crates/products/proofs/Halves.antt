@@ -4,11 +4,14 @@ use mathlib.Core.Bool.{Bool, true, false, ◌&&◌, false≢true}
 use Prim.Native.Nat.{ℕ, zero, suc, ◌+◌, ◌*◌, ◌^◌, ◌≤◌, ◌<◌}
 use native.Mathlib.Nat.{mul-le-mul}
 use native.Mathlib.Omega.{arith}
+use lib.Dec.{eqb, eqb→eq, eqb_refl}
 use lib.IntN.{ℤ, pos, negsuc, neg_ℤ, nat_abs, ◌+ℤ◌, ◌*ℤ◌}
 use mir.Syntax.{w64}
-use mir.Val.{SFits}
+use mir.Val.{SFits, of_z, to_z}
+use mir.Facts.{to_z-of_z}
 use Rattle.laws.specs.Numbers.{equal, pos_part, neg_part}
 use Rattle.laws.proofs.Halves.{H, upper, lower, upper_few, halves}
+use Rattle.laws.proofs.Tests.{holds, is_true}
 use Rattle.laws.proofs.Signed.{add, mul, mul_up, mul_dn, abs, fits, same, equal_true, true_equal}
 
 -- ---- nothing exceeds 64 bits
@@ -24,6 +27,21 @@ sizes (pos a) (pos b) = refl
 sizes (pos a) (negsuc b) = unsigned (a * suc b)
 sizes (negsuc a) (pos b) = unsigned (suc a * b)
 sizes (negsuc a) (negsuc b) = refl
+
+-- ---- the code's `==` on an i64 compares the numbers' bits
+pub same_bits : (x y : ℤ) → SFits w64 x → SFits w64 y → eqb (of_z w64 x) (of_z w64 y) ≡ equal x y
+same_bits x y f g = go (eqb (of_z w64 x) (of_z w64 y)) (equal x y) refl refl
+  where
+    go : (s t : Bool) → eqb (of_z w64 x) (of_z w64 y) ≡ s → equal x y ≡ t → s ≡ t
+    go true true d e = refl
+    go true false d e = absurd (false≢true (sym e ∙ true_equal x y
+        (sym (to_z-of_z f) ∙ ap (to_z w64) (eqb→eq _ _ (is_true _ d)) ∙ to_z-of_z g)))
+    go false true d e = absurd (false≢true (sym d ∙ ap (λ (z : ℤ). eqb (of_z w64 x) (of_z w64 z)) (sym (equal_true x y e))
+        ∙ holds _ (eqb_refl (of_z w64 x))))
+    go false false d e = refl
+
+pub same_counts : (l m : ℕ) → l < 2 ^ 32 → m < 2 ^ 32 → eqb l m ≡ equal (pos l) (pos m)
+same_counts l m L M = same_bits (pos l) (pos m) (few (pos l) (omega arith)) (few (pos m) (omega arith))
 
 -- ---- one product
 module _ (a b : ℤ) (A : nat_abs a ≤ 2 ^ 31) (B : SFits w64 b) where

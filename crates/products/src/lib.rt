@@ -8,12 +8,6 @@ ghost use Rattle.laws.specs.Numbers.{equal};
 // The lower half of a number's bits.
 const LOWER: i64 = 4294967295;
 
-fn same(x: i64, y: i64) -> bool
-    ensures { result ≡ equal x y }
-{
-    (y <= x) & (x <= y)
-}
-
 // a × b = c × d. The upper halves keep the signs of b and d, so that each number is its upper half times 2^32 and its lower
 // half. The lowest 32 bits of both products are compared, and what stands above these.
 pub fn same_products(a: i64, b: i64, c: i64, d: i64) -> bool
@@ -24,5 +18,5 @@ pub fn same_products(a: i64, b: i64, c: i64, d: i64) -> bool
     let q = c * (d & LOWER);
     let x = a * (b >> 32) + (p >> 32);
     let y = c * (d >> 32) + (q >> 32);
-    same(p & LOWER, q & LOWER) & same(x, y)
+    (p & LOWER == q & LOWER) & (x == y)
 }
