@@ -1,8 +1,8 @@
 -- Question 8 in the code's order: the ranges of the three numbers, then the month's length; and what a yes says.
 -- And the ranges of the answers. Assumes nothing.
 use mathlib.Core.Path.{◌≡◌, refl, sym, ◌∙◌, ap, subst}
-use mathlib.Core.Bool.{Bool, true, false, cond, not, ◌&&◌, ◌||◌}
-use Prim.Native.Nat.{ℕ, zero, suc, ◌≤◌, ◌<◌}
+use mathlib.Core.Bool.{Bool, true, false, not, ◌&&◌, ◌||◌}
+use Prim.Native.Nat.{ℕ, ◌≤◌, ◌<◌}
 use native.Mathlib.Omega.{arith}
 use lib.IntN.{ℤ, pos, negsuc}
 use lib.Dec.{eqb, leb}
@@ -11,17 +11,15 @@ use lib.Signed.{lt_z, le_z}
 use mir.Syntax.{w64}
 use mir.Val.{SFits, to_z, of_z}
 use mir.Facts.{to_z-of_z}
-use Rattle.laws.specs.Asking.{first_no, unless}
+use Rattle.std.specs.Prelude.{Ok}
 use Rattle.laws.specs.Numbers.{within, pos_part}
-use Rattle.laws.proofs.Asked.{told}
 use Rattle.laws.proofs.Tests.{both_true}
 use Rattle.laws.proofs.Signed.{le_true, is_ge}
 use Rattle.calendar.specs.declared.Ymd.{Ymd}
 use Rattle.calendar.specs.declared.Date.{Date}
-use Rattle.calendar.specs.declared.DayAnswer.TheVariants as day
-use Rattle.calendar.specs.declared.DateAnswer.TheVariants as date
+use Rattle.asking.proofs.Asked.{told, answered_ok}
 use Rattle.calendar.specs.Gregorian.{month_length, day_number, date_of, Real}
-use Rattle.calendar.specs.Questions.{is_date, last_day, is_day, in_ranges, date_questions, number_of, date_at}
+use Rattle.calendar.specs.Questions.{is_date, last_day, is_day, in_ranges, date_questions, day_questions, number_of, date_at}
 use Rattle.calendar.proofs.Formulas.{month_length_range, month_length_long}
 use Rattle.calendar.proofs.Dates.{number_most, year_most, date_number}
 
@@ -153,11 +151,6 @@ module _ (y m d : ℕ) where
   early_day h e = sym (le-leb d (month_length y m) (early_most h e))
 
 -- ---- what an answer holds
--- a day that was answered was not refused, and is that day
-pub day_answered : (q k n : ℕ) → unless q day.Refused (day.Answered k) ≡ day.Answered n → (q ≡ 0) × (k ≡ n)
-day_answered zero k n e = (refl, cc)
-day_answered (suc q) k n e = let z : ◌≡◌ {A = ℕ} 0 1 = cc in absurd (let w : ⊥ = omega arith in w)
-
 date_most : (t : Ymd) → is_date t.year t.month t.day ≡ true → day_number (pos_part t.year) (pos_part t.month)
     (pos_part t.day)
     ≤ 3652059
@@ -170,12 +163,13 @@ date_most t f = go (in_ranges t) refl
         number_most _ _ _ (real_in_month _ _ _ t k refl refl refl h) k.year_last
     go false g = let z : ◌≡◌ {A = ℕ} 0 1 = cc (out_of_ranges t g) in absurd (let w : ⊥ = omega arith in w)
 
-pub number_range : (t : Ymd) (n : ℕ) → number_of t ≡ day.Answered n → n ≤ 3652059
+pub number_range : (t : Ymd) (n : ℕ) → number_of t ≡ Ok n → n ≤ 3652059
 unfolding number_of
 number_range t n e =
     let row = date_questions t.year t.month t.day in
-    let (z, same) = day_answered (first_no row) _ n e in
-    omega (arith, date_most t (told 8 row tt z))
+    let (p, a) = answered_ok row (Ok (day_number (pos_part t.year) (pos_part t.month) (pos_part t.day))) n e in
+    let same : day_number (pos_part t.year) (pos_part t.month) (pos_part t.day) ≡ n = cc in
+    omega (arith, date_most t (told 8 row p))
 
 pub record InRange (t : Date) : Type 0 where
   pub year : t.year ≤ 9999
@@ -192,11 +186,10 @@ in_range_law n e =
       day = omega (arith, r.within, month_length_range (date_of (pos_part n)).year (date_of (pos_part n)).month r.last);
     }
 
-dated_one : (b : Bool) (s t : Date) → (b ≡ true → InRange s) → unless (cond b 0 8) date.Refused (date.Answered s)
-    ≡ date.Answered t → InRange t
-dated_one true s t h e = let same : s ≡ t = cc in subst (λ (x : Date). InRange x) same (h refl)
-dated_one false s t h e = let z : ◌≡◌ {A = ℕ} 0 1 = cc in absurd (let w : ⊥ = omega arith in w)
-
-pub date_range : (n : ℤ) (t : Date) → date_at n ≡ date.Answered t → InRange t
+pub date_range : (n : ℤ) (t : Date) → date_at n ≡ Ok t → InRange t
 unfolding date_at
-date_range n t e = dated_one (is_day n) (date_of (pos_part n)) t (in_range_law n) e
+date_range n t e =
+    let row = day_questions n in
+    let (p, a) = answered_ok row (Ok (date_of (pos_part n))) t e in
+    let same : date_of (pos_part n) ≡ t = cc in
+    subst (λ (x : Date). InRange x) same (in_range_law n (told 8 row p))

@@ -9,7 +9,9 @@ ghost use Rattle.calendar.specs.Gregorian.{leap_day, month_length, day_number, d
 ghost use Rattle.calendar.specs.DateTimes.{date_floor, date_ceil};
 ghost use Rattle.calendar.specs.Questions.{last_day, in_ranges, is_day, number_of, date_at};
 
-#[derive(Clone, Copy)]
+use asking::{Refusal, ask};
+
+#[derive(Clone, Copy, Debug, PartialEq, Eq)]
 pub struct Date {
     pub year: u64,
     pub month: u64,
@@ -24,18 +26,6 @@ pub struct Ymd {
     pub day: i64,
 }
 
-#[derive(Clone, Copy)]
-pub enum DayAnswer {
-    Refused(u8),
-    Answered(u64),
-}
-
-#[derive(Clone, Copy)]
-pub enum DateAnswer {
-    Refused(u8),
-    Answered(Date),
-}
-
 // A day number and a nanosecond of that day.
 #[derive(Clone, Copy)]
 pub struct DateTime {
@@ -43,10 +33,8 @@ pub struct DateTime {
     pub nano: u64,
 }
 
-// 9999-12-31, as a signed number and as a count.
+// 9999-12-31.
 pub const LAST_DAY: i64 = 3652059;
-
-pub const LAST_COUNT: u64 = 3652059;
 
 const LENGTHS: [u8; 12] = [31, 28, 31, 30, 31, 30, 31, 31, 30, 31, 30, 31];
 
@@ -136,52 +124,43 @@ fn has_day(y: u64, m: u64, d: u64) -> bool
     requires { (1 ≤ m) × (m ≤ 12) }
     ensures { result ≡ leb d (month_length y m) }
 {
-    if (d <= 28) | ((d <= 30) & (m != 2)) {
-        return true;
-    }
-    d <= month_length(y, m)
+    (d <= 28) | ((d <= 30) & (m != 2)) || d <= month_length(y, m)
 }
 
-// Question 8 of a day number.
+// A day of the years 1 to 9999.
 pub fn is_day(n: i64) -> bool
     ensures { result ≡ is_day n }
 {
     (1 <= n) & (n <= LAST_DAY)
 }
 
-// Question 8 of three numbers, but for the month's length.
+// A date of these years, but for the month's length.
 fn in_ranges(t: Ymd) -> bool
     ensures { result ≡ in_ranges t }
 {
     (1 <= t.year) & (t.year <= 9999) & ((1 <= t.month) & (t.month <= 12)) & (1 <= t.day)
 }
 
-fn number_in_ranges(y: u64, m: u64, d: u64) -> DayAnswer
+fn number_in_ranges(y: u64, m: u64, d: u64) -> Result<u64, Refusal>
     requires { in_ranges (record { year = pos y; month = pos m; day = pos d }) ≡ true }
     ensures { result ≡ number_of (record { year = pos y; month = pos m; day = pos d }) }
 {
-    if !has_day(y, m, d) {
-        return DayAnswer::Refused(8);
-    }
-    DayAnswer::Answered(day_number(y, m, d))
+    ask(Refusal::Value, has_day(y, m, d))?;
+    Ok(day_number(y, m, d))
 }
 
 // The day number of any three numbers.
-pub fn number_of(t: Ymd) -> DayAnswer
+pub fn number_of(t: Ymd) -> Result<u64, Refusal>
     ensures { result ≡ number_of t }
 {
-    if !in_ranges(t) {
-        return DayAnswer::Refused(8);
-    }
+    ask(Refusal::Value, in_ranges(t))?;
     number_in_ranges(as_count(t.year), as_count(t.month), as_count(t.day))
 }
 
 // The date of any number.
-pub fn date_at(n: i64) -> DateAnswer
+pub fn date_at(n: i64) -> Result<Date, Refusal>
     ensures { result ≡ date_at n }
 {
-    if !is_day(n) {
-        return DateAnswer::Refused(8);
-    }
-    DateAnswer::Answered(date_of(as_count(n)))
+    ask(Refusal::Value, is_day(n))?;
+    Ok(date_of(as_count(n)))
 }

@@ -1,12 +1,14 @@
 -- `calendar::number_in_ranges` meets its contract. Assumes nothing.
+use borrow.Author.Rules.{rules}
 use mathlib.Core.Path.{◌≡◌, sym, ◌∙◌}
+use mathlib.Core.Bool.{true}
 use native.Mathlib.Omega.{arith}
 use lib.IntN.{pos}
 use Rattle.calendar.specs.Questions.{is_date, number_of}
 use Rattle.calendar.specs.declared.Ymd.{Ymd}
 use Rattle.calendar.proofs.Questions.{ranges, in_month, is_real}
 use Rattle.calendar.proofs.number_in_ranges.Goals as goal
-use Rattle.calendar.proofs.number_in_ranges.Goals.{After-has_day, Start}
+use Rattle.calendar.proofs.number_in_ranges.Goals.{After-has_day, In_ok-ask, Start}
 
 abbrev given : Start → Ymd
 given c = record { year = pos c.args.y; month = pos c.args.m; day = pos c.args.d }
@@ -14,18 +16,23 @@ given c = record { year = pos c.args.y; month = pos c.args.m; day = pos c.args.d
 pub has_day-requires : goal.has_day-requires
 has_day-requires c = let k = ranges (given c) c.requires in (k.month_first, k.month_last)
 
-asked : (c : After-has_day) → is_date (pos c.args.y) (pos c.args.m) (pos c.args.d)
-    ≡ c.has_day.result
+asked : (c : After-has_day) → is_date (pos c.args.y) (pos c.args.m) (pos c.args.d) ≡ c.has_day.result
 asked c = in_month (given c.before) c.requires ∙ sym c.has_day.ensures
 
-pub returns-then-not-has_day : goal.returns-then-not-has_day
+pub returns-in_err-ask : goal.returns-in_err-ask
 unfolding number_of
-returns-then-not-has_day c = simp (asked c.before ∙ c.if-not-has_day.true)
+returns-in_err-ask c = let same = asked (goal.at.returns-in_err-ask c).After-has_day in search rules
+
+passed : (c : In_ok-ask) → c.has_day.result ≡ true
+passed c = search rules
 
 pub day_number-requires : goal.day_number-requires
-day_number-requires c = let k = ranges (given c.before.before) c.requires in
-    (is_real (given c.before.before) c.requires (sym c.has_day.ensures ∙ c.if-not-has_day.false), omega (arith, k.year_last))
+day_number-requires c =
+    let g = given (goal.at.day_number-requires c).Start in
+    (is_real g c.requires (sym c.has_day.ensures ∙ passed c), omega (arith, (ranges g c.requires).year_last))
 
 pub returns : goal.returns
 unfolding number_of
-returns c = simp (asked c.before.before ∙ c.if-not-has_day.false, c.day_number.ensures)
+returns c =
+    let p = goal.at.returns c in
+    simp (asked p.After-has_day ∙ passed p.In_ok-ask, c.day_number.ensures)
