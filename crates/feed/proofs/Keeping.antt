@@ -1,49 +1,42 @@
--- A line that grows by one byte, and its end; how much of a chunk is read; and that it does not matter where chunks end.
+-- What is kept of a line, and its end; how much of a chunk is read; and that it does not matter where chunks end.
 -- Assumes nothing.
 use mathlib.Core.Path.{◌≡◌, refl, sym, ◌∙◌, ap}
 use mathlib.Core.Bool.{Bool, true, false, cond}
-use mathlib.Core.List.{List, [], ◌∷◌, ◌++◌, append_assoc}
-use Prim.Native.Nat.{ℕ, zero, suc, ◌+◌, ◌<◌, ◌≤◌}
-use native.Mathlib.Numerals.{add-one}
+use mathlib.Core.List.{List, [], ◌∷◌, ◌++◌}
+use Prim.Native.Nat.{ℕ, zero, suc, min, ◌+◌, ◌-◌, ◌<◌, ◌≤◌}
+use native.Mathlib.Decide.{dec_le}
 use native.Mathlib.Omega.{arith}
 use lib.Dec.{ltb}
-use lib.ListN.{length, take, get_or, set, length-append}
-use lib.Seq.{take-suc, take-suc-set, take_all, take-append-add}
+use lib.ListN.{length, take, length-append, length-drop}
+use lib.Seq.{take_all, length-take-le, take-append-add}
 use borrow.Author.Tests.{lt-ltb, le-ltb, ltb-true, ltb-false}
+use borrow.Rule.Slice.PartMut.{put_mid}
+use Rattle.std.proofs.lemmas.Slice.{take-put_mid}
 use Rattle.text_read.specs.Bytes.{line_feed}
 use Rattle.text_read.specs.Fields.{until_of}
 use Rattle.text_read.proofs.Fields.{until_le}
 use Rattle.feed.specs.declared.Fed.{Fed}
 use Rattle.feed.specs.Feed.{Kept, Ate}
 
--- b and then the first i bytes of p are kept in the front of l
-module _ (b p l : List ℕ) (n i : ℕ) (e : take (n + i) l ≡ b ++ take i p) where
-  pub more : i < length p → n + i < length l → take (n + (i + 1)) (set l (n + i) (get_or p i 0)) ≡ b ++ take (i + 1) p
-  more h k =
-      let q : n + (i + 1) ≡ suc (n + i) = omega arith in
-      rw (q, add-one i, take-suc-set l (n + i) (get_or p i 0) k, e, take-suc p i 0 h)
-      (append_assoc b (take i p) (get_or p i 0 ∷ []))
-
-  module _ (size : length b ≡ n) (room : length l ≡ 121) where
-    -- 121 bytes are kept
-    pub full : n + i ≡ 121 → Kept b p 121 l
-    full k =
-        let q : length b + i ≡ 121 = omega arith in
-        record {
-          most = omega arith;
-          same_size = room;
-          line = rw (← k) e ∙ sym (take-append-add b p i) ∙ ap (λ (m : ℕ). take m (b ++ p)) q;
-        }
-
-    -- all of the part is kept
-    pub whole : length p ≤ i → i ≤ length p → n + i ≤ 121 → Kept b p (n + i) l
-    whole k j m =
-        let q : length (b ++ p) ≤ 121 = simp length-append (omega arith) in
-        record {
-          most = m;
-          same_size = room;
-          line = e ∙ ap (λ (x : List ℕ). b ++ x) (take_all i p k) ∙ sym (take_all 121 (b ++ p) q);
-        }
+-- what the part adds, as far as 121 bytes go, is written behind the first n bytes of k
+pub kept_part : (k p added : List ℕ) (n end : ℕ) → n ≤ 121 → length k ≡ 121 → end ≡ min 121 (n + length p) →
+    added ≡ take (end - n) p → Kept (take n k) p end (put_mid n (end - n) k added)
+kept_part k p added n end m size e a =
+    let front : length (take n k) ≡ n = length-take-le n k (omega arith) in
+    let count : length added ≡ end - n = rw a (length-take-le (end - n) p (omega arith)) in
+    let rest : take (121 - n) p ≡ added = rw a (cut (dec_le 121 (n + length p))) in
+    let q : length (take n k) + (121 - n) ≡ 121 = omega arith in
+    record {
+      most = omega arith;
+      same_size = simp (length-append, length-drop) (omega arith);
+      line = take-put_mid n (end - n) k added end (omega arith) (omega arith)
+          ∙ rw (← rest) (sym (take-append-add (take n k) p (121 - n))) ∙ ap (λ (m : ℕ). take m (take n k ++ p)) q;
+    }
+  where
+    cut : Dec (121 ≤ n + length p) → take (121 - n) p ≡ take (end - n) p
+    cut (yes l) = let x : end ≡ 121 = omega arith in rw x
+    cut (no l) =
+        take_all (121 - n) p (omega arith) ∙ sym (take_all (end - n) p (omega arith))
 
 module _ (b chunk after : List ℕ) (k m : ℕ) (e : k ≡ until_of line_feed chunk) (h : Kept b (take k chunk) m after) where
   pub ate_line : k < length chunk → Ate b chunk (record { len = m; used = k + 1; ended = true }) after

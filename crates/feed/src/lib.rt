@@ -10,16 +10,9 @@ fn keep(kept: &mut [u8], n: usize, part: &[u8]) -> usize
     requires { (n ≤ 121) × (length kept.old ≡ 121) }
     ensures { Kept (take n kept.old) part.now result kept.new }
 {
-    let mut i: usize = 0;
-    while i < part.len() {
-        let m = n + i;
-        if m == 121 {
-            return 121;
-        }
-        kept[m] = part[i];
-        i += 1;
-    }
-    n + i
+    let end = 121.min(n + part.len());
+    kept[n..end].copy_from_slice(&part[..end - n]);
+    end
 }
 
 #[derive(Clone, Copy)]

@@ -1,14 +1,13 @@
--- `feed::keep` meets its contract: after i turns the first i bytes of the part are kept. Assumes nothing.
+-- `feed::keep` meets its contract: what there is room for is copied behind what was kept. Assumes nothing.
+use mathlib.Core.Path.{◌≡◌}
+use Prim.Native.Nat.{min, ◌+◌}
+use lib.ListN.{length}
 use native.Mathlib.Omega.{arith}
-use lib.Seq.{length-take-le}
-use Rattle.feed.proofs.Keeping.{full, whole}
+use Rattle.std.proofs.lemmas.Bool.Decides.{nat_tests}
+use Rattle.feed.proofs.Keeping.{kept_part}
 use Rattle.feed.proofs.keep.Goals as goal
 
-pub returns-then-m-eq121 : goal.returns-then-m-eq121
-returns-then-m-eq121 c = let l = c.loop-i in
-    full _ _ _ _ l.i l.invariant.1.1.1 (length-take-le _ _ (omega arith)) l.invariant.1.1.0 c.if-m-eq121.true
-
 pub returns : goal.returns
-returns c = let l = c.loop-i in
-    whole _ _ _ _ l.i l.invariant.1.1.1 (length-take-le _ _ (omega arith)) l.invariant.1.1.0 c.loop-i-test.false l.invariant.0
-    l.invariant.1.0
+returns c = let e : c.min-end.result ≡ min 121 (c.args.n + length c.args.part.now) = grind (arith, nat_tests) in
+    kept_part c.args.kept.now c.args.part.now c.copy_from_slice.new.self c.args.n c.min-end.result
+    (omega arith) c.requires.1 e c.copy_from_slice.ensures.after
