@@ -1,23 +1,21 @@
--- Question 13 in the code's order, what a yes says, and the answers: the two operations undo each other, and the ranges
+-- The questions in the code's order, what a yes says, and the answers: the two operations undo each other, and the ranges
 -- of what they answer. Assumes nothing.
 use mathlib.Core.Path.{◌≡◌, refl, sym, ◌∙◌, ap, subst}
-use mathlib.Core.Bool.{Bool, true, false, cond, ◌&&◌, true≢false}
+use mathlib.Core.Bool.{Bool, true, false, ◌&&◌, true≢false}
 use Prim.Native.Nat.{ℕ, ◌≤◌}
 use native.Mathlib.Omega.{arith}
 use lib.IntN.{ℤ, pos}
 use borrow.Author.Tests.{leb-true, le-leb}
 use lib.Signed.{lt_z, le_z}
-use Rattle.laws.specs.Asking.{first_no, unless}
+use Rattle.std.specs.Prelude.{Ok}
 use Rattle.laws.specs.Numbers.{within, pos_part}
-use Rattle.laws.proofs.Asked.{told}
 use Rattle.laws.proofs.Tests.{both_true}
-use Rattle.calendar.specs.declared.DayAnswer.TheVariants as day
-use Rattle.calendar.specs.Questions.{is_day}
+use Rattle.asking.proofs.Asked.{told, answered_ok}
+use Rattle.calendar.specs.Questions.{is_day, day_questions}
 use Rattle.calendar.proofs.Dates.{years_most}
-use Rattle.calendar.proofs.Questions.{least, most, day_range, day_in, day_answered}
+use Rattle.calendar.proofs.Questions.{least, most, day_range, day_in}
 use Rattle.weeks.specs.declared.Ywd.{Ywd}
 use Rattle.weeks.specs.declared.WeekDate.{WeekDate}
-use Rattle.weeks.specs.declared.WeekAnswer.TheVariants as week
 use Rattle.weeks.specs.Weeks.{week_year, weeks_of, week_date, week_date_of, InWeeks, week_day}
 use Rattle.weeks.specs.Questions.{is_week_date, in_ranges, day_of, week_questions, week_day_number, week_date_at}
 use Rattle.weeks.proofs.Weeks.{in_weeks, week_year_most, day_back, n_first, week_back, weeks_range, monday_most}
@@ -111,29 +109,30 @@ is_week_date_law t k h = rw (
 )
 
 -- ---- the answers
-pub number_is : (t : Ywd) (n : ℕ) → week_day_number t ≡ day.Answered n →
+pub number_is : (t : Ywd) (n : ℕ) → week_day_number t ≡ Ok n →
     (is_week_date t ≡ true) × ((day_of t ≤ 3652059) × (day_of t ≡ n))
 unfolding week_day_number
 number_is t n e =
     let row = week_questions t in
-    let (z, same) = day_answered (first_no row) (day_of t) n e in
-    (told 13 row tt z, (leb-true _ _ (told 10 row tt z), same))
+    let (p, a) = answered_ok row (Ok (day_of t)) n e in
+    let same : day_of t ≡ n = cc in
+    (told 13 row p, (leb-true _ _ (told 10 row p), same))
 
-pub number_range : (t : Ywd) (n : ℕ) → week_day_number t ≡ day.Answered n → n ≤ 3652059
+pub number_range : (t : Ywd) (n : ℕ) → week_day_number t ≡ Ok n → n ≤ 3652059
 number_range t n e = let (p, (q, r)) = number_is t n e in omega arith
 
 -- every day has a week date
-pub week_at_law : (n : ℤ) → is_day n ≡ true → week_date_at n ≡ week.Answered (week_date_of (pos_part n))
+pub week_at_law : (n : ℤ) → is_day n ≡ true → week_date_at n ≡ Ok (week_date_of (pos_part n))
 unfolding week_date_at
 week_at_law n d = simp d
 
-week_is : (n : ℤ) (t : WeekDate) → week_date_at n ≡ week.Answered t → (is_day n ≡ true) × (week_date_of (pos_part n) ≡ t)
+week_is : (n : ℤ) (t : WeekDate) → week_date_at n ≡ Ok t → (is_day n ≡ true) × (week_date_of (pos_part n) ≡ t)
 unfolding week_date_at
-week_is n t e = go (is_day n) (week_date_of (pos_part n)) e
-  where
-    go : (b : Bool) (s : WeekDate) → unless (cond b 0 8) week.Refused (week.Answered s) ≡ week.Answered t → (b ≡ true) × (s ≡ t)
-    go true s e = (refl, cc)
-    go false s e = let z : ◌≡◌ {A = ℕ} 0 1 = cc in absurd (let w : ⊥ = omega arith in w)
+week_is n t e =
+    let row = day_questions n in
+    let (p, a) = answered_ok row (Ok (week_date_of (pos_part n))) t e in
+    let same : week_date_of (pos_part n) ≡ t = cc in
+    (told 8 row p, same)
 
 pub record InRange (t : WeekDate) : Type 0 where
   pub year : t.year ≤ 9999
@@ -146,29 +145,29 @@ in_range_law n h l =
     let k = in_weeks n h in
     record { year = week_year_most n h l; week = omega (arith, k.last, weeks_range (week_year n) k.year); weekday = k.within }
 
-pub week_range : (n : ℤ) (t : WeekDate) → week_date_at n ≡ week.Answered t → InRange t
+pub week_range : (n : ℤ) (t : WeekDate) → week_date_at n ≡ Ok t → InRange t
 week_range n t e =
     let (d, s) = week_is n t e in
     let (h, l) = day_range n d in
     subst (λ (x : WeekDate). InRange x) s (in_range_law (pos_part n) h l)
 
-pub number_of_law : (n : ℕ) → 1 ≤ n → n ≤ 3652059 → week_day_number (raw (week_date_of n)) ≡ day.Answered n
+pub number_of_law : (n : ℕ) → 1 ≤ n → n ≤ 3652059 → week_day_number (raw (week_date_of n)) ≡ Ok n
 unfolding week_day_number week_date_of
 number_of_law n h l =
     let p = is_week_date_law (week_date_of n) (in_weeks n h) (week_year_most n h l) in
     simp (p, day_back n h, le-leb n 3652059 l)
 
 -- a week date's day is in that week: where a week date has a day, this has a week date, and it is that week date
-pub week_and_back : (t : Ywd) (n : ℕ) → week_day_number t ≡ day.Answered n →
-    week_date_at (pos n) ≡ week.Answered (week_date (pos_part t.year) (pos_part t.week) (pos_part t.weekday))
+pub week_and_back : (t : Ywd) (n : ℕ) → week_day_number t ≡ Ok n →
+    week_date_at (pos n) ≡ Ok (week_date (pos_part t.year) (pos_part t.week) (pos_part t.weekday))
 week_and_back t n e =
     let (p, (q, r)) = number_is t n e in
     let (k, h) = is_in_weeks t p in
     let one = n_first _ _ _ k in
-    week_at_law (pos n) (day_in n (omega arith) (omega arith)) ∙ ap week.Answered (ap week_date_of (sym r) ∙ week_back _ _ _ k)
+    week_at_law (pos n) (day_in n (omega arith) (omega arith)) ∙ ap Ok (ap week_date_of (sym r) ∙ week_back _ _ _ k)
 
 -- the Monday of every week of the years 1 to 9999 is a day of the calendar
-pub monday_answered : (y w : ℕ) → InWeeks y w 1 → y ≤ 9999 → week_day_number (raw (week_date y w 1)) ≡ day.Answered
+pub monday_answered : (y w : ℕ) → InWeeks y w 1 → y ≤ 9999 → week_day_number (raw (week_date y w 1)) ≡ Ok
     (week_day y w 1)
 unfolding week_day_number
 monday_answered y w k h =

@@ -8,7 +8,8 @@ ghost use Rattle.calendar.specs.Questions.{last_day};
 ghost use Rattle.weeks.specs.Weeks.{monday, week_date_of, weeks_of, week_day, InWeeks, mondays_to, first_monday};
 ghost use Rattle.weeks.specs.Questions.{in_ranges, week_day_number, week_date_at};
 
-use calendar::{DayAnswer, LAST_COUNT};
+use asking::{Refusal, ask};
+use calendar::LAST_DAY;
 
 #[derive(Clone, Copy)]
 pub struct WeekDate {
@@ -30,12 +31,6 @@ pub struct Ywd {
 struct YearDay {
     year: u64,
     day: u64,
-}
-
-#[derive(Clone, Copy)]
-pub enum WeekAnswer {
-    Refused(u8),
-    Answered(WeekDate),
 }
 
 // The third of January of the year y: a seventh of it is how many Thursdays there were before the year.
@@ -60,10 +55,7 @@ fn has_week(y: u64, w: u64) -> bool
     requires { (1 ≤ y) × (y ≤ 9999) }
     ensures { result ≡ leb w (weeks_of y) }
 {
-    if w <= 52 {
-        return true;
-    }
-    w <= weeks_of(y)
+    w <= 52 || w <= weeks_of(y)
 }
 
 // As in calendar::date_of, but for years that begin in January. t: four times the days before n, and 3. c: the centuries.
@@ -103,34 +95,28 @@ fn week_day(y: u64, w: u64, d: u64) -> u64
     7 * (third(y) / 7 + w - 1) + d
 }
 
-// Question 13 of three numbers, but for the weeks that the year has.
+// A week date, but for the weeks that the year has.
 fn in_ranges(t: Ywd) -> bool
     ensures { result ≡ in_ranges t }
 {
     (1 <= t.year) & (t.year <= 9999) & (1 <= t.week) & ((1 <= t.weekday) & (t.weekday <= 7))
 }
 
-fn number_in_ranges(y: u64, w: u64, d: u64) -> DayAnswer
+fn number_in_ranges(y: u64, w: u64, d: u64) -> Result<u64, Refusal>
     requires { in_ranges (record { year = pos y; week = pos w; weekday = pos d }) ≡ true }
     ensures { result ≡ week_day_number (record { year = pos y; week = pos w; weekday = pos d }) }
 {
-    if !has_week(y, w) {
-        return DayAnswer::Refused(13);
-    }
+    ask(Refusal::WeekDate, has_week(y, w))?;
     let n = week_day(y, w, d);
-    if LAST_COUNT < n {
-        return DayAnswer::Refused(10);
-    }
-    DayAnswer::Answered(n)
+    ask(Refusal::Range, n <= LAST_DAY as u64)?;
+    Ok(n)
 }
 
 // The day number of any year, week and weekday.
-pub fn week_day_number(t: Ywd) -> DayAnswer
+pub fn week_day_number(t: Ywd) -> Result<u64, Refusal>
     ensures { result ≡ week_day_number t }
 {
-    if !in_ranges(t) {
-        return DayAnswer::Refused(13);
-    }
+    ask(Refusal::WeekDate, in_ranges(t))?;
     number_in_ranges(
         calendar::as_count(t.year),
         calendar::as_count(t.week),
@@ -139,13 +125,11 @@ pub fn week_day_number(t: Ywd) -> DayAnswer
 }
 
 // The week date of any number.
-pub fn week_date_at(n: i64) -> WeekAnswer
+pub fn week_date_at(n: i64) -> Result<WeekDate, Refusal>
     ensures { result ≡ week_date_at n }
 {
-    if !calendar::is_day(n) {
-        return WeekAnswer::Refused(8);
-    }
-    WeekAnswer::Answered(week_date(calendar::as_count(n)))
+    ask(Refusal::Value, calendar::is_day(n))?;
+    Ok(week_date(calendar::as_count(n)))
 }
 
 // How many Mondays there are up to the day n.

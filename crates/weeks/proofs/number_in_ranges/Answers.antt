@@ -1,16 +1,14 @@
 -- `weeks::number_in_ranges` meets its contract. Assumes nothing.
-use native.Mathlib.Omega.{arith}
+use borrow.Author.Rules.{rules}
 use mathlib.Core.Path.{◌≡◌, sym, ◌∙◌}
-use mathlib.Core.Bool.{true, false}
+use mathlib.Core.Bool.{true}
 use lib.IntN.{pos}
-use borrow.Author.Tests.{lt-leb, le-leb}
 use Rattle.weeks.specs.declared.Ywd.{Ywd}
 use Rattle.weeks.specs.Weeks.{week_day}
 use Rattle.weeks.specs.Questions.{is_week_date, not_behind, week_day_number}
 use Rattle.weeks.proofs.Questions.{ranges, is_in_weeks}
 use Rattle.weeks.proofs.number_in_ranges.Goals as goal
-use Rattle.weeks.proofs.number_in_ranges.Goals.{After-has_week, Else-n-gt-LAST_COUNT, Else-not-has_week, Start}
-use Rattle.weeks.proofs.number_in_ranges.Goals.{Then-n-gt-LAST_COUNT}
+use Rattle.weeks.proofs.number_in_ranges.Goals.{After-has_week, In_ok-ask, In_ok-ask-2, Start}
 
 abbrev given : Start → Ywd
 given c = record { year = pos c.args.y; week = pos c.args.w; weekday = pos c.args.d }
@@ -21,28 +19,27 @@ has_week-requires c = let k = ranges (given c) c.requires in (k.year_first, k.ye
 asked : (c : After-has_week) → is_week_date (given c.before) ≡ c.has_week.result
 asked c = (ranges (given c.before) c.requires).asks ∙ sym c.has_week.ensures
 
-pub returns-then-not-has_week : goal.returns-then-not-has_week
+pub returns-in_err-ask : goal.returns-in_err-ask
 unfolding week_day_number
-returns-then-not-has_week c = simp (asked c.before ∙ c.if-not-has_week.true)
+returns-in_err-ask c = let same = asked (goal.at.returns-in_err-ask c).After-has_week in search rules
 
-passed : (c : Else-not-has_week) → is_week_date (given c.before.before) ≡ true
-passed c = asked c.before ∙ c.if-not-has_week.false
+answered : (c : In_ok-ask) → c.has_week.result ≡ true
+answered c = search rules
 
 pub week_day-n-requires : goal.week_day-n-requires
-week_day-n-requires c = is_in_weeks (given c.before.before) (passed c)
+week_day-n-requires c = let p = goal.at.week_day-n-requires c in
+    is_in_weeks (given p.Start) (asked p.After-has_week ∙ answered p.In_ok-ask)
 
-behind : (c : Then-n-gt-LAST_COUNT) → let x = c.args in not_behind (week_day x.y x.w x.d) ≡ false
-behind c = let x = c.args in
-    lt-leb (week_day x.y x.w x.d) 3652059 (omega (arith, c.week_day-n.ensures))
-
-pub returns-then-n-gt-LAST_COUNT : goal.returns-then-n-gt-LAST_COUNT
+pub returns-in_err-ask-2 : goal.returns-in_err-ask-2
 unfolding week_day_number
-returns-then-n-gt-LAST_COUNT c = simp (passed c.before.before, behind c)
+returns-in_err-ask-2 c = let p = goal.at.returns-in_err-ask-2 c in
+    let is = asked p.After-has_week ∙ answered p.In_ok-ask in
+    search rules
 
-inside : (c : Else-n-gt-LAST_COUNT) → let x = c.args in not_behind (week_day x.y x.w x.d) ≡ true
-inside c = let x = c.args in
-    le-leb (week_day x.y x.w x.d) 3652059 (omega (arith, c.week_day-n.ensures))
+inside : (c : In_ok-ask-2) → let x = c.args in not_behind (week_day x.y x.w x.d) ≡ true
+inside c = search rules
 
 pub returns : goal.returns
 unfolding week_day_number
-returns c = simp (passed c.before.before, inside c, c.week_day-n.ensures)
+returns c = let p = goal.at.returns c in
+    simp (asked p.After-has_week ∙ answered p.In_ok-ask, inside p.In_ok-ask-2, c.week_day-n.ensures)

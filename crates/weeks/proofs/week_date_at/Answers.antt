@@ -1,22 +1,20 @@
 -- `weeks::week_date_at` meets its contract. Assumes nothing.
-use mathlib.Core.Path.{◌≡◌, sym, ◌∙◌}
+use borrow.Author.Rules.{rules}
+use mathlib.Core.Path.{◌≡◌}
 use mathlib.Core.Bool.{true}
 use mir.Facts.{to_z-of_z}
 use Rattle.laws.specs.Numbers.{pos_part}
 use Rattle.calendar.specs.Questions.{is_day}
 use Rattle.weeks.specs.Questions.{week_date_at}
 use Rattle.weeks.proofs.week_date_at.Goals as goal
-use Rattle.weeks.proofs.week_date_at.Goals.{After-as_count, After-is_day, Else-not-is_day}
+use Rattle.weeks.proofs.week_date_at.Goals.{After-as_count, In_ok-ask}
 
-asked : (c : After-is_day) → c.is_day.result ≡ is_day c.args.n
-asked c = rw (to_z-of_z c.ranges.n) at c.is_day.ensures
-
-pub returns-then-not-is_day : goal.returns-then-not-is_day
+pub returns-in_err-ask : goal.returns-in_err-ask
 unfolding week_date_at
-returns-then-not-is_day c = simp (sym (asked c.before) ∙ c.if-not-is_day.true)
+returns-in_err-ask c = search rules
 
-fine : (c : Else-not-is_day) → is_day c.args.n ≡ true
-fine c = sym (asked c.before) ∙ c.if-not-is_day.false
+fine : (c : In_ok-ask) → is_day c.args.n ≡ true
+fine c = search rules
 
 counted : (c : After-as_count) → c.as_count.result ≡ pos_part c.args.n
 counted c = rw (to_z-of_z c.ranges.n) at c.as_count.ensures

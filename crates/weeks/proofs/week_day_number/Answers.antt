@@ -1,35 +1,35 @@
 -- `weeks::week_day_number` meets its contract: three numbers in their ranges are their counts. Assumes nothing.
 use borrow.Author.Rules.{rules}
-use mathlib.Core.Path.{◌≡◌, sym, ◌∙◌, ap}
+use mathlib.Core.Path.{◌≡◌, ◌∙◌, ap}
 use mathlib.Core.Bool.{true}
 use lib.IntN.{pos}
 use Rattle.weeks.specs.Questions.{in_ranges, week_day_number}
 use Rattle.calendar.proofs.Questions.{counts_from_0, same_count}
 use Rattle.weeks.proofs.Questions.{out_of_ranges, Ranges, ranges}
 use Rattle.weeks.proofs.week_day_number.Goals as goal
-use Rattle.weeks.proofs.week_day_number.Goals.{After-as_count-3, Else-not-in_ranges}
+use Rattle.weeks.proofs.week_day_number.Goals.{After-as_count-3, In_ok-ask}
 
-pub returns-then-not-in_ranges : goal.returns-then-not-in_ranges
+pub returns-in_err-ask : goal.returns-in_err-ask
 unfolding week_day_number
-returns-then-not-in_ranges c = simp (out_of_ranges c.args.t (sym c.in_ranges.ensures ∙ c.if-not-in_ranges.true))
+returns-in_err-ask c = let out = out_of_ranges c.args.t in search rules
 
-passed : (c : Else-not-in_ranges) → in_ranges c.args.t ≡ true
-passed c = sym c.in_ranges.ensures ∙ c.if-not-in_ranges.false
+passed : (c : In_ok-ask) → in_ranges c.args.t ≡ true
+passed c = search rules
 
-fine : (c : Else-not-in_ranges) → Ranges c.args.t
+fine : (c : In_ok-ask) → Ranges c.args.t
 fine c = ranges c.args.t (passed c)
 
 pub as_count-requires : goal.as_count-requires
 as_count-requires c =
-    counts_from_0 c.args.t.year (search rules) (fine (goal.at.as_count-requires c).Else-not-in_ranges).year_count
+    counts_from_0 c.args.t.year (search rules) (fine (goal.at.as_count-requires c).In_ok-ask).year_count
 
 pub as_count-requires-2 : goal.as_count-requires-2
 as_count-requires-2 c =
-    counts_from_0 c.args.t.week (search rules) (fine (goal.at.as_count-requires-2 c).Else-not-in_ranges).week_count
+    counts_from_0 c.args.t.week (search rules) (fine (goal.at.as_count-requires-2 c).In_ok-ask).week_count
 
 pub as_count-requires-3 : goal.as_count-requires-3
 as_count-requires-3 c =
-    counts_from_0 c.args.t.weekday (search rules) (fine (goal.at.as_count-requires-3 c).Else-not-in_ranges).weekday_count
+    counts_from_0 c.args.t.weekday (search rules) (fine (goal.at.as_count-requires-3 c).In_ok-ask).weekday_count
 
 counted : (c : After-as_count-3) → record {
   year = pos c.as_count.result;
