@@ -3,6 +3,7 @@
 use mathlib.Core.Path.{◌≡◌, refl, sym, ◌∙◌}
 use mathlib.Core.Logic.{inl, inr}
 use mathlib.Core.Bool.{Bool, true, false, not, cond}
+use mathlib.Core.List.{[], ◌∷◌}
 use Prim.Native.Nat.{◌≤◌, ◌<◌}
 use native.Mathlib.Omega.{arith}
 use lib.IntN.{ℤ, pos, ◌-ℤ◌}
@@ -10,9 +11,10 @@ use lib.Signed.{le_z}
 use mir.Syntax.{w64}
 use mir.Val.{SFits}
 use borrow.Author.Tests.{not-true}
-use Rattle.laws.specs.Asking.{ask, first_no}
+use Rattle.asking.specs.Asking.{ask, passes}
+use Rattle.asking.specs.declared.Refusal.TheVariants as refusal
 use Rattle.laws.specs.Numbers.{within, pos_part, neg_part}
-use Rattle.laws.proofs.Asked.{told, fewer, more}
+use Rattle.asking.proofs.Asked.{told, fewer, passes_append}
 use Rattle.laws.proofs.Signed.{sub, is_ge, lt_false, le_true, le_false}
 use Rattle.laws.proofs.Tests.{both_true, either_false, and_true, and_false}
 use Rattle.values.specs.Values.{over_dates, earlier}
@@ -138,24 +140,25 @@ module _ (a : Axis) (e : ends a ≡ true) where
 
 -- ---- what an axis passed, the axis that it counts by passes too
 module _ (a : Axis) (has : Bool) where
-  pub plain_passed : first_no (plain_questions has a) ≡ 0 → first_no (plain_questions has (closed a)) ≡ 0
+  pub plain_passed : passes (plain_questions has a) ≡ true → passes (plain_questions has (closed a)) ≡ true
   unfolding known excludable
-  plain_passed z = by_end (λ x. first_no (plain_questions has x) ≡ 0) a (λ _. z) go
+  plain_passed z = by_end (λ x. passes (plain_questions has x) ≡ true) a (λ _. z) go
     where
-      go : excluded a ≡ true → first_no (plain_questions has (day_earlier a)) ≡ 0
+      go : excluded a ≡ true → passes (plain_questions has (day_earlier a)) ≡ true
       go x =
           let row = plain_questions has a in
-          let e = told 3 row tt z in
-          let b = before a e (told 4 row tt z) (told 14 row tt z) x in
-          rw (told 1 row tt z, told 2 row tt z, ends_earlier a e b, in_order_earlier a e b)
+          let e = told 3 row z in
+          let b = before a e (told 4 row z) (told 14 row z) x in
+          rw (told 1 row z, told 2 row z, ends_earlier a e b, in_order_earlier a e b)
 
-  pub axis_passed : first_no (axis_questions has a) ≡ 0 → first_no (axis_questions has (closed a)) ≡ 0
+  pub axis_passed : passes (axis_questions has a) ≡ true → passes (axis_questions has (closed a)) ≡ true
   axis_passed z =
-      let (p, n) = fewer (plain_questions has a) (ask 5 (near_or_long a)) (omega arith) z in
-      let e : ends a ≡ true = told 3 (plain_questions has a) tt p in
-      more (plain_questions has (closed a)) (ask 5 (near_or_long (closed a))) ∙ rw (plain_passed p, near e p n)
+      let (p, n) = fewer (plain_questions has a) (ask refusal.Duration (near_or_long a)) z in
+      let e : ends a ≡ true = told 3 (plain_questions has a) p in
+      passes_append (plain_questions has (closed a)) (ask refusal.Duration (near_or_long (closed a)) ∷ [])
+      ∙ rw (plain_passed p, near e p n)
     where
-      near : ends a ≡ true → first_no (plain_questions has a) ≡ 0 → near_or_long a ≡ true → near_or_long (closed a) ≡ true
+      near : ends a ≡ true → passes (plain_questions has a) ≡ true → near_or_long a ≡ true → near_or_long (closed a) ≡ true
       near e p n = by_end (λ x. near_or_long x ≡ true) a (λ _. n) (λ x. sym (other_kind (day_earlier a)
-          (dates_no_duration a.kind (before a e (told 4 (plain_questions has a) tt p)
-          (told 14 (plain_questions has a) tt p) x).dates)))
+          (dates_no_duration a.kind (before a e (told 4 (plain_questions has a) p)
+          (told 14 (plain_questions has a) p) x).dates)))

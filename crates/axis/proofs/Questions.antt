@@ -1,4 +1,5 @@
 -- What the tests of questions say in numbers that `omega` reads, and how the code asks 5. Assumes nothing.
+use Rattle.std.specs.Prelude.{is_some}
 use mathlib.Core.Path.{◌≡◌, refl, sym, ◌∙◌, ap}
 use mathlib.Core.Logic.{inl, inr}
 use mathlib.Core.Bool.{Bool, true, false, not, ◌&&◌, ◌||◌}
@@ -13,7 +14,7 @@ use Rattle.values.specs.declared.Value.{Value}
 use Rattle.values.specs.Values.{is_duration, is_value, earlier}
 use Rattle.values.specs.Differences.{nanoseconds, fits_i64, nanoseconds_of}
 use Rattle.values.proofs.Numbers.{is_le, is_gt, within_true, not_below, bounded, either_true, not_both, agree, or_true, or_false}
-use Rattle.values.proofs.Fits.{fits_range}
+use Rattle.values.proofs.Fits.{fits_is, fits_range}
 use Rattle.values.proofs.Values.{DurationValue, duration_value}
 use Rattle.values.proofs.Joining.{joint}
 use Rattle.axis.specs.declared.Axis.{Axis}
@@ -117,9 +118,9 @@ module _ (a : Axis) where
   near_ends e = rw e (sym (or_true (not (is_duration a.kind))))
 
   pub far_ends : is_duration a.kind ≡ true → near_zero (start a) && near_zero (end a) ≡ false → ends a ≡ true →
-      in_order a ≡ true → not (nanoseconds_of (span_of a)).fits ≡ near_or_long a
-  unfolding near_or_long nanoseconds_of
-  far_ends e n r o = rw (e, n) (long (span_of a) (span_from_0 a r o))
+      in_order a ≡ true → not (is_some (nanoseconds_of (span_of a))) ≡ near_or_long a
+  unfolding near_or_long
+  far_ends e n r o = rw (e, n, fits_is (span_of a)) (long (span_of a) (span_from_0 a r o))
 
   -- the kind is 7, so that its values are durations
   pub of_seven : (v : Value) → is_duration a.kind ≡ true → is_value a.kind v ≡ true → is_value (pos 7) v ≡ true

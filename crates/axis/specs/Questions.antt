@@ -1,8 +1,10 @@
 -- The questions before an answer, by document 01's numbers: a test for each, and the rows that operations on an axis
 -- begin with. An operation's own row stands in its crate. Definitions only.
-use Rattle.std.specs.Prelude.{Bool, true, not, ◌&&◌, ◌||◌, List, [], ◌∷◌, ◌++◌, ℤ, pos, ℕ}
+use Rattle.std.specs.Prelude.{Bool, not, ◌&&◌, ◌||◌, List, [], ◌∷◌, ◌++◌, ℤ, pos, ℕ, Result, Ok, Option, Some, None}
 use Rattle.std.specs.Int.Signed.{lt_z, le_z}
-use Rattle.laws.specs.Asking.{Question, ask, asked}
+use Rattle.asking.specs.Asking.{Question, ask, asked}
+use Rattle.asking.specs.declared.Refusal.{Refusal}
+use Rattle.asking.specs.declared.Refusal.TheVariants as refusal
 use Rattle.laws.specs.Numbers.{minus, within, equal, is_number}
 use Rattle.calendar.specs.Questions.{last_day, is_day}
 use Rattle.values.specs.declared.Value.{Value}
@@ -14,8 +16,6 @@ use Rattle.axis.specs.declared.BoldPoints.{BoldPoints}
 use Rattle.axis.specs.declared.LightPoints.{LightPoints}
 use Rattle.axis.specs.declared.Hint.{Hint}
 use Rattle.axis.specs.declared.Hint.TheVariants.{Bold, Light}
-use Rattle.axis.specs.declared.ValueAnswer.{ValueAnswer}
-use Rattle.axis.specs.declared.ValueAnswer.TheVariants.{Refused, None, At}
 use Rattle.axis.specs.Axes.{start, end, span_of, excluded}
 
 -- the kind's number
@@ -120,31 +120,30 @@ abbrev pub fits_i32 : ℤ → Bool
 fits_i32 n = within (minus 2147483648) n (pos 2147483647)
 
 -- 10, of a date that is answered: is it one of the days of question 3?
-abbrev pub in_calendar : ValueAnswer → Bool
-in_calendar (Refused q) = true
-in_calendar None = true
-in_calendar (At v) = is_day v.head
+abbrev pub in_calendar : Value → Bool
+in_calendar v = is_day v.head
 
--- a row of questions, and then question 10
-unfoldable pub answered : List Question → ValueAnswer → ValueAnswer
-answered row v = asked (row ++ (ask 10 (in_calendar v) ∷ [])) Refused v
+-- a value that is answered where it passes question 10
+unfoldable pub checked : Value → Result Value Refusal
+checked v = asked (ask refusal.Range (in_calendar v) ∷ []) (Ok v)
 
--- question 10 alone, where no question before it refuses
-unfoldable pub checked : ValueAnswer → ValueAnswer
-checked v = asked (ask 10 (in_calendar v) ∷ []) Refused v
+-- a value, if there is one: none passes
+unfoldable pub checked_if : Option Value → Result (Option Value) Refusal
+checked_if None = Ok None
+checked_if (Some v) = asked (ask refusal.Range (in_calendar v) ∷ []) (Ok (Some v))
 
 -- 11 is asked where a list's length is known: `has_room` in steps/specs/Listing.antt
 
 -- the row of operations that kind 7 does not have
 abbrev pub plain_questions : Bool → Axis → List Question
 plain_questions has a =
-    ask 1 (known a)
-    ∷ (ask 2 has
-    ∷ (ask 3 (ends a)
-    ∷ (ask 4 (in_order a)
-    ∷ (ask 14 (excludable a)
+    ask refusal.Kind (known a)
+    ∷ (ask refusal.Operation has
+    ∷ (ask refusal.Ends (ends a)
+    ∷ (ask refusal.Order (in_order a)
+    ∷ (ask refusal.ExcludedEnd (excludable a)
     ∷ []))))
 
 -- and of those that kind 7 has: question 5 comes last
 abbrev pub axis_questions : Bool → Axis → List Question
-axis_questions has a = plain_questions has a ++ (ask 5 (near_or_long a) ∷ [])
+axis_questions has a = plain_questions has a ++ (ask refusal.Duration (near_or_long a) ∷ [])

@@ -2,8 +2,8 @@
 // first rows of them. Also the span of an axis, a value's offset on it, and the axis by which it counts and lists.
 #![tactic(auto)]
 
-ghost use Rattle.std.specs.Prelude.{◌≡◌, true, false, cond, pos};
-ghost use Rattle.laws.specs.Asking.{then_ask, first_no};
+ghost use Rattle.std.specs.Prelude.{◌≡◌, true, false, cond, pos, Ok};
+ghost use Rattle.asking.specs.Asking.{asked};
 ghost use Rattle.values.specs.Values.{over_dates, is_duration, is_value};
 ghost use Rattle.values.specs.Differences.{nanoseconds_of, whole_days};
 ghost use Rattle.axis.specs.Axes.{axis_of, start, end, span_of, offset_of, excluded, closed};
@@ -12,8 +12,9 @@ ghost use Rattle.axis.specs.Questions.{near_zero, near_or_long};
 ghost use Rattle.axis.specs.Questions.{bold_hint, light_hint, hint_on, is_pixel, pixels, differ, unmap_pixels};
 ghost use Rattle.axis.specs.Questions.{value_on, is_index, mappable, fits_i32, plain_questions, axis_questions};
 
+use asking::{Refusal, ask};
 use calendar::LAST_DAY;
-use values::{Nanoseconds, Value};
+use values::Value;
 
 // The end belongs to the axis where end_excluded is 0.
 #[derive(Clone, Copy)]
@@ -53,14 +54,6 @@ pub enum Hint {
     Light(LightPoints),
 }
 
-// What an operation answers that gives a value.
-#[derive(Clone, Copy)]
-pub enum ValueAnswer {
-    Refused(u8),
-    None,
-    At(Value),
-}
-
 pub fn axis_of(
     kind: i64,
     start_head: i64,
@@ -97,19 +90,6 @@ pub fn end(a: Axis) -> Value
         head: a.end_head,
         tail: a.end_tail,
     }
-}
-
-// One more question, where q is the refusal so far.
-pub fn then_ask(q: u8, number: u8, yes: bool) -> u8
-    ensures { result ≡ then_ask q number yes }
-{
-    if q != 0 {
-        return q;
-    }
-    if yes {
-        return 0;
-    }
-    number
 }
 
 // Question 1.
@@ -195,7 +175,7 @@ pub fn closed(a: Axis) -> Axis
 }
 
 // From start to end, in nanoseconds.
-pub fn span(a: Axis) -> Nanoseconds
+pub fn span(a: Axis) -> Option<i64>
     requires { ends a ≡ true }
     ensures { result ≡ nanoseconds_of (span_of a) }
 {
@@ -211,7 +191,7 @@ pub fn span_days(a: Axis) -> i64
 }
 
 // From start to v, in nanoseconds.
-pub fn offset(a: Axis, v: Value) -> Nanoseconds
+pub fn offset(a: Axis, v: Value) -> Option<i64>
     requires { (ends a ≡ true) × (value_on a v ≡ true) }
     ensures { result ≡ nanoseconds_of (offset_of a v) }
 {
@@ -245,8 +225,7 @@ fn near_or_long(a: Axis) -> bool
     if near_zero(start(a)) & near_zero(end(a)) {
         return true;
     }
-    let s = span(a);
-    !s.fits
+    span(a).is_none()
 }
 
 // Question 6 of a bold hint.
@@ -359,27 +338,28 @@ fn day_ends(a: Axis) -> bool
             & ((0 <= a.end_tail) & (a.end_tail <= most)))
 }
 
-// The questions of an axis; has: the kind has the operation, and then it is not 7.
-pub fn plain_refusal(a: Axis, has: bool) -> u8
+// The questions of an axis; has: the kind has the operation, and then it is not 7. Each is tested just where it is asked, with
+// no call of `ask`: this shape was chosen by measurement.
+pub fn ask_plain(a: Axis, has: bool) -> Result<(), Refusal>
     requires { has ≡ true → is_duration a.kind ≡ false }
-    ensures { result ≡ first_no (plain_questions has a) }
+    ensures { result ≡ asked (plain_questions has a) (Ok tt) }
 {
     if !known(a) {
-        return 1;
+        return Err(Refusal::Kind);
     }
     if !has {
-        return 2;
+        return Err(Refusal::Operation);
     }
     if !day_ends(a) {
-        return 3;
+        return Err(Refusal::Ends);
     }
     if !in_order(a) {
-        return 4;
+        return Err(Refusal::Order);
     }
     if !excludable(a) {
-        return 14;
+        return Err(Refusal::ExcludedEnd);
     }
-    0
+    Ok(())
 }
 
 // A short yes for most durations: they are in order, and near zero by start's seconds, the least of all, and by end's.
@@ -395,40 +375,37 @@ fn usual_durations(a: Axis) -> bool
 }
 
 // The questions of durations, one line for each. Question 5 is asked of real values in order.
-fn ask_durations(a: Axis, has: bool) -> u8
+fn ask_durations(a: Axis, has: bool) -> Result<(), Refusal>
     requires { is_duration a.kind ≡ true }
-    ensures { result ≡ first_no (axis_questions has a) }
+    ensures { result ≡ asked (axis_questions has a) (Ok tt) }
 {
-    let q = then_ask(0, 2, has);
-    let q = then_ask(q, 3, ends(a));
-    let q = then_ask(q, 4, in_order(a));
-    let q = then_ask(q, 14, excludable(a));
-    if q != 0 {
-        return q;
-    }
-    then_ask(q, 5, near_or_long(a))
+    ask(Refusal::Operation, has)?;
+    ask(Refusal::Ends, ends(a))?;
+    ask(Refusal::Order, in_order(a))?;
+    ask(Refusal::ExcludedEnd, excludable(a))?;
+    ask(Refusal::Duration, near_or_long(a))
 }
 
 // The same, most of them by the short yes. An excluded end never passes.
-fn durations_refusal(a: Axis, has: bool) -> u8
+fn ask_usual_durations(a: Axis, has: bool) -> Result<(), Refusal>
     requires { is_duration a.kind ≡ true }
-    ensures { result ≡ first_no (axis_questions has a) }
+    ensures { result ≡ asked (axis_questions has a) (Ok tt) }
 {
     if excluded(a) {
         return ask_durations(a, has);
     }
     if has & usual_durations(a) {
-        return 0;
+        return Ok(());
     }
     ask_durations(a, has)
 }
 
 // The questions of an axis, for operations that kind 7 has. Question 5 is of durations alone.
-pub fn axis_refusal(a: Axis, has: bool) -> u8
-    ensures { result ≡ first_no (axis_questions has a) }
+pub fn ask_axis(a: Axis, has: bool) -> Result<(), Refusal>
+    ensures { result ≡ asked (axis_questions has a) (Ok tt) }
 {
     if values::is_duration(a.kind) {
-        return durations_refusal(a, has);
+        return ask_usual_durations(a, has);
     }
-    plain_refusal(a, has)
+    ask_plain(a, has)
 }

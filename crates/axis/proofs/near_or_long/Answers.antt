@@ -1,12 +1,13 @@
 -- `axis::near_or_long` meets its contract. Assumes nothing.
 use borrow.Author.Rules.{rules}
 use mathlib.Core.Path.{◌≡◌, sym, ◌∙◌, ap}
-use mathlib.Core.Bool.{true, not, ◌&&◌}
+use mathlib.Core.Bool.{Bool, true, false, not, ◌&&◌}
+use lib.IntN.{ℤ}
 use mir.Syntax.{w64}
 use mir.Val.{SFits}
 use mir.Facts.{to_z-of_z}
 use Rattle.values.specs.Values.{is_duration}
-use Rattle.values.specs.declared.Nanoseconds.{Nanoseconds}
+use Rattle.std.specs.Prelude.{Option, is_some}
 use Rattle.axis.specs.Axes.{start, end}
 use Rattle.axis.specs.Questions.{near_zero}
 use Rattle.axis.proofs.Axes.{both_ends}
@@ -52,7 +53,11 @@ pub returns-then-near_zero : goal.returns-then-near_zero
 returns-then-near_zero c = near_ends c.args.a (sym (near (goal.at.returns-then-near_zero c).After-near_zero-2)
     ∙ c.if-near_zero.true)
 
+turned : (n s : Bool) → s ≡ not n → n ≡ not s
+turned true s e = rw e
+turned false s e = rw e
+
 pub returns : goal.returns
-returns c = ap (λ (n : Nanoseconds). not n.fits) c.span-s.ensures ∙ far_ends c.args.a
+returns c = turned c.is_none.result _ c.is_none.ensures ∙ ap (λ (n : Option ℤ). not (is_some n)) c.span.ensures ∙ far_ends c.args.a
     (seven (goal.at.returns c).Else-not-is_duration) (sym (near (goal.at.returns c).After-near_zero-2)
     ∙ c.if-near_zero.false) c.requires.0 c.requires.1

@@ -1,9 +1,9 @@
--- `axis::durations_refusal` meets its contract. Assumes nothing.
+-- `axis::ask_usual_durations` meets its contract. Assumes nothing.
 use mathlib.Core.Path.{sym, ◌∙◌}
 use Rattle.laws.proofs.Tests.{both_true}
 use Rattle.axis.specs.Questions.{excludable}
 use Rattle.axis.proofs.UsualAxes.{seven_known}
-use Rattle.axis.proofs.durations_refusal.Goals as goal
+use Rattle.axis.proofs.ask_usual_durations.Goals as goal
 
 pub returns-then-has-usual_durations : goal.returns-then-has-usual_durations
 unfolding excludable
