@@ -1,14 +1,22 @@
--- The exponent: what one test of a power says, and how far the span is from the next power. Assumes nothing.
+-- The exponent: the first power that goes into the span, and how far the span is from the next power. Assumes nothing.
 use mathlib.Core.Path.{◌≡◌, refl}
 use mathlib.Core.Bool.{Bool, true, false, cond}
+use mathlib.Core.List.{List, [], ◌∷◌}
 use mathlib.Core.Logic.{◌⊎◌, inl, inr}
-use Prim.Native.Nat.{ℕ, zero, suc, ◌-◌, ◌*◌, ◌/◌, ◌^◌, ◌≤◌, ◌<◌, zero-le, suc-le-suc}
+use Prim.Native.Nat.{ℕ, zero, suc, ◌*◌, ◌/◌, ◌^◌, ◌≤◌, ◌<◌, zero-le, suc-le-suc}
 use native.Mathlib.Nat.{le_refl, le_of_suc-le-suc, lt_of_lt_of_le, lt_of_not-le, not-le_of_lt, mul-le-mul_right}
 use native.Mathlib.Nat.{pow-le-pow_right, le-div_iff_mul-le, div-lt_iff_lt-mul}
 use native.Mathlib.Omega.{arith}
 use lib.Dec.{leb, lit<}
 use borrow.Author.Tests.{le-leb, lt-leb, leb-true, leb-false}
+use Rattle.std.specs.Prelude.{Some, None, unwrap_or}
+use Rattle.std.specs.List.{find}
 use Rattle.period.specs.Periods.{exponent_up_to, exponent_of}
+
+-- the powers up to 10 ^ k, the largest first
+abbrev pub powers_to : ℕ → List ℕ
+powers_to zero = 1 ∷ []
+powers_to (suc k) = 10 ^ suc k ∷ powers_to k
 
 module _ (span n : ℕ) where
   pub from_top : exponent_up_to 18 span n ≡ exponent_of span n
@@ -23,17 +31,23 @@ module _ (span n : ℕ) where
   unfolding exponent_up_to
   at_test k = refl
 
-  -- the power x goes into the span n times, and it does not
-  module _ (N : 0 < n) {x : ℕ} where
-    pub goes_in : (k : ℕ) → 0 < k → x ≡ 10 ^ k → x ≤ span / n → exponent_up_to k span n ≡ k
-    goes_in zero p e h = absurd (let z : ⊥ = omega arith in z)
-    goes_in (suc k) p e h = rw (at_test k, le-leb (10 ^ suc k * n) span ((le-div_iff_mul-le N).0 (rw e at h)))
-
-    pub stays_out : (k : ℕ) → 0 < k → x ≡ 10 ^ k → span / n < x → exponent_up_to k span n ≡ exponent_up_to (k - 1) span n
-    stays_out zero p e h = absurd (let z : ⊥ = omega arith in z)
-    stays_out (suc k) p e h =
-        let d : suc k - 1 ≡ k = omega arith in
-        rw (at_test k, lt-leb (10 ^ suc k * n) span ((div-lt_iff_lt-mul N).0 (rw e at h)), d)
+  -- the first of the powers that goes into the span n times
+  pub first_power : 0 < n → (k : ℕ) → unwrap_or (find (λ (x : ℕ). leb x (span / n)) (powers_to k)) 1 ≡ 10 ^ exponent_up_to k span n
+  first_power N zero = rw at_none (by_test (leb 1 (span / n)))
+    where
+      by_test : (b : Bool) → unwrap_or {T = ℕ} (cond b (Some 1) None) 1 ≡ 1
+      by_test true = refl
+      by_test false = refl
+  first_power N (suc k) = rw (at_test k) (by_test (leb (10 ^ suc k) (span / n)) refl (first_power N k))
+    where
+      by_test : (b : Bool) → leb (10 ^ suc k) (span / n) ≡ b →
+          unwrap_or (find (λ (x : ℕ). leb x (span / n)) (powers_to k)) 1 ≡ 10 ^ exponent_up_to k span n →
+          unwrap_or (cond b (Some (10 ^ suc k)) (find (λ (x : ℕ). leb x (span / n)) (powers_to k))) 1
+          ≡ 10 ^ cond (leb (10 ^ suc k * n) span) (suc k) (exponent_up_to k span n)
+      by_test true t e =
+          rw (le-leb (10 ^ suc k * n) span ((le-div_iff_mul-le N).0 (leb-true (10 ^ suc k) (span / n) t))) refl
+      by_test false t e =
+          rw (lt-leb (10 ^ suc k * n) span ((div-lt_iff_lt-mul N).0 (leb-false (10 ^ suc k) (span / n) t))) e
 
 -- ---- the exponent is the largest one, or the next power is too large
 abbrev Largest : ℕ → ℕ → ℕ → ℕ → Type 0

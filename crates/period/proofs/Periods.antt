@@ -1,14 +1,16 @@
--- What a period promises: it is above 0 unless days are listed, a half-open span has at most n + 1 ticks, and it fits.
+-- What a period promises: there is one unless days are listed, it is above 0, a half-open span has at most n + 1 ticks, and it
+-- fits.
 -- Assumes nothing.
 use mathlib.Core.Path.{◌≡◌, refl}
 use mathlib.Core.Bool.{Bool, true, false, cond}
 use mathlib.Core.Logic.{inl, inr}
 use Prim.Native.Nat.{ℕ, zero, suc, ◌+◌, ◌*◌, ◌/◌, ◌^◌, ◌≤◌, ◌<◌, suc-le-suc}
-use native.Mathlib.Nat.{mul-le-mul_right, pow-le-pow_right, lt_of_lt_of_le, lt_irrefl, div-lt_iff_lt-mul, zero-lt-suc}
+use native.Mathlib.Nat.{mul-le-mul_right, pow-le-pow_right, lt_of_lt_of_le, div-lt_iff_lt-mul, zero-lt-suc}
 use native.Mathlib.Decide.{dec_le}
 use native.Mathlib.Omega.{arith}
 use lib.Dec.{leb, leb→le, lit<}
 use borrow.Author.Tests.{leb-true, le-leb, lt-leb}
+use Rattle.std.specs.Prelude.{Option, Some, None, is_some}
 use Rattle.laws.specs.Units.{per_day}
 use Rattle.laws.proofs.Tests.{both_true, and_false}
 use Rattle.period.specs.Ladders.{Ladder, unit_at, count_at, rung_of, Climbable, first_wide}
@@ -28,15 +30,15 @@ module _ (p : ℕ) (s : Bool) where
   days_listed h e = rw (le-leb per_day p h, e) refl
 
 -- ---- what the code finds is the period and the count of tests
-abbrev pub Answers : ℕ → ℕ → Bool → ℕ → ℕ → Type 0
+abbrev pub Answers : ℕ → ℕ → Bool → Option ℕ → ℕ → Type 0
 Answers span n s x y = (x ≡ period_of span n s) × (y ≡ tested_of span n s)
 
 module _ (span n : ℕ) (s : Bool) (p : ℕ) (is : p ≡ power_of span n) where
-  pub answers_none : no_period p s ≡ true → Answers span n s 0 0
+  pub answers_none : no_period p s ≡ true → Answers span n s None 0
   unfolding period_of tested_of
   answers_none e = let t = rw is at e in (rw t refl, rw t refl)
 
-  pub answers : no_period p s ≡ false → (l : Ladder) → ladder_of p ≡ l → Answers span n s (first_wide span n l)
+  pub answers : no_period p s ≡ false → (l : Ladder) → ladder_of p ≡ l → Answers span n s (Some (first_wide span n l))
       (rung_of span n l + 1)
   unfolding period_of tested_of
   answers e l q = let t = rw is at e in let k = rw is at q in (rw (t, k) refl, rw (t, k) refl)
@@ -54,32 +56,36 @@ in_steps {span} {n} {l} c =
     go (suc k) (suc u) p h = lt_of_lt_of_le ((div-lt_iff_lt-mul (zero-lt-suc u)).0 (suc-le-suc h)) (omega arith)
 
 -- ---- the laws
+-- what is found is above 0 and fits 63 bits, and the span has less than n + 1 of it
+pub record Spaced (span n k : ℕ) : Type 0 where
+  pub above : 0 < k
+  pub fits : k < 2 ^ 63
+  pub room : span < suc n * k
+
 module _ (span n : ℕ) (s : Bool) where
-  none_or : (P : ℕ → Type 0) → (no_period (power_of span n) s ≡ true → P 0) → P (first_wide span n (ladder_of (power_of span n)))
-      →
-      P (period_of span n s)
+  none_or : (P : Option ℕ → Type 0) → (no_period (power_of span n) s ≡ true → P None) →
+      P (Some (first_wide span n (ladder_of (power_of span n)))) → P (period_of span n s)
   unfolding period_of
   none_or P none some = go (no_period (power_of span n) s) refl
     where
-      go : (b : Bool) → no_period (power_of span n) s ≡ b → P (cond b 0 (first_wide span n (ladder_of (power_of span n))))
+      go : (b : Bool) → no_period (power_of span n) s ≡ b →
+          P (cond b None (Some (first_wide span n (ladder_of (power_of span n)))))
       go true e = none e
       go false e = some
+
+  -- none only where a step of a day or more is wanted and none is allowed
+  pub some_period : no_period (power_of span n) s ≡ false → is_some (period_of span n s) ≡ true
+  some_period e = none_or (λ (x : Option ℕ). is_some x ≡ true) (λ t. absurd (let z : ⊥ = cc in z)) refl
 
   module _ (fits : span < 2 ^ 63) (N : 0 < n) (hint : n ≤ 4096) where
     found : Climbable span n (ladder_of (power_of span n))
     found = chosen_ends span n hint (power_of span n) refl N fits
 
-    -- none only where a step of a day or more is wanted and none is allowed
-    pub period_above : no_period (power_of span n) s ≡ false → 0 < period_of span n s
-    period_above e = none_or (λ (x : ℕ). 0 < x) (λ t. absurd (let z : ◌≡◌ {A = ℕ} 0 1 = cc in let w : ⊥ = omega arith in w))
-        found.above
-
-    pub period_fits : period_of span n s < 2 ^ 63
-    period_fits = none_or (λ (x : ℕ). x < 2 ^ 63) (λ t. lit< tt) found.fits
-
-    pub period_room : 0 < period_of span n s → span < (n + 1) * period_of span n s
-    period_room h = none_or (λ (x : ℕ). 0 < x → span < (n + 1) * x) (λ t z. absurd (lt_irrefl 0 z))
-        (λ z. omega (arith, in_steps found)) h
+    pub spaced : (k : ℕ) → period_of span n s ≡ Some k → Spaced span n k
+    spaced = none_or (λ (x : Option ℕ). (k : ℕ) → x ≡ Some k → Spaced span n k)
+        (λ _ k e. absurd (let z : ⊥ = cc in z))
+        (λ k e. let z : first_wide span n (ladder_of (power_of span n)) ≡ k = cc in
+        record { above = rw z at found.above; fits = rw z at found.fits; room = rw z at (in_steps found) })
 
 -- where only steps below a day are asked for, there is none just from 10^14 ns, the first power of ten above a day, for each n on
 module _ (span n : ℕ) (fits : span < 2 ^ 63) (N : 0 < n) (hint : n ≤ 4096) where
@@ -89,7 +95,7 @@ module _ (span n : ℕ) (fits : span < 2 ^ 63) (N : 0 < n) (hint : n ≤ 4096) w
   below : e ≤ 13 → 10 ^ e < per_day
   below h = let z : 10 ^ e ≤ 10 ^ 13 = pow-le-pow_right (lit< tt) h in omega arith
 
-  pub from_none : period_of span n true ≤ 0 → 10 ^ 14 * n ≤ span
+  pub from_none : period_of span n true ≡ None → 10 ^ 14 * n ≤ span
   from_none h =
       let q = leb-true per_day (10 ^ e) (both_true (leb per_day (10 ^ e)) true (none (no_period (10 ^ e) true) refl)).0 in
       elim (dec_le 14 e) [
@@ -104,7 +110,7 @@ module _ (span n : ℕ) (fits : span < 2 ^ 63) (N : 0 < n) (hint : n ≤ 4096) w
     where
       none : (b : Bool) → no_period (power_of span n) true ≡ b → no_period (power_of span n) true ≡ true
       none true e = e
-      none false e = absurd (let z : ⊥ = omega (arith, period_above span n true fits N hint e) in z)
+      none false e = absurd (let t = rw h at (some_period span n true e) in let z : ⊥ = cc in z)
 
   -- the next power would be no larger
   far : 10 ^ 14 * n ≤ span → 14 ≤ e
@@ -118,7 +124,7 @@ module _ (span n : ℕ) (fits : span < 2 ^ 63) (N : 0 < n) (hint : n ≤ 4096) w
             absurd (elim next [ inl z ↦ (let w : ⊥ = omega arith in w) | inr g ↦ (let w : ⊥ = omega arith in w) ])
       ]
 
-  pub none_from : 10 ^ 14 * n ≤ span → 0 ≡ period_of span n true
+  pub none_from : 10 ^ 14 * n ≤ span → None ≡ period_of span n true
   none_from h =
       let day : 10 ^ 14 ≤ 10 ^ e = pow-le-pow_right (lit< tt) (far h) in
       (answers_none span n true (10 ^ e) refl (days_listed (10 ^ e) true (omega arith) refl)).0

@@ -1,6 +1,6 @@
 -- The period of the ticks over a span of nanoseconds with the hint n: a power of ten chooses a ladder of steps, and its
 -- first step that is wide enough is the period. Definitions only.
-use Rattle.std.specs.Prelude.{ℕ, zero, suc, ◌+◌, ◌*◌, ◌^◌, Bool, cond, ◌&&◌, [], ◌∷◌, leb, ltb}
+use Rattle.std.specs.Prelude.{ℕ, zero, suc, ◌+◌, ◌*◌, ◌^◌, Bool, cond, ◌&&◌, [], ◌∷◌, leb, ltb, Option, Some, None}
 use Rattle.laws.specs.Units.{per_second, per_hour, per_day}
 use Rattle.period.specs.Ladders.{Ladder, ladder, rung_of, first_wide, decimal_ladder}
 
@@ -47,10 +47,11 @@ ladder_of p =
 abbrev pub no_period : ℕ → Bool → Bool
 no_period p subDaily = leb per_day p && subDaily
 
--- the period in nanoseconds, or 0 for none
-unfoldable pub period_of : ℕ → ℕ → Bool → ℕ
+-- the period in nanoseconds, or none
+unfoldable pub period_of : ℕ → ℕ → Bool → Option ℕ
 unfolding exponent_of ladder_of rung_of
-period_of span n subDaily = cond (no_period (power_of span n) subDaily) 0 (first_wide span n (ladder_of (power_of span n)))
+period_of span n subDaily =
+    cond (no_period (power_of span n) subDaily) None (Some (first_wide span n (ladder_of (power_of span n))))
 
 -- how many steps of the ladder are tested for it, the chosen one included
 unfoldable pub tested_of : ℕ → ℕ → Bool → ℕ

@@ -2,9 +2,9 @@
 // All on whole numbers: the power of ten comes from a table, and each search goes step by step up a ladder.
 #![tactic(auto)]
 
-ghost use Rattle.std.specs.Prelude.{◌≡◌, ◌+◌, ◌≤◌, ◌<◌, ◌^◌};
+ghost use Rattle.std.specs.Prelude.{◌≡◌, ◌+◌, ◌≤◌, ◌<◌, ◌^◌, option_map, unwrap_or};
 ghost use Rattle.period.specs.Ladders.{ladder, rung_of, first_wide, Climbable, first_fit};
-ghost use Rattle.period.specs.Periods.{power_of, period_of, tested_of};
+ghost use Rattle.period.specs.Periods.{power_of, ladder_of, period_of, tested_of};
 
 const POWERS: [u64; 19] = [
     1,
@@ -44,7 +44,7 @@ const HOURS: [u64; 5] = [1, 2, 4, 8, 12];
 
 const DAYS: [u64; 4] = [1, 2, 5, 7];
 
-// The nanoseconds from tick to tick, and how many steps of the ladder were tested for them; 0 and 0 for none.
+// The nanoseconds from tick to tick, and how many steps of the ladder were tested for them.
 #[derive(Clone, Copy)]
 pub struct Period {
     pub nanoseconds: u64,
@@ -56,86 +56,112 @@ fn largest_power(span: u64, n: u64) -> u64
     requires { 0 < n }
     ensures { result ≡ power_of span n }
 {
-    let powers = POWERS;
     let most = span / n;
-    let mut k: usize = 18;
-    while k > 0 {
-        if powers[k] <= most {
-            return powers[k];
+    POWERS
+        .iter()
+        .rev()
+        .find(|power| **power <= most)
+        .copied()
+        .unwrap_or(1)
+}
+
+// Steps of so many units each, then of as many units that are `base` times as long, and so on.
+#[derive(Clone, Copy)]
+struct Rungs {
+    unit: u64,
+    base: u64,
+    counts: &'static [u64],
+}
+
+// The ladder for a power of ten.
+#[tactic(auto, unfolding(crate::specs::Periods::ladder_of))]
+fn ladder_of(p: u64) -> Rungs
+    ensures { ladder result.unit result.base result.counts.now ≡ ladder_of p }
+{
+    if p < SECOND {
+        Rungs {
+            unit: p,
+            base: 10,
+            counts: &DECIMAL,
         }
-        k -= 1;
+    } else if p < HOUR {
+        Rungs {
+            unit: SECOND,
+            base: 60,
+            counts: &SECONDS,
+        }
+    } else if p < DAY {
+        Rungs {
+            unit: HOUR,
+            base: 24,
+            counts: &HOURS,
+        }
+    } else if p < TEN_DAYS {
+        Rungs {
+            unit: DAY,
+            base: 10,
+            counts: &DAYS,
+        }
+    } else {
+        Rungs {
+            unit: TEN_DAYS,
+            base: 10,
+            counts: &DECIMAL,
+        }
     }
-    1
 }
 
 // The first step of a ladder that is wide enough. `whole` is how many whole units the span has.
-fn climb(span: u64, n: u64, start: u64, base: u64, counts: &[u64]) -> Period
-    requires { Climbable span n (ladder start base counts.now) }
-    ensures { (result.nanoseconds ≡ first_wide span n (ladder start base counts.now))
-        × (result.tested ≡ rung_of span n (ladder start base counts.now) + 1) }
+fn climb(span: u64, n: u64, l: Rungs) -> Period
+    requires { Climbable span n (ladder l.unit l.base l.counts.now) }
+    ensures { (result.nanoseconds ≡ first_wide span n (ladder l.unit l.base l.counts.now))
+        × (result.tested ≡ rung_of span n (ladder l.unit l.base l.counts.now) + 1) }
 {
-    let mut unit = start;
-    let mut whole = span / unit;
-    let mut idx: usize = 0;
-    let mut place: u64 = 0;
-    while whole > n * counts[idx] {
-        place += 1;
-        idx += 1;
-        if idx == counts.len() {
-            idx = 0;
-            unit *= base;
-            whole = span / unit;
+    let mut unit = l.unit;
+    let mut tested: u64 = 0;
+    loop {
+        let whole = span / unit;
+        for count in l.counts {
+            tested += 1;
+            if whole <= n * *count {
+                return Period {
+                    nanoseconds: *count * unit,
+                    tested,
+                };
+            }
         }
-    }
-    Period {
-        nanoseconds: counts[idx] * unit,
-        tested: place + 1,
+        unit *= l.base;
     }
 }
 
 // The period for at most n + 1 ticks; none where days are to be listed.
-pub fn compute_period_per_point(span: u64, n: u64, sub_daily: bool) -> Period
+pub fn compute_period_per_point(span: u64, n: u64, sub_daily: bool) -> Option<Period>
     requires { (span < 2 ^ 63) × (0 < n) × (n ≤ 4096) }
-    ensures { (result.nanoseconds ≡ period_of span n sub_daily) × (result.tested ≡ tested_of span n sub_daily) }
+    ensures nanoseconds { option_map (λ p. p.nanoseconds) result ≡ period_of span n sub_daily }
+    ensures tested { unwrap_or (option_map (λ p. p.tested) result) 0 ≡ tested_of span n sub_daily }
 {
     let p = largest_power(span, n);
-    if p < SECOND {
-        return climb(span, n, p, 10, &DECIMAL);
+    if sub_daily && p >= DAY {
+        return None;
     }
-    if p < HOUR {
-        return climb(span, n, SECOND, 60, &SECONDS);
-    }
-    if p < DAY {
-        return climb(span, n, HOUR, 24, &HOURS);
-    }
-    if sub_daily {
-        return Period {
-            nanoseconds: 0,
-            tested: 0,
-        };
-    }
-    if p < TEN_DAYS {
-        return climb(span, n, DAY, 10, &DAYS);
-    }
-    climb(span, n, TEN_DAYS, 10, &DECIMAL)
+    Some(climb(span, n, ladder_of(p)))
 }
 
-const FREQUENCIES: [u64; 22] = [
+const FREQUENCIES: [u64; 21] = [
     1, 2, 5, 10, 20, 50, 100, 200, 500, 1000, 2000, 5000, 10000, 20000, 50000, 100000, 200000,
-    500000, 1000000, 2000000, 5000000, 10000000,
+    500000, 1000000, 2000000, 5000000,
 ];
 
-// Every how many years, or days, a tick stands: the first that goes into the total at most n times.
+const RAREST: u64 = 10000000;
+
+// Every how many years, or days, a tick stands: the first that goes into the total at most n times, or the last.
 pub fn first_fit(total: u64, n: u64) -> u64
     ensures { result ≡ first_fit total n }
 {
-    let frequencies = FREQUENCIES;
-    let mut i: usize = 0;
-    while i < 21 {
-        if total / frequencies[i] <= n {
-            return frequencies[i];
+    for frequency in FREQUENCIES {
+        if total / frequency <= n {
+            return frequency;
         }
-        i += 1;
     }
-    frequencies[21]
+    RAREST
 }

@@ -1,38 +1,38 @@
--- `period::climb` meets its contract: at each turn no step before `place` is wide enough, and `idx` and `unit` are that
--- step's. Assumes nothing.
-use mathlib.Core.Path.{ap}
+-- `period::climb` meets its contract: a turn around the counts goes on where the last one ended. Assumes nothing.
+use mathlib.Core.Path.{◌≡◌, ap}
 use Prim.Native.Nat.{ℕ, ◌+◌}
 use native.Mathlib.Numerals.{add-one}
 use native.Mathlib.Omega.{arith}
-use Rattle.period.proofs.Climbing.{unit_fits, in_list, climb_end}
-use Rattle.period.proofs.Climbing.{climb_step, not_last, climb_same, climb_next, next_fits}
+use lib.ListN.{length}
+use Rattle.period.proofs.Climbing.{unit_above, climb_next, next_fits, climb_end, climb_step, climb_on}
 use Rattle.period.proofs.climb.Goals as goal
+
+pub nonzero_div-whole : goal.nonzero_div-whole
+nonzero_div-whole c = unit_above c.requires c.loop-count.invariant
+
+pub overflow_mul-result : goal.overflow_mul-result
+overflow_mul-result c = omega (
+  arith,
+  climb_step c.requires c.loop-count-2.invariant c.loop-count-2-test.true (omega arith),
+  c.requires.fits,
+)
+
+pub returns-then-whole-n : goal.returns-then-whole-n
+returns-then-whole-n c = (
+  climb_step c.requires c.loop-count-2.invariant c.loop-count-2-test.true (omega arith),
+  ap (λ (x : ℕ). x + 1) (climb_end c.requires c.loop-count-2.invariant c.loop-count-2-test.true (omega arith)),
+)
+
+pub loop-count-2-preserved : goal.loop-count-2-preserved
+loop-count-2-preserved c = rw (add-one c.loop-count-2.count-index, add-one c.loop-count-2.tested) (climb_on c.requires
+    c.loop-count-2.invariant c.loop-count-2-test.true c.if-whole-n.false)
 
 pub overflow_mul-unit : goal.overflow_mul-unit
 overflow_mul-unit c =
-    omega (arith, next_fits c.requires c.loop-idx.invariant c.loop-idx-test.true (omega arith), unit_fits c.requires)
+    let e : c.loop-count-2.count-index ≡ length c.args.l.counts.now = omega (arith, c.loop-count-2.invariant.within) in
+    omega (arith, next_fits c.requires (rw e at c.loop-count-2.invariant))
 
-pub loop-idx-smaller-then-idx-counts : goal.loop-idx-smaller-then-idx-counts
-loop-idx-smaller-then-idx-counts c = omega (arith, not_last c.requires c.loop-idx.invariant c.loop-idx-test.true)
-
-pub loop-idx-preserved-then-idx-counts : goal.loop-idx-preserved-then-idx-counts
-loop-idx-preserved-then-idx-counts c =
-    rw (add-one c.loop-idx.place) (climb_next c.requires c.loop-idx.invariant c.loop-idx-test.true (omega arith))
-
-pub loop-idx-smaller : goal.loop-idx-smaller
-loop-idx-smaller c = omega (arith, not_last c.requires c.loop-idx.invariant c.loop-idx-test.true)
-
-pub loop-idx-preserved : goal.loop-idx-preserved
-loop-idx-preserved c =
-    rw (add-one c.loop-idx.place, add-one c.loop-idx.idx) (climb_same c.requires c.loop-idx.invariant c.loop-idx-test.true
-    (omega (arith, in_list c.requires c.loop-idx.invariant)))
-
-pub overflow_mul-result : goal.overflow_mul-result
-overflow_mul-result c = omega (arith, climb_step c.requires c.loop-idx.invariant (omega arith), c.requires.fits)
-
-pub returns : goal.returns
-returns c = (
-  climb_step c.requires c.loop-idx.invariant (omega arith),
-  ap (λ (x : ℕ). x + 1)
-      (climb_end c.requires c.loop-idx.invariant (omega arith)),
-)
+pub loop-count-preserved : goal.loop-count-preserved
+loop-count-preserved c =
+    let e : c.loop-count-2.count-index ≡ length c.args.l.counts.now = omega (arith, c.loop-count-2.invariant.within) in
+    climb_next c.requires (rw e at c.loop-count-2.invariant)

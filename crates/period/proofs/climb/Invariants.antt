@@ -1,12 +1,16 @@
--- `period::climb` meets its contract: at each turn no step before `place` is wide enough, and `idx` and `unit` are that
--- step's. Assumes nothing.
-use Prim.Native.Nat.{◌-◌}
+-- `period::climb` meets its contract: at each turn around the counts no step before it is wide enough, and `unit` is that
+-- turn's. Assumes nothing.
+use Prim.Native.Nat.{◌-◌, ◌/◌}
 use Rattle.period.specs.Ladders.{ladder}
 use Rattle.period.proofs.Climbing.{Climbed}
 use Rattle.period.proofs.climb.Given as goal
 
-abbrev pub invariant-loop-idx : goal.invariant-loop-idx
-invariant-loop-idx l = Climbed l.span l.n (ladder l.start l.base l.counts) l.unit l.whole l.idx l.place
+abbrev pub invariant-loop-count : goal.invariant-loop-count
+invariant-loop-count l = Climbed l.span l.n (ladder l.l.unit l.l.base l.l.counts.now) l.unit (l.span / l.unit) l.tested 0 l.tested
 
-abbrev pub decreases-loop-idx : goal.decreases-loop-idx
-decreases-loop-idx l = 16 - l.place
+abbrev pub invariant-loop-count-2 : goal.invariant-loop-count-2
+invariant-loop-count-2 l =
+    Climbed l.span l.n (ladder l.l.unit l.l.base l.l.counts.now) l.unit l.whole l.initial.tested l.count-index l.tested
+
+abbrev pub decreases-loop-count : goal.decreases-loop-count
+decreases-loop-count l = 16 - l.tested

@@ -1,5 +1,5 @@
--- `period::first_fit` meets its contract: no frequency before the i-th goes into the total seldom enough. Assumes nothing.
-use mathlib.Core.Path.{◌≡◌, refl, ◌∙◌}
+-- `period::first_fit` meets its contract: the table has the first 21 steps of the ladder. Assumes nothing.
+use mathlib.Core.Path.{◌≡◌, ◌∙◌}
 use mathlib.Core.List.{List, [], ◌∷◌}
 use Prim.Native.Nat.{ℕ, ◌<◌}
 use native.Mathlib.Numerals.{add-one}
@@ -14,23 +14,23 @@ use Rattle.period.proofs.first_fit.Goals as goal
 -- the table's rule, by one computed test
 abbrev table : List ℕ
 table = 1 ∷ 2 ∷ 5 ∷ 10 ∷ 20 ∷ 50 ∷ 100 ∷ 200 ∷ 500 ∷ 1000 ∷ 2000 ∷ 5000 ∷ 10000 ∷ 20000 ∷ 50000 ∷ 100000 ∷ 200000 ∷ 500000
-    ∷ 1000000 ∷ 2000000 ∷ 5000000 ∷ 10000000 ∷ []
+    ∷ 1000000 ∷ 2000000 ∷ 5000000 ∷ []
 
-entry : (i : ℕ) → i < 22 → get_or table i 0 ≡ step_at (decimal_ladder 1) i
+entry : (i : ℕ) → i < 21 → get_or table i 0 ≡ step_at (decimal_ladder 1) i
 unfolding all
 entry i h = eqb→eq (get_or table i 0) (step_at (decimal_ladder 1) i)
-    (at (λ (i : ℕ). eqb (get_or table i 0) (step_at (decimal_ladder 1) i)) 22 tt i h)
+    (at (λ (i : ℕ). eqb (get_or table i 0) (step_at (decimal_ladder 1) i)) 21 tt i h)
 
-pub returns-then-total-frequencies : goal.returns-then-total-frequencies
-returns-then-total-frequencies c = let a = c.args in
-    let is = entry c.loop-i.i (omega arith) in
-    let t = rw is at c.if-total-frequencies.true in
-    is ∙ fit_here a.total a.n c.loop-i.invariant.0 (omega arith)
+pub returns-then-total-frequency : goal.returns-then-total-frequency
+returns-then-total-frequency c = let a = c.args in
+    let is = entry c.loop-frequency.frequency-index (omega arith) in
+    let t = rw is at c.if-total-frequency.true in
+    is ∙ fit_here a.total a.n c.loop-frequency.invariant t
 
-pub loop-i-preserved : goal.loop-i-preserved
-loop-i-preserved c = let a = c.args in
-    let t = rw (entry c.loop-i.i (omega arith)) at c.if-total-frequencies.false in
-    (rw (add-one c.loop-i.i) (fit_next a.total a.n c.loop-i.invariant.0 (omega arith) (omega arith)), refl)
+pub loop-frequency-preserved : goal.loop-frequency-preserved
+loop-frequency-preserved c = let a = c.args in
+    let t = rw (entry c.loop-frequency.frequency-index (omega arith)) at c.if-total-frequency.false in
+    rw (add-one c.loop-frequency.frequency-index) (fit_next a.total a.n c.loop-frequency.invariant (omega arith) t)
 
 pub returns : goal.returns
-returns c = let a = c.args in fit_last a.total a.n c.loop-i.invariant.0 (omega arith)
+returns c = fit_last c.args.total c.args.n c.loop-frequency.invariant (omega arith)

@@ -1,41 +1,22 @@
--- `period::largest_power` meets its contract: no power above 10 ^ k goes into the span n times. Assumes nothing.
-use mathlib.Core.Path.{◌≡◌, refl, sym, ap, ◌∙◌}
-use mathlib.Core.List.{List, [], ◌∷◌}
-use Prim.Native.Nat.{ℕ, ◌^◌, ◌<◌}
-use native.Mathlib.Omega.{arith}
-use lib.Dec.{eqb, eqb→eq}
-use lib.ListN.{get_or}
-use Rattle.laws.proofs.Tables.{all, at}
-use Rattle.period.proofs.Exponents.{from_top, at_none, goes_in, stays_out}
+-- `period::largest_power` meets its contract: the powers are tried from the largest down. Assumes nothing.
+use borrow.Author.Rules.{rules}
+use borrow.Author.Tests.{tests}
+use mathlib.Core.Path.{◌≡◌, ap, ◌∙◌}
+use Prim.Native.Nat.{ℕ, ◌/◌, ◌^◌}
+use lib.Dec.{leb}
+use Rattle.std.specs.Prelude.{Option, unwrap_or, option_map, reverse}
+use Rattle.std.specs.List.{find}
+use Rattle.std.proofs.lemmas.Iterator.Search.{find_from_yields_List}
+use Rattle.std.proofs.lemmas.Iterator.Adapters.{YieldsList-from_rev_slice}
+use Rattle.period.proofs.Exponents.{powers_to, first_power, from_top}
 use Rattle.period.proofs.largest_power.Goals as goal
-
--- the table's rule, by one computed test
-abbrev table : List ℕ
-table = 1 ∷ 10 ∷ 100 ∷ 1000 ∷ 10000 ∷ 100000 ∷ 1000000 ∷ 10000000 ∷ 100000000 ∷ 1000000000 ∷ 10000000000 ∷ 100000000000
-    ∷ 1000000000000 ∷ 10000000000000 ∷ 100000000000000 ∷ 1000000000000000 ∷ 10000000000000000 ∷ 100000000000000000
-    ∷ 1000000000000000000 ∷ []
-
-entry : (k : ℕ) → k < 19 → get_or table k 0 ≡ 10 ^ k
-unfolding all
-entry k h = eqb→eq (get_or table k 0) (10 ^ k) (at (λ (k : ℕ). eqb (get_or table k 0) (10 ^ k)) 19 tt k h)
-
-pub loop-k-init : goal.loop-k-init
-loop-k-init c = (omega arith, from_top c.args.span c.args.n, refl)
-
-pub returns-then-powers-k : goal.returns-then-powers-k
-returns-then-powers-k c = let is = entry c.loop-k.k (omega arith) in
-    is ∙ ap (λ (x : ℕ). 10 ^ x) (sym (goes_in c.args.span c.args.n c.requires c.loop-k.k (omega arith) is
-    (omega arith)) ∙ c.loop-k.invariant.1)
-
-pub loop-k-preserved : goal.loop-k-preserved
-loop-k-preserved c = let is = entry c.loop-k.k (omega arith) in (
-  omega arith,
-  sym (stays_out c.args.span c.args.n c.requires c.loop-k.k (omega arith) is (omega arith))
-      ∙ c.loop-k.invariant.1,
-  refl,
-)
 
 pub returns : goal.returns
 returns c = let a = c.args in
-    let z : c.loop-k.k ≡ 0 = omega arith in
-    ap (λ (x : ℕ). 10 ^ x) (sym (at_none a.span a.n) ∙ (rw z at c.loop-k.invariant.1))
+    let f : option_map (λ y. y.now) c.find.result ≡ find (λ (x : ℕ). leb x (a.span / a.n)) (powers_to 18) =
+    find_from_yields_List (λ (x : ℕ). leb x (a.span / a.n)) _ _ c.find.result c.find.ensures.ran
+    (YieldsList-from_rev_slice (reverse (powers_to 18)) cc) (λ x b q k. search (rules, tests)) in
+    c.unwrap_or.ensures
+    ∙ ap (λ (o : Option ℕ). unwrap_or o 1) (c.copied.ensures ∙ f)
+    ∙ first_power a.span a.n c.requires 18
+    ∙ ap (λ (k : ℕ). 10 ^ k) (from_top a.span a.n)
