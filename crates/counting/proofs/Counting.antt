@@ -11,8 +11,8 @@ use borrow.Author.Tests.{ltb-false, not-true}
 use lib.IntN.{ℤ, pos}
 use lib.Signed.{lt_z, le_z}
 use Rattle.laws.specs.Numbers.{within, pos_part, neg_part}
-use Rattle.laws.specs.Asking.{first_no}
-use Rattle.laws.proofs.Asked.{told}
+use Rattle.asking.specs.Asking.{passes}
+use Rattle.asking.proofs.Asked.{told}
 use Rattle.laws.proofs.Signed.{le_true, is_ge}
 use Rattle.laws.proofs.Tests.{both_true, either_false, bit}
 use Rattle.calendar.specs.declared.Date.{Date}
@@ -83,9 +83,9 @@ pub dated : (a : Axis) → has_index a ≡ true → ends a ≡ true → Dated a
 dated a h r = record { real = r; dates = index_dated a h }
 
 -- the axis by which an axis counts, and values on it
-pub closed_dated : (a : Axis) (has : Bool) → is_duration a.kind ≡ false → first_no (plain_questions has a) ≡ 0 → Dated (closed a)
+pub closed_dated : (a : Axis) (has : Bool) → is_duration a.kind ≡ false → passes (plain_questions has a) ≡ true → Dated (closed a)
 closed_dated a has e z = record {
-  real = told 3 (plain_questions has (closed a)) tt (plain_passed a has z);
+  real = told 3 (plain_questions has (closed a)) (plain_passed a has z);
   dates = rw (same_kind a) e;
 }
 
