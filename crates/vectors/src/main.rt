@@ -3,181 +3,62 @@
 // for the floor or the ceiling of a date-time, its day and nanosecond, and the answered day. A line with # is a comment.
 #![tactic(auto)]
 
-ghost use Rattle.std.specs.Prelude.{◌≡◌, ◌+◌, ◌*◌, ◌≤◌, ◌<◌, length, IfOk};
+ghost use Rattle.std.specs.Prelude.{◌≡◌, ◌≤◌, length, IfOk};
 
-use calendar::{DateAnswer, DateTime, DayAnswer, LAST_COUNT, Ymd};
-use std::io;
+use calendar::{Date, DateTime, LAST_DAY, Ymd};
 use std::io::Read as _;
+use std::{io, str};
 
-// A number, and where the text goes on after it.
-#[derive(Clone, Copy)]
-struct Read {
-    value: u64,
-    next: usize,
-}
-
-fn widened(b: u8) -> u64
-    ensures { result ≡ b }
-{
-    b as u64
-}
-
-// The digits from `at` on, as a number, at most fifteen of them, and the one byte behind them.
-fn number(s: &[u8], at: usize) -> Read
-    requires { at ≤ length s.now }
-    ensures { (at ≤ result.next) × (result.next ≤ length s.now) × (result.value < 1000000000000000) }
-{
-    let mut value: u64 = 0;
-    let mut i = at;
-    while i < s.len() {
-        let b = s[i];
-        i += 1;
-        if b < 48 {
-            break;
-        }
-        if b > 57 {
-            break;
-        }
-        if value > 99999999999999 {
-            break;
-        }
-        value = value * 10 + (widened(b) - 48);
-    }
-    Read {
-        value: value,
-        next: i,
-    }
-}
-
-// The place after the line's end.
-fn line_end(s: &[u8], at: usize) -> usize
-    requires { at < length s.now }
-    ensures { (at < result) × (result ≤ length s.now) }
-{
-    let mut i = at;
-    while i < s.len() {
-        let b = s[i];
-        i += 1;
-        if b == 10 {
-            break;
-        }
-    }
-    i
-}
-
-// Is n the day number of that date, and that date the date of n?
-fn date_agrees(n: u64, y: u64, m: u64, d: u64) -> bool
-    requires { (n < 1000000000000000) × (y < 1000000000000000) × (m < 1000000000000000) × (d < 1000000000000000) }
-{
-    let t = Ymd {
-        year: y as i64,
-        month: m as i64,
-        day: d as i64,
+// Is n the day number of that date, and that date the date of n? None where a number is missing.
+fn date_agrees(row: &str) -> Option<bool> {
+    let mut words = row.split_ascii_whitespace();
+    let n = words.next()?.parse::<u32>().ok()?;
+    let year = words.next()?.parse::<u32>().ok()?;
+    let month = words.next()?.parse::<u32>().ok()?;
+    let day = words.next()?.parse::<u32>().ok()?;
+    let number = calendar::number_of(Ymd {
+        year: i64::from(year),
+        month: i64::from(month),
+        day: i64::from(day),
+    });
+    let date = Date {
+        year: u64::from(year),
+        month: u64::from(month),
+        day: u64::from(day),
     };
-    let DayAnswer::Answered(k) = calendar::number_of(t) else {
-        return false;
+    Some(number == Ok(u64::from(n)) && calendar::date_at(i64::from(n)) == Ok(date))
+}
+
+// Is the floor or the ceiling of that date-time that day?
+fn day_agrees(row: &str) -> Option<bool> {
+    let mut words = row.split_ascii_whitespace();
+    let letter = words.next()?;
+    let day = words.next()?.parse::<u64>().ok()?;
+    let nano = words.next()?.parse::<u64>().ok()?;
+    let answer = words.next()?.parse::<u64>().ok()?;
+    if day > LAST_DAY as u64 {
+        return None;
+    }
+    let t = DateTime { day, nano };
+    let known = if letter == "f" {
+        calendar::date_floor(t)
+    } else {
+        calendar::date_ceil(t)
     };
-    let DateAnswer::Answered(e) = calendar::date_at(n as i64) else {
-        return false;
+    Some(known == answer)
+}
+
+fn is_day_row(row: &str) -> bool {
+    row.starts_with('f') || row.starts_with('c')
+}
+
+fn agrees(row: &str) -> bool {
+    let answer = if is_day_row(row) {
+        day_agrees(row)
+    } else {
+        date_agrees(row)
     };
-    (k == n) & (e.year == y) & (e.month == m) & (e.day == d)
-}
-
-// A row of four numbers.
-fn date_row_agrees(s: &[u8], at: usize) -> bool
-    requires { at ≤ length s.now }
-{
-    let n = number(s, at);
-    let y = number(s, n.next);
-    let m = number(s, y.next);
-    let d = number(s, m.next);
-    date_agrees(n.value, y.value, m.value, d.value)
-}
-
-// Is the floor, or else the ceiling, of that date-time the day?
-fn day_agrees(floor: bool, day: u64, nano: u64, answer: u64) -> bool {
-    if day > LAST_COUNT {
-        return false;
-    }
-    let t = DateTime {
-        day: day,
-        nano: nano,
-    };
-    if floor {
-        return calendar::date_floor(t) == answer;
-    }
-    calendar::date_ceil(t) == answer
-}
-
-// A row of a letter, passed over here, and three numbers.
-fn day_row_agrees(floor: bool, s: &[u8], at: usize) -> bool
-    requires { at ≤ length s.now }
-{
-    let letter = number(s, at);
-    let blank = number(s, letter.next);
-    let day = number(s, blank.next);
-    let nano = number(s, day.next);
-    let answer = number(s, nano.next);
-    day_agrees(floor, day.value, nano.value, answer.value)
-}
-
-// What a line counts for.
-#[derive(Clone, Copy)]
-struct Compared {
-    dates: u64,
-    days: u64,
-    differ: u64,
-}
-
-fn unlike(agrees: bool) -> u64
-    ensures { result ≤ 1 }
-{
-    if agrees { 0 } else { 1 }
-}
-
-fn compare_line(s: &[u8], at: usize) -> Compared
-    requires { at < length s.now }
-    ensures { (result.dates ≤ 1) × (result.days ≤ 1) × (result.differ ≤ 1) }
-{
-    let b = s[at];
-    if b == b'#' {
-        return Compared {
-            dates: 0,
-            days: 0,
-            differ: 0,
-        };
-    }
-    if (b == b'f') | (b == b'c') {
-        return Compared {
-            dates: 0,
-            days: 1,
-            differ: unlike(day_row_agrees(b == b'f', s, at)),
-        };
-    }
-    Compared {
-        dates: 1,
-        days: 0,
-        differ: unlike(date_row_agrees(s, at)),
-    }
-}
-
-fn compare(text: &[u8]) -> Compared {
-    let mut dates: u64 = 0;
-    let mut days: u64 = 0;
-    let mut differ: u64 = 0;
-    let mut at: usize = 0;
-    while at < text.len() {
-        let c = compare_line(text, at);
-        dates += c.dates;
-        days += c.days;
-        differ += c.differ;
-        at = line_end(text, at);
-    }
-    Compared {
-        dates: dates,
-        days: days,
-        differ: differ,
-    }
+    answer.unwrap_or(false)
 }
 
 // As much of the input as the buffer holds.
@@ -195,15 +76,22 @@ fn read_full(input: &mut impl io::Read, buf: &mut [u8]) -> io::Result<usize>
     Ok(len)
 }
 
-// The first 65,536 bytes are read, which hold all rows.
+// The first 65,536 bytes are read, which hold all rows: no heap is used.
 fn main(rt: HostRuntime) -> io::Result<()> {
     let mut buf = [0u8; 65536];
     let len = read_full(&mut rt.reader(), &mut buf)?;
-    let Compared {
-        dates,
-        days,
-        differ,
-    } = compare(&buf[..len]);
+    let text = str::from_utf8(&buf[..len]).map_err(|_| io::Error::from(
+        io::ErrorKind::InvalidData,
+    ))?;
+    let dates = text
+        .lines()
+        .filter(|l| !l.starts_with('#') && !is_day_row(l))
+        .count();
+    let days = text.lines().filter(|l| is_day_row(l)).count();
+    let differ = text
+        .lines()
+        .filter(|l| !l.starts_with('#') && !agrees(l))
+        .count();
     println!(rt;
         "{dates} published dates compared, {days} floors and ceilings compared, {differ} differ"
     )
