@@ -13,7 +13,7 @@ use lib.Signed.{mag}
 use lib.ListN.{length, take}
 use Rattle.steps.specs.declared.Steps.{Steps}
 use Rattle.values.specs.declared.Value.{Value}
-use Rattle.steps.specs.declared.Listed.TheVariants.{Ticks}
+use Rattle.std.specs.Prelude.{Ok}
 use Rattle.steps.specs.Progression.{fitting, number_at, tick_of_number, tick_of, ticks, Sound}
 use Rattle.steps.specs.Listing.{numbers, has_room, listed_of, lent_after, front, count_of}
 use Rattle.steps.specs.Promise.{Later, whole_second, Fine}
@@ -107,7 +107,7 @@ counted_fine l d n start end f = rw (front_is l d) (front_fine l (length d) n st
 
 -- the same where the answer is a count
 pub read_fine : (l : List Value) (d : List ℤ) (n c : ℕ) (start end : Value) → Fine n start end (numbers l)
-    → listed_of l (length d) ≡ Ticks c → Fine n start end (take (2 * c) (lent_after l d))
+    → listed_of l (length d) ≡ Ok c → Fine n start end (take (2 * c) (lent_after l d))
 read_fine l d n c start end f e = subst (λ (x : ℕ). Fine n start end (take (2 * x) (lent_after l d))) (ap count_of e)
     (counted_fine l d n start end f)
 

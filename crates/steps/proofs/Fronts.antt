@@ -1,22 +1,25 @@
 -- The front part of a lent slice after its list was set: the list, which the slice has room for. Assumes nothing.
-use mathlib.Core.Path.{◌≡◌, refl, ◌∙◌}
-use mathlib.Core.Bool.{Bool, true, false, cond}
-use mathlib.Core.List.{List, [], ◌++◌}
-use Prim.Native.Nat.{◌*◌, ◌≤◌}
+use mathlib.Core.Path.{◌≡◌, refl, sym}
+use mathlib.Core.Bool.{Bool, true, false, cond, ◌&&◌}
+use mathlib.Core.List.{List, [], ◌∷◌, ◌++◌}
+use Prim.Native.Nat.{ℕ, ◌*◌, ◌≤◌}
 use native.Mathlib.Omega.{arith}
 use lib.IntN.{ℤ}
 use lib.ListN.{length, take, drop, length-append, length-drop}
 use lib.Seq.{take_at}
 use borrow.Author.Tests.{leb-true}
+use Rattle.std.specs.Prelude.{Ok, Err}
+use Rattle.asking.specs.declared.Refusal.TheVariants as refusal
+use Rattle.asking.specs.Asking.{ask}
+use Rattle.asking.proofs.Asked.{answered_ok}
 use Rattle.values.specs.declared.Value.{Value}
 use Rattle.steps.specs.declared.Steps.{Steps}
-use Rattle.steps.specs.declared.Listed.TheVariants.{Refused, Ticks}
 use Rattle.steps.specs.Progression.{ticks}
 use Rattle.steps.specs.Listing.{numbers, has_room, listed_of, lent_after, front, count_of}
 use Rattle.steps.proofs.Pairs.{length_numbers, count_is}
 
 module _ (l : List Value) (d : List ℤ) where
-  room : (b : Bool) → has_room l (length d) ≡ b → 2 * count_of (cond b (Ticks (length l)) (Refused 11)) ≤ length d
+  room : (b : Bool) → has_room l (length d) ≡ b → 2 * count_of (cond b (Ok (length l)) (Err refusal.Room)) ≤ length d
   room true e = leb-true (2 * length l) (length d) e
   room false e = omega arith
 
@@ -24,7 +27,7 @@ module _ (l : List Value) (d : List ℤ) where
   pub within_lent : 2 * count_of (listed_of l (length d)) ≤ length d
   within_lent = room (has_room l (length d)) refl
 
-  cut : (b : Bool) → take (2 * count_of (cond b (Ticks (length l)) (Refused 11))) (cond b (numbers l ++ drop (2 * length l) d) d)
+  cut : (b : Bool) → take (2 * count_of (cond b (Ok (length l)) (Err refusal.Room))) (cond b (numbers l ++ drop (2 * length l) d) d)
       ≡ cond b (numbers l) []
   cut true = take_at (numbers l) (drop (2 * length l) d) (2 * length l) (length_numbers l)
   cut false = refl
@@ -43,11 +46,19 @@ module _ (l : List Value) (d : List ℤ) where
   pub length_after : length (lent_after l d) ≡ length d
   length_after = after (has_room l (length d)) refl
 
--- ---- as the code lists a progression
-module _ (s : Steps) (d : List ℤ) (e : has_room (ticks s) (length d) ≡ true) where
-  pub room_for : 2 * s.count ≤ length d
-  room_for = omega (arith, leb-true (2 * length (ticks s)) (length d) e, count_is s)
+-- ---- as the code lists a progression, where its count was answered
+module _ (s : Steps) (d : List ℤ) {n : ℕ} (e : Ok n ≡ listed_of (ticks s) (length d)) where
+  room_left : has_room (ticks s) (length d) ≡ true
+  room_left =
+      let row = ask refusal.Room (has_room (ticks s) (length d)) ∷ [] in
+      and_l_is (has_room (ticks s) (length d)) (answered_ok row (Ok (length (ticks s))) n (sym e)).0
+    where
+      and_l_is : (b : Bool) → b && true ≡ true → b ≡ true
+      and_l_is true h = refl
+      and_l_is false h = h
 
-  pub set_list : (l : List ℤ) → l ≡ numbers (ticks s) ++ drop (2 * s.count) d
-      → (Ticks s.count ≡ listed_of (ticks s) (length d)) × (l ≡ lent_after (ticks s) d)
-  set_list l f = (rw (e, count_is s), f ∙ rw (e, count_is s))
+  pub room_for : 2 * s.count ≤ length d
+  room_for = omega (arith, leb-true (2 * length (ticks s)) (length d) room_left, count_is s)
+
+  pub set_list : numbers (ticks s) ++ drop (2 * s.count) d ≡ lent_after (ticks s) d
+  set_list = rw (room_left, count_is s)

@@ -5,7 +5,9 @@
 ghost use Rattle.std.specs.Prelude.{◌≡◌, true, false, ◌++◌, ◌*◌, ◌<◌, ◌≤◌, length, drop};
 ghost use Rattle.steps.specs.Months.{first_day, month_number, month_of, whole_month};
 ghost use Rattle.steps.specs.Progression.{fitting, ticks, Sound};
-ghost use Rattle.steps.specs.Listing.{numbers, has_room, listed_of, lent_after, count_of};
+ghost use Rattle.steps.specs.Listing.{numbers, has_room, listed_of, lent_after};
+
+use asking::Refusal;
 
 // The numbers first, first + step, .. : count of them. With by_month set a number is a month, counted from 0001-01,
 // which is 0. Else a head has per numbers, and base is the head at which they start.
@@ -17,13 +19,6 @@ pub struct Steps {
     pub first: u64,
     pub step: u64,
     pub count: u64,
-}
-
-// A refusal's number, or how many ticks were listed.
-#[derive(Clone, Copy)]
-pub enum Listed {
-    Refused(u8),
-    Ticks(u64),
 }
 
 // The day number of the first day of a month.
@@ -75,7 +70,7 @@ pub fn how_many(room: u64, step: u64) -> u64
     (room - 1) / step + 1
 }
 
-// Question 11: are k lent numbers two for each tick?
+// Are k lent numbers two for each tick?
 fn has_room(s: Steps, k: u64) -> bool
     ensures { result ≡ has_room (ticks s) k }
 {
@@ -83,23 +78,12 @@ fn has_room(s: Steps, k: u64) -> bool
 }
 
 // The answer of a list where k numbers are lent, with nothing listed.
-pub fn count(s: Steps, k: u64) -> Listed
+#[tactic(auto, using(crate::proofs::Pairs::count_is))]
+pub fn count(s: Steps, k: u64) -> Result<u64, Refusal>
     ensures { result ≡ listed_of (ticks s) k }
 {
-    if !has_room(s, k) {
-        return Listed::Refused(11);
-    }
-    Listed::Ticks(s.count)
-}
-
-// How many ticks an answer has.
-pub fn count_of(a: Listed) -> u64
-    ensures { result ≡ count_of a }
-{
-    match a {
-        Listed::Refused(_) => 0,
-        Listed::Ticks(n) => n,
-    }
+    asking::ask(Refusal::Room, has_room(s, k))?;
+    Ok(s.count)
 }
 
 // A day number for each tick; months have no common length.
@@ -151,18 +135,16 @@ fn list_even(s: Steps, lent: &mut [i64])
 }
 
 // Sets the pairs of the list at the front of the lent numbers, unless these are too few.
-pub fn list(s: Steps, lent: &mut [i64]) -> Listed
+pub fn list(s: Steps, lent: &mut [i64]) -> Result<u64, Refusal>
     requires { Sound s }
     ensures value { result ≡ listed_of (ticks s) (length lent.old) }
     ensures after_call { lent.new ≡ lent_after (ticks s) lent.old }
 {
-    if !has_room(s, lent.len() as u64) {
-        return Listed::Refused(11);
-    }
+    let listed = count(s, lent.len() as u64)?;
     if s.by_month {
         list_months(s, lent);
-        return Listed::Ticks(s.count);
+    } else {
+        list_even(s, lent);
     }
-    list_even(s, lent);
-    Listed::Ticks(s.count)
+    Ok(listed)
 }
