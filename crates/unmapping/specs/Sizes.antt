@@ -1,9 +1,9 @@
 -- Unmapping on sizes, without signs, as the code's own functions hand it on. Definitions only.
-use Rattle.std.specs.Prelude.{Bool, not, ◌&&◌, ◌||◌, ℕ, ◌+◌, ◌*◌, ◌/◌, ◌%◌, ◌≤◌, ◌<◌, eqb, ltb, leb, ℤ, nat_abs}
+use Rattle.std.specs.Prelude.{Bool, not, ◌&&◌, ◌||◌, ℕ, ◌+◌, ◌*◌, ◌/◌, ◌%◌, ◌≤◌, ◌<◌, eqb, ltb, leb, ℤ, nat_abs, Result}
 use Rattle.laws.specs.Units.{per_day}
+use Rattle.asking.specs.declared.Refusal.{Refusal}
 use Rattle.calendar.specs.Questions.{last_day}
-use Rattle.axis.specs.declared.ValueAnswer.{ValueAnswer}
-use Rattle.axis.specs.declared.ValueAnswer.TheVariants.{At}
+use Rattle.values.specs.declared.Value.{Value}
 use Rattle.axis.specs.Questions.{checked}
 use Rattle.unmapping.specs.declared.Offset.{Offset}
 use Rattle.unmapping.specs.Unmapping.{date_time_at}
@@ -46,5 +46,5 @@ pub record Moves (s w size : ℕ) : Type 0 where
   pub product_fits_law : size * (s / w) ≤ 9223372036854775807
 
 -- question 10 of the date-time, as the functions answer it
-unfoldable pub date_time_answer : ℤ → ValueAnswer
-date_time_answer z = checked (At (date_time_at z))
+unfoldable pub date_time_answer : ℤ → Result Value Refusal
+date_time_answer z = checked (date_time_at z)

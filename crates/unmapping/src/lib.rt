@@ -9,13 +9,13 @@ ghost use Rattle.floats.specs.Rounding.{with_sign};
 ghost use Rattle.values.specs.Values.{is_duration};
 ghost use Rattle.values.specs.Differences.{nanoseconds};
 ghost use Rattle.axis.specs.Axes.{start, span_of};
-ghost use Rattle.axis.specs.declared.ValueAnswer.TheVariants.{At};
 ghost use Rattle.axis.specs.Questions.{ends, in_order, checked};
 ghost use Rattle.unmapping.specs.Unmapping.{Unmappable, unmap_coord, moved_by, by_nanoseconds, by_days};
 ghost use Rattle.unmapping.specs.Sizes.{sizes_fit, size_moved, Sums, InDay, OnWidth, Moves, date_time_answer};
 
-use axis::{Axis, Limits, ValueAnswer};
-use calendar::LAST_COUNT;
+use asking::Refusal;
+use axis::{Axis, Limits};
+use calendar::LAST_DAY;
 use values::Value;
 
 // Pixels from the low limit, and the width, which is not 0.
@@ -26,21 +26,21 @@ pub struct Offset {
 }
 
 // The date-time of a day and a nanosecond of it, if it is one of question 3.
-fn on_calendar(day: u64, nano: u64) -> ValueAnswer
+fn on_calendar(day: u64, nano: u64) -> Result<Value, Refusal>
     requires { nano < per_day }
     ensures { result ≡ date_time_answer (pos (day * per_day + nano)) }
 {
-    if (1 <= day) & (day <= LAST_COUNT) {
-        return ValueAnswer::At(Value {
+    if (1 <= day) & (day <= LAST_DAY as u64) {
+        return Ok(Value {
             head: day as i64,
             tail: nano as i64,
         });
     }
-    ValueAnswer::Refused(10)
+    Err(Refusal::Range)
 }
 
 // Days and nanoseconds after a date-time.
-fn days_after(day: u64, nano: u64, days: u64, rest: u64) -> ValueAnswer
+fn days_after(day: u64, nano: u64, days: u64, rest: u64) -> Result<Value, Refusal>
     requires { Sums day nano days rest }
     ensures { result ≡ date_time_answer (pos (day * per_day + nano) +ℤ pos (days * per_day + rest)) }
 {
@@ -51,24 +51,24 @@ fn days_after(day: u64, nano: u64, days: u64, rest: u64) -> ValueAnswer
 }
 
 // Days and nanoseconds before a date-time.
-fn days_before(day: u64, nano: u64, days: u64, rest: u64) -> ValueAnswer
+fn days_before(day: u64, nano: u64, days: u64, rest: u64) -> Result<Value, Refusal>
     requires { Sums day nano days rest }
     ensures { result ≡ date_time_answer (pos (day * per_day + nano) -ℤ pos (days * per_day + rest)) }
 {
     if nano < rest {
         if day <= days + 1 {
-            return ValueAnswer::Refused(10);
+            return Err(Refusal::Range);
         }
         return on_calendar(day - days - 1, nano + 86400000000000 - rest);
     }
     if day <= days {
-        return ValueAnswer::Refused(10);
+        return Err(Refusal::Range);
     }
     on_calendar(day - days, nano - rest)
 }
 
 // A number of nanoseconds after a date-time, or before it.
-fn nanoseconds_away(day: u64, nano: u64, back: bool, n: u64) -> ValueAnswer
+fn nanoseconds_away(day: u64, nano: u64, back: bool, n: u64) -> Result<Value, Refusal>
     requires { InDay day nano }
     ensures { result ≡ date_time_answer (pos (day * per_day + nano) +ℤ with_sign back n) }
 {
@@ -81,12 +81,12 @@ fn nanoseconds_away(day: u64, nano: u64, back: bool, n: u64) -> ValueAnswer
 }
 
 // A number of days after a date-time, or before it.
-fn days_away(day: u64, nano: u64, back: bool, n: u64) -> ValueAnswer
+fn days_away(day: u64, nano: u64, back: bool, n: u64) -> Result<Value, Refusal>
     requires { InDay day nano }
     ensures { result ≡ date_time_answer (pos (day * per_day + nano) +ℤ with_sign back (n * per_day)) }
 {
-    if n > LAST_COUNT {
-        return ValueAnswer::Refused(10);
+    if n > LAST_DAY as u64 {
+        return Err(Refusal::Range);
     }
     if back {
         return days_before(day, nano, n, 0);
@@ -113,7 +113,7 @@ fn size_moved(s: u64, w: u64, size: u64) -> u64
 }
 
 // A span of s nanoseconds over the width.
-fn by_nanoseconds(day: u64, nano: u64, o: Offset, s: u64) -> ValueAnswer
+fn by_nanoseconds(day: u64, nano: u64, o: Offset, s: u64) -> Result<Value, Refusal>
     requires { InDay day nano × OnWidth o × (s < 9223372036854775808)
         × (sizes_fit (lt_z o.width (pos 0)) (nat_abs o.pixels) (s / nat_abs o.width) (s % nat_abs o.width) ≡ true) }
     ensures { result ≡ date_time_answer (pos (day * per_day + nano) +ℤ by_nanoseconds (pos s) o.width o.pixels) }
@@ -127,7 +127,7 @@ fn by_nanoseconds(day: u64, nano: u64, o: Offset, s: u64) -> ValueAnswer
 }
 
 // A span of whole days over the width.
-fn by_days(day: u64, nano: u64, o: Offset, span: i64) -> ValueAnswer
+fn by_days(day: u64, nano: u64, o: Offset, span: i64) -> Result<Value, Refusal>
     requires { InDay day nano }
     ensures { result ≡ date_time_answer
         (pos (day * per_day + nano) +ℤ by_days span o.width o.pixels *ℤ pos per_day) }
@@ -152,18 +152,17 @@ fn product_fits(o: Offset, s: u64) -> bool
 
 // The date-time at an offset. The Rust's test never passes with a factor below 0, so that swapped limits and a span of at
 // least their width in nanoseconds go by whole days.
-fn date_time_at(a: Axis, o: Offset) -> ValueAnswer
+fn date_time_at(a: Axis, o: Offset) -> Result<Value, Refusal>
     requires { (is_duration a.kind ≡ false) × (ends a ≡ true) × (in_order a ≡ true) × OnWidth o }
     ensures { result ≡ date_time_answer
         (nanoseconds a.kind (start a) +ℤ moved_by (span_of a) o.width o.pixels) }
 {
     let day = floats::unsigned_abs(a.start_head);
     let nano = floats::unsigned_abs(a.start_tail);
-    let span = axis::span(a);
-    if !span.fits {
+    let Some(span) = axis::span(a) else {
         return by_days(day, nano, o, axis::span_days(a));
-    }
-    let s = floats::unsigned_abs(span.value);
+    };
+    let s = floats::unsigned_abs(span);
     if product_fits(o, s) {
         return by_nanoseconds(day, nano, o, s);
     }
@@ -171,9 +170,9 @@ fn date_time_at(a: Axis, o: Offset) -> ValueAnswer
 }
 
 // The date-time under a pixel, kind 4, as TimeValue::unmap_coord.
-pub fn unmap_coord(a: Axis, l: Limits, pixel: i64) -> ValueAnswer
+pub fn unmap_coord(a: Axis, l: Limits, pixel: i64) -> Result<Value, Refusal>
     requires { Unmappable a l pixel }
-    ensures { result ≡ checked (At (unmap_coord a l pixel)) }
+    ensures { result ≡ checked (unmap_coord a l pixel) }
 {
     let o = Offset {
         pixels: pixel - l.low,

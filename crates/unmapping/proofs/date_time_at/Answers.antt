@@ -1,5 +1,4 @@
 -- `unmapping::date_time_at` meets its contract: each branch is one of the definition's. Assumes nothing.
-use borrow.Author.Tests.{not-true, not-false}
 use mathlib.Core.Path.{◌≡◌, sym, ◌∙◌, ap}
 use mathlib.Core.Bool.{true, false}
 use Prim.Native.Nat.{◌≤◌}
@@ -17,12 +16,12 @@ use Rattle.axis.specs.Axes.{start, span_of}
 use Rattle.axis.proofs.Axes.{both_ends, span_from_0}
 use Rattle.unmapping.specs.Unmapping.{by_days, moved_by}
 use Rattle.unmapping.specs.Sizes.{InDay, date_time_answer}
-use Rattle.values.proofs.Fits.{answer_fits, answer_value}
+use Rattle.values.proofs.Fits.{answer_none, answer_some}
 use Rattle.unmapping.proofs.DateTimes.{instant}
 use Rattle.unmapping.proofs.Moves.{moved_long, branch, size_up, whole, start_is}
 use borrow.Author.Rules.{rules}
 use Rattle.unmapping.proofs.date_time_at.Goals as goal
-use Rattle.unmapping.proofs.date_time_at.Goals.{After-span-span, After-unsigned_abs-day, After-unsigned_abs-nano}
+use Rattle.unmapping.proofs.date_time_at.Goals.{In-Some, After-unsigned_abs-day, After-unsigned_abs-nano}
 use Rattle.unmapping.proofs.date_time_at.Goals.{After-unsigned_abs-s, Start}
 
 head_fits : (c : Start) → SFits w64 c.args.a.start_head
@@ -65,13 +64,12 @@ at c =
 pub by_days-requires : goal.by_days-requires
 by_days-requires c = in_day (goal.at.by_days-requires c).After-unsigned_abs-nano
 
-pub returns-then-not-span : goal.returns-then-not-span
-returns-then-not-span c = let x = c.args in
+pub returns-in_default : goal.returns-in_default
+returns-in_default c = let x = c.args in
     let days = to_z-of_z {w = w64} {z = c.span_days.result} (search rules) ∙ c.span_days.ensures in
-    let long : fits_i64 (span_of x.a) ≡ false = sym (answer_fits (span_of x.a) c.span-span.result c.span-span.ensures)
-    ∙ not-true _ c.if-not-span.true in
+    let long : fits_i64 (span_of x.a) ≡ false = answer_none (span_of x.a) c.span.result c.span.ensures c.in_default.is in
     c.by_days.ensures
-    ∙ ((λ i. date_time_answer (at (goal.at.returns-then-not-span c).After-unsigned_abs-nano i +ℤ by_days (days i) x.o.width
+    ∙ ((λ i. date_time_answer (at (goal.at.returns-in_default c).After-unsigned_abs-nano i +ℤ by_days (days i) x.o.width
     x.o.pixels *ℤ pos 86400000000000))
     ∙ ap (λ (y : ℤ). date_time_answer (nanoseconds x.a.kind (start x.a) +ℤ y)) (moved_long (span_of x.a) x.o.width
     x.o.pixels long))
@@ -84,15 +82,14 @@ module _ (c : After-unsigned_abs-s) where
   abbrev a : Axis
   a = before_span.args.a
 
-  abbrev span_at : After-span-span
-  span_at = (goal.at.After-unsigned_abs-s c).After-span-span
+  abbrev span_at : In-Some
+  span_at = (goal.at.After-unsigned_abs-s c).In-Some
 
-  value_fits : SFits w64 span_at.span-span.result.value
+  value_fits : SFits w64 span_at.in-Some.span
   value_fits = search rules
 
-  span_value : span_at.span-span.result.value ≡ span_of a
-  span_value = answer_value (span_of a) span_at.span-span.result span_at.span-span.ensures
-      (not-false _ c.if-not-span.false)
+  span_value : span_at.in-Some.span ≡ span_of a
+  span_value = (answer_some (span_of a) span_at.span.result span_at.span.ensures span_at.in-Some.span span_at.in-Some.is).1
 
   none_below : neg_part (span_of a) ≡ 0
   none_below = span_from_0 a before_span.requires.1 before_span.requires.2
@@ -106,7 +103,7 @@ module _ (c : After-unsigned_abs-s) where
   span_most : c.unsigned_abs-s.result ≤ 9223372036854775807
   span_most = omega (
     arith,
-    up_fits span_at.span-span.result.value value_fits,
+    up_fits span_at.in-Some.span value_fits,
     ap pos_part span_value,
     size_is,
     size_up (span_of a)

@@ -6,7 +6,7 @@ use lib.Dec.{leb}
 use borrow.Author.Tests.{leb-true}
 use Rattle.laws.proofs.Tests.{both_true}
 use Rattle.laws.proofs.Signed.{read_count}
-use Rattle.axis.specs.declared.ValueAnswer.TheVariants.{At}
+use Rattle.std.specs.Prelude.{Ok}
 use Rattle.unmapping.proofs.DateTimes.{answer_at, answer_none}
 use Rattle.unmapping.proofs.on_calendar.Goals as goal
 use Rattle.unmapping.proofs.on_calendar.Goals.{Then-day}
@@ -21,7 +21,7 @@ returns-then-day c = let x = c.args in
     let (h, l) = in_days (goal.at.returns-then-day c).Then-day in
     let p = read_count x.day (omega arith) in
     let q = read_count x.nano (omega arith) in
-    (λ i. At (record { head = p i; tail = q i })) ∙ answer_at x.day x.nano c.requires h l
+    (λ i. Ok (record { head = p i; tail = q i })) ∙ answer_at x.day x.nano c.requires h l
 
 pub returns : goal.returns
 returns c = answer_none c.args.day c.args.nano c.requires c.if-day.false
