@@ -88,10 +88,7 @@ pub fn first_date(a: Axis) -> Date
 pub fn less(x: u64, y: u64) -> u64
     ensures { result ≡ x - y }
 {
-    if x < y {
-        return 0;
-    }
-    x - y
+    x.saturating_sub(y)
 }
 
 // The months to a date from before January of the first date's year on; an earlier year counts as that year.
@@ -99,7 +96,7 @@ pub fn months_from(first: Date, date: Date) -> u64
     requires { (date.year ≤ 9999) × (date.month ≤ 12) }
     ensures { result ≡ 12 * (date.year - first.year) + date.month }
 {
-    12 * less(date.year, first.year) + date.month
+    12 * date.year.saturating_sub(first.year) + date.month
 }
 
 pub fn position_of(a: Axis, v: Value) -> Position
@@ -141,5 +138,5 @@ pub fn size_of(a: Axis) -> u64
     ensures { result ≡ size_of a }
 {
     let p = position_of(a, axis::end(a));
-    less(p.at + 1, p.from)
+    (p.at + 1).saturating_sub(p.from)
 }

@@ -28,5 +28,5 @@ overflow_add-p c = let e = ap (λ (x : Position). x.at) (placed (goal.at.overflo
 
 pub returns : goal.returns
 returns c =
-    c.less.ensures ∙ ap (λ (x : Position). x.at + 1 - x.from) (placed (goal.at.returns c).After-position_of-p) ∙ sym
+    c.saturating_sub.ensures ∙ ap (λ (x : Position). x.at + 1 - x.from) (placed (goal.at.returns c).After-position_of-p) ∙ sym
     (size_is c.args.a)
