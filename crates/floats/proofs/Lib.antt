@@ -4,10 +4,8 @@ pub mod Signs
 pub mod Error
 pub mod Halves
 pub mod Losses
-pub mod Casts
 pub mod Order
 pub mod Quotients
-pub mod Rounds
 pub mod FourRoundings
 pub mod NearCuts
 pub mod Cuts

@@ -1,16 +1,14 @@
 -- `floats::either_loses` meets its contract. Assumes nothing.
-use mathlib.Core.Path.{◌≡◌, sym, ap, ◌∙◌}
+use mathlib.Core.Path.{◌≡◌, sym, ◌∙◌}
 use mathlib.Core.Bool.{true, false, ◌&&◌, ◌||◌}
-use Prim.Native.Nat.{◌%◌}
-use native.Mathlib.Omega.{arith}
 use lib.Bits.{bit_and, and_mask}
+use lib.Dec.{eqb, eqb→eq}
 use lib.IntN.{ℤ, pos}
 use lib.Signed.{le_z, lt_z}
 use mir.Syntax.{w64}
 use mir.Val.{SFits, to_z, of_z}
 use mir.Facts.{to_z-of_z}
-use Rattle.laws.proofs.Signed.{le_true, read_count}
-use Rattle.laws.proofs.Tests.{both_true}
+use Rattle.laws.proofs.Tests.{both_true, is_true}
 use Rattle.floats.specs.Losses.{lost_in}
 use Rattle.floats.proofs.Losses.{tens_kept, between_kept}
 use Rattle.floats.proofs.either_loses.Goals as goal
@@ -19,12 +17,8 @@ neither : (o t : ℤ) → lost_in o ≡ false → lost_in t ≡ false → false 
 neither o t x y = λ i. sym x i || sym y i
 
 -- ten zeros at the end, as the code reads them
-tens : (z : ℤ) → SFits w64 z → le_z (to_z w64 (bit_and (of_z w64 z) 1023)) (pos 0) ≡ true → lost_in z ≡ false
-tens z f e =
-    let r = of_z w64 z % 1024 in
-    let read : to_z w64 (bit_and (of_z w64 z) 1023) ≡ pos r =
-    ap (to_z w64) (and_mask (of_z w64 z) 10) ∙ read_count r (omega arith) in
-    tens_kept z f (omega (arith, le_true (pos r) (pos 0) (sym (ap (λ (x : ℤ). le_z x (pos 0)) read) ∙ e)))
+tens : (z : ℤ) → SFits w64 z → eqb (bit_and (of_z w64 z) 1023) 0 ≡ true → lost_in z ≡ false
+tens z f e = tens_kept z f (sym (and_mask (of_z w64 z) 10) ∙ eqb→eq _ _ (is_true _ e))
 
 pub returns-then-o-t : goal.returns-then-o-t
 returns-then-o-t c = let (x, y) = both_true _ _ c.if-o-t.true in
