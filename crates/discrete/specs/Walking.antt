@@ -1,11 +1,11 @@
 -- What the values cursor gives when it is walked. Definitions only.
 use Rattle.std.specs.Prelude.{◌≡◌, true, List, [], ◌∷◌, ℕ, zero, suc, ◌+◌, ◌≤◌, pos}
+use Rattle.std.specs.Prelude.{Option, Some, None, Result, Ok, Err}
+use Rattle.asking.specs.declared.Refusal.{Refusal}
 use Rattle.calendar.specs.Questions.{last_day}
 use Rattle.values.specs.declared.Value.{Value}
 use Rattle.axis.specs.declared.Axis.{Axis}
 use Rattle.discrete.specs.declared.Cursor.{Cursor}
-use Rattle.discrete.specs.declared.StepAnswer.{StepAnswer}
-use Rattle.discrete.specs.declared.StepAnswer.TheVariants as step
 use Rattle.counting.specs.Counting.{monthly, from_day}
 use Rattle.discrete.specs.Indices.{value_at}
 use Rattle.discrete.specs.Answers.{values_answer}
@@ -15,10 +15,10 @@ abbrev pub cursor_at : ℕ → Cursor
 cursor_at i = record { place = pos i }
 
 -- what a step gives, and then the rest of the walk; a step without a value ends it
-abbrev pub onward : (Cursor → List Value) → StepAnswer → List Value
-onward rest (step.Refused q) = []
-onward rest (step.None c) = []
-onward rest (step.At v c) = v ∷ rest c
+abbrev pub onward : (Cursor → List Value) → Result (Option Value × Cursor) Refusal → List Value
+onward rest (Err q) = []
+onward rest (Ok (None, c)) = []
+onward rest (Ok (Some v, c)) = v ∷ rest c
 
 -- the values of at most n steps from c
 abbrev pub walk : Axis → ℕ → Cursor → List Value

@@ -1,13 +1,14 @@
 -- `discrete::january` meets its contract. Assumes nothing.
+use borrow.Author.Rules.{rules}
 use mathlib.Core.Path.{◌≡◌, sym, ◌∙◌, ap}
 use native.Mathlib.Omega.{arith}
 use Prim.Native.Nat.{ℕ, ◌<◌}
 use lib.IntN.{pos}
+use Rattle.std.specs.Prelude.{Ok}
 use Rattle.laws.specs.Numbers.{pos_part}
 use Rattle.calendar.specs.Gregorian.{day_number}
 use Rattle.values.specs.declared.Value.{Value}
 use Rattle.axis.specs.Axes.{start}
-use Rattle.axis.specs.declared.ValueAnswer.TheVariants as value
 use Rattle.values.specs.Values.{midnight}
 use Rattle.axis.specs.Questions.{checked}
 use Rattle.calendar.proofs.Dates.{a_first}
@@ -19,15 +20,17 @@ use Rattle.axis.proofs.Checked.{in_range_law, out_of_range}
 use Rattle.discrete.proofs.january.Goals as goal
 use Rattle.discrete.proofs.january.Goals.{After-day_on}
 
-pub returns-then-year-gt9999 : goal.returns-then-year-gt9999
-returns-then-year-gt9999 c = let a = c.args.a in
+pub returns-in_err-ask : goal.returns-in_err-ask
+returns-in_err-ask c = let a = c.args.a in
     let y = c.args.year in
-    let late : 3652059 < day_number y 1 1 = first_beyond y 1 (omega arith) (omega arith) (omega arith) c.if-year-gt9999.true in
-    out_of_range (midnight (pos (day_number y 1 1))) (day_beyond (day_number y 1 1) late)
-    ∙ ap (λ (v : Value). checked (value.At v)) (sym (january_later a y (omega (arith, (starts a c.requires.0).head_most))))
+    let above : 9999 < y = search rules in
+    let late : 3652059 < day_number y 1 1 = first_beyond y 1 (omega arith) (omega arith) (omega arith) above in
+    let out = out_of_range (midnight (pos (day_number y 1 1))) (day_beyond (day_number y 1 1) late)
+    ∙ ap checked (sym (january_later a y (omega (arith, (starts a c.requires.0).head_most)))) in
+    search rules
 
 pub day_number-day-requires : goal.day_number-day-requires
-day_number-day-requires c = (a_first c.args.year 1 c.requires.1 (omega arith) (omega arith), omega arith)
+day_number-day-requires c = (a_first c.args.year 1 c.requires.1 (omega arith) (omega arith), search rules)
 
 pub day_on-requires : goal.day_on-requires
 day_on-requires c = rw c.start.ensures (is_day_law (start c.args.a) (starts c.args.a c.requires.0))
@@ -37,9 +40,9 @@ start_day c = c.day_on.ensures ∙ ap (λ (v : Value). pos_part v.head) c.start.
 
 pub returns-then-day-day_on : goal.returns-then-day-day_on
 returns-then-day-day_on c = let a = c.args.a in
-    ap value.At c.start-then-day-day_on.ensures
+    ap Ok c.start-then-day-day_on.ensures
     ∙ in_range_law (start a) (is_day_law (start a) (starts a c.requires.0))
-    ∙ ap (λ (v : Value). checked (value.At v))
+    ∙ ap checked
     (sym (january_start a c.args.year (omega (
       arith,
       start_day (goal.at.returns-then-day-day_on c).After-day_on,
@@ -49,6 +52,6 @@ returns-then-day-day_on c = let a = c.args.a in
 pub returns : goal.returns
 returns c = let a = c.args.a in
     c.at_midnight.ensures
-    ∙ ap (λ (k : ℕ). checked (value.At (midnight (pos k)))) c.day_number-day.ensures
-    ∙ ap (λ (v : Value). checked (value.At v))
+    ∙ ap (λ (k : ℕ). checked (midnight (pos k))) c.day_number-day.ensures
+    ∙ ap checked
     (sym (january_later a c.args.year (omega (arith, start_day (goal.at.returns c).After-day_on, c.day_number-day.ensures))))

@@ -5,8 +5,6 @@ use Prim.Native.Nat.{ℕ, ◌+◌, ◌-◌, ◌/◌, ◌%◌}
 use lib.IntN.{pos}
 use Rattle.calendar.specs.declared.Date.{Date}
 use Rattle.calendar.specs.Gregorian.{day_number}
-use Rattle.values.specs.declared.Value.{Value}
-use Rattle.axis.specs.declared.ValueAnswer.TheVariants as value
 use Rattle.values.specs.Values.{midnight}
 use Rattle.axis.specs.Questions.{checked}
 use Rattle.counting.proofs.Counting.{Near, from_range, first_near}
@@ -19,8 +17,8 @@ at_midnight-requires c = omega (arith, c.from_day.ensures, from_range c.args.a c
 
 pub returns-then-i-eq0 : goal.returns-then-i-eq0
 returns-then-i-eq0 c = c.at_midnight.ensures
-    ∙ ap (λ (d : ℕ). checked (value.At (midnight (pos d)))) c.from_day.ensures
-    ∙ ap (λ (v : Value). checked (value.At v)) (sym (month_first c.args.a c.args.i c.if-i-eq0.true))
+    ∙ ap (λ (d : ℕ). checked (midnight (pos d))) c.from_day.ensures
+    ∙ ap checked (sym (month_first c.args.a c.args.i c.if-i-eq0.true))
 
 near : (c : After-first_date-first) → Near c.first_date-first.result 10000
 near c = rw c.first_date-first.ensures (first_near c.args.a c.requires.0)
@@ -41,7 +39,6 @@ month_start-requires c =
 pub returns : goal.returns
 returns c = let i = c.args.i in
     c.month_start.ensures
-    ∙ ap (λ (t : Date). checked
-    (value.At (midnight (pos (day_number (t.year + (i + (t.month - 1)) / 12) ((i + (t.month - 1)) % 12 + 1) 1)))))
+    ∙ ap (λ (t : Date). let k = i + (t.month - 1) in checked (midnight (pos (day_number (t.year + k / 12) (k % 12 + 1) 1))))
     c.first_date-first.ensures
-    ∙ ap (λ (v : Value). checked (value.At v)) (sym (month_later c.args.a i c.if-i-eq0.false))
+    ∙ ap checked (sym (month_later c.args.a i c.if-i-eq0.false))

@@ -1,21 +1,23 @@
 -- `discrete::next_day` meets its contract. Assumes nothing.
+use borrow.Author.Rules.{rules}
 use mathlib.Core.Path.{◌≡◌, sym, ◌∙◌, ap}
 use native.Mathlib.Omega.{arith}
 use Prim.Native.Nat.{ℕ, ◌+◌, ◌-◌, ◌≤◌}
 use lib.IntN.{pos}
+use Rattle.std.specs.Prelude.{Some}
 use Rattle.laws.specs.Numbers.{pos_part}
 use Rattle.values.specs.declared.Value.{Value}
 use Rattle.axis.specs.Axes.{start, end}
-use Rattle.axis.specs.declared.ValueAnswer.TheVariants as value
 use Rattle.counting.specs.Counting.{origin, position}
 use Rattle.values.specs.Values.{midnight}
-use Rattle.axis.specs.Questions.{checked}
+use Rattle.axis.specs.Questions.{checked_if}
 use Rattle.counting.proofs.Counting.{on_day, starts, end_on, is_day_law, origin_days, position_days}
 use Rattle.discrete.proofs.Indices.{value_days}
-use Rattle.axis.proofs.Checked.{no_value}
+use Rattle.axis.proofs.Checked.{no_value, checked_some, checked_refused}
+use Rattle.discrete.specs.Answers.{next_in}
 use Rattle.discrete.proofs.Answers.{next_before, next_end, next_inside}
 use Rattle.discrete.proofs.next_day.Goals as goal
-use Rattle.discrete.proofs.next_day.Goals.{After-day_on, After-day_on-2, After-day_on-at, Else-at-day_on}
+use Rattle.discrete.proofs.next_day.Goals.{After-at_midnight, After-day_on, After-day_on-2, After-day_on-at, Else-at-day_on}
 
 pub day_on-at-requires : goal.day_on-at-requires
 day_on-at-requires c = is_day_law c.args.v (on_day c.args.a c.requires.0 c.args.v c.requires.1)
@@ -32,7 +34,7 @@ from_is c = c.day_on.ensures ∙ ap (λ (v : Value). pos_part v.head) c.start.en
 
 pub returns-then-at-day_on : goal.returns-then-at-day_on
 returns-then-at-day_on c = let x = c.args in
-    no_value ∙ ap checked (sym (next_before x.a x.v (omega (
+    no_value ∙ ap checked_if (sym (next_before x.a x.v (omega (
       arith,
       c.if-at-day_on.true,
       from_is (goal.at.returns-then-at-day_on c).After-day_on,
@@ -59,7 +61,7 @@ from_to c =
 
 pub returns-then-day_on-at : goal.returns-then-day_on-at
 returns-then-day_on-at c = let x = c.args in
-    no_value ∙ ap checked (sym (next_end x.a x.v (from_to (goal.at.returns-then-day_on-at c).Else-at-day_on)
+    no_value ∙ ap checked_if (sym (next_end x.a x.v (from_to (goal.at.returns-then-day_on-at c).Else-at-day_on)
     (omega (
       arith,
       c.if-day_on-at.true,
@@ -67,23 +69,35 @@ returns-then-day_on-at c = let x = c.args in
       at_is (goal.at.returns-then-day_on-at c).After-day_on-at,
     ))))
 
-pub returns : goal.returns
-returns c = let x = c.args in
+-- the value of the next index
+next : (c : After-at_midnight) → checked_if (Some (midnight (pos (c.day_on-at.result + 1))))
+    ≡ checked_if (next_in c.args.a c.args.v)
+next c = let x = c.args in
     let place : c.day_on-at.result + 1 ≡ pos_part x.a.start_head + (position x.a x.v - origin x.a + 1) =
     omega (
       arith,
-      at_is (goal.at.returns c).After-day_on-at,
-      from_to (goal.at.returns c).Else-at-day_on,
+      at_is (goal.at.After-at_midnight c).After-day_on-at,
+      from_to (goal.at.After-at_midnight c).Else-at-day_on,
       origin_days x.a c.requires.2 c.requires.3 c.requires.4,
     ) in
-    c.at_midnight.ensures
-    ∙ ap (λ (k : ℕ). checked (value.At (midnight (pos k)))) place
-    ∙ ap (λ (v : Value). checked (value.At v))
-    (sym (value_days x.a (position x.a x.v - origin x.a + 1) c.requires.2 c.requires.3 c.requires.4))
-    ∙ ap checked (sym (next_inside x.a x.v (from_to (goal.at.returns c).Else-at-day_on)
+    ap checked_if
+    (ap (λ (k : ℕ). Some (midnight (pos k))) place
+    ∙ ap Some (sym (value_days x.a (position x.a x.v - origin x.a + 1) c.requires.2 c.requires.3 c.requires.4))
+    ∙ sym (next_inside x.a x.v (from_to (goal.at.After-at_midnight c).Else-at-day_on)
     (omega (
       arith,
       c.if-day_on-at.false,
-      to_is (goal.at.returns c).After-day_on-2,
-      at_is (goal.at.returns c).After-day_on-at,
+      to_is (goal.at.After-at_midnight c).After-day_on-2,
+      at_is (goal.at.After-at_midnight c).After-day_on-at,
     ))))
+
+pub returns-in_err-at_midnight : goal.returns-in_err-at_midnight
+returns-in_err-at_midnight c = let m = midnight (pos (c.day_on-at.result + 1)) in
+    let e = checked_refused m c.in_err-at_midnight.field-0.0 (sym c.in_err-at_midnight.ensures)
+    ∙ next (goal.at.returns-in_err-at_midnight c).After-at_midnight in
+    search rules
+
+pub returns : goal.returns
+returns c = let m = midnight (pos (c.day_on-at.result + 1)) in
+    checked_some m c.in_ok-at_midnight.field-0 (sym c.in_ok-at_midnight.ensures)
+    ∙ next (goal.at.returns c).After-at_midnight

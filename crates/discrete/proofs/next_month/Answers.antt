@@ -1,23 +1,26 @@
 -- `discrete::next_month` meets its contract. Assumes nothing.
+use borrow.Author.Rules.{rules}
 use mathlib.Core.Path.{◌≡◌, sym, ◌∙◌, ap}
 use native.Mathlib.Omega.{arith}
 use Prim.Native.Nat.{◌+◌, ◌-◌, ◌*◌, ◌/◌, ◌%◌, ◌≤◌}
 use lib.IntN.{pos}
+use Rattle.std.specs.Prelude.{Some}
 use Rattle.calendar.specs.declared.Date.{Date}
 use Rattle.values.specs.declared.Value.{Value}
 use Rattle.calendar.specs.Gregorian.{day_number}
 use Rattle.axis.specs.Axes.{end}
-use Rattle.axis.specs.declared.ValueAnswer.TheVariants as value
 use Rattle.counting.specs.Counting.{first_date, date_on, origin, position}
 use Rattle.values.specs.Values.{midnight}
-use Rattle.axis.specs.Questions.{checked}
+use Rattle.axis.specs.Questions.{checked_if}
 use Rattle.counting.proofs.Counting.{Near, on_day, on_near, first_near, position_most, end_on, is_day_law}
 use Rattle.counting.proofs.Counting.{origin_months, position_months}
 use Rattle.discrete.proofs.Indices.{value_months, month_later}
-use Rattle.axis.proofs.Checked.{no_value}
+use Rattle.axis.proofs.Checked.{no_value, checked_some, checked_refused}
+use Rattle.discrete.specs.Answers.{next_in}
 use Rattle.discrete.proofs.Answers.{next_before, next_end, next_inside}
 use Rattle.discrete.proofs.next_month.Goals as goal
-use Rattle.discrete.proofs.next_month.Goals.{After-first_date-first, After-months_from, After-months_from-at, Else-at-first}
+use Rattle.discrete.proofs.next_month.Goals.{After-first_date-first, After-month_start, After-months_from}
+use Rattle.discrete.proofs.next_month.Goals.{After-months_from-at, Else-at-first}
 
 pub date_on-requires : goal.date_on-requires
 date_on-requires c = is_day_law c.args.v (on_day c.args.a c.requires.0 c.args.v c.requires.1)
@@ -37,7 +40,7 @@ from_is c = ap (λ (t : Date). t.month) c.first_date-first.ensures ∙ sym (orig
 
 pub returns-then-at-first : goal.returns-then-at-first
 returns-then-at-first c = let x = c.args in
-    no_value ∙ ap checked (sym (next_before x.a x.v (omega (
+    no_value ∙ ap checked_if (sym (next_before x.a x.v (omega (
       arith,
       c.if-at-first.true,
       from_is (goal.at.returns-then-at-first c).After-first_date-first,
@@ -69,7 +72,7 @@ to_is c = let last = c.date_on-2.ensures ∙ ap date_on c.end.ensures in
 
 pub returns-then-months_from-at : goal.returns-then-months_from-at
 returns-then-months_from-at c = let x = c.args in
-    no_value ∙ ap checked (sym (next_end x.a x.v (from_to (goal.at.returns-then-months_from-at c).Else-at-first)
+    no_value ∙ ap checked_if (sym (next_end x.a x.v (from_to (goal.at.returns-then-months_from-at c).Else-at-first)
     (omega (
       arith,
       c.if-months_from-at.true,
@@ -96,27 +99,40 @@ pub month_start-requires : goal.month_start-requires
 month_start-requires c =
     (omega (arith, (near (goal.at.month_start-requires c).After-first_date-first).year_least), omega arith, omega arith)
 
-pub returns : goal.returns
-returns c = let x = c.args in
+-- the first of the month at an index, counted from January of the first date's year
+abbrev month : After-month_start → Value
+month c =
+    let k = c.months_from-at.result in midnight (pos (day_number (c.first_date-first.result.year + k / 12) (k % 12 + 1) 1))
+
+-- the value of the next index
+next : (c : After-month_start) → checked_if (Some (month c)) ≡ checked_if (next_in c.args.a c.args.v)
+next c = let x = c.args in
     let i = position x.a x.v - origin x.a + 1 in
     let m = first_date x.a in
     let place : c.months_from-at.result ≡ i + (m.month - 1) =
     omega (
       arith,
-      at_is (goal.at.returns c).After-months_from-at,
-      from_to (goal.at.returns c).Else-at-first,
+      at_is (goal.at.After-month_start c).After-months_from-at,
+      from_to (goal.at.After-month_start c).Else-at-first,
       origin_months x.a c.requires.2,
       (first_near x.a c.requires.0).month_least,
     ) in
-    c.month_start.ensures
-    ∙ (λ j. checked (value.At (midnight (pos (day_number ((c.first_date-first.ensures j).year + place j / 12) (place j % 12 + 1)
-    1)))))
-    ∙ ap (λ (v : Value). checked (value.At v))
-    (sym (value_months x.a i c.requires.2 ∙ month_later x.a i (λ z. let w : ⊥ = omega (arith, z) in w)))
-    ∙ ap checked (sym (next_inside x.a x.v (from_to (goal.at.returns c).Else-at-first)
+    ap checked_if
+    ((λ j. Some (midnight (pos (day_number ((c.first_date-first.ensures j).year + place j / 12) (place j % 12 + 1) 1))))
+    ∙ ap Some (sym (value_months x.a i c.requires.2 ∙ month_later x.a i (λ z. let w : ⊥ = omega (arith, z) in w)))
+    ∙ sym (next_inside x.a x.v (from_to (goal.at.After-month_start c).Else-at-first)
     (omega (
       arith,
       c.if-months_from-at.false,
-      to_is (goal.at.returns c).After-months_from,
-      at_is (goal.at.returns c).After-months_from-at,
+      to_is (goal.at.After-month_start c).After-months_from,
+      at_is (goal.at.After-month_start c).After-months_from-at,
     ))))
+
+pub returns-in_err-month_start : goal.returns-in_err-month_start
+returns-in_err-month_start c = let s = (goal.at.returns-in_err-month_start c).After-month_start in
+    let e = checked_refused (month s) c.in_err-month_start.field-0.0 (sym c.in_err-month_start.ensures) ∙ next s in
+    search rules
+
+pub returns : goal.returns
+returns c = let s = (goal.at.returns c).After-month_start in
+    checked_some (month s) c.in_ok-month_start.field-0 (sym c.in_ok-month_start.ensures) ∙ next s

@@ -1,24 +1,26 @@
 -- `discrete::next_week` meets its contract. Assumes nothing.
+use borrow.Author.Rules.{rules}
 use mathlib.Core.Path.{◌≡◌, sym, ◌∙◌, ap}
 use native.Mathlib.Omega.{arith}
 use Prim.Native.Nat.{ℕ, ◌+◌, ◌-◌, ◌*◌, ◌≤◌}
 use lib.IntN.{pos}
+use Rattle.std.specs.Prelude.{Some}
 use Rattle.laws.specs.Numbers.{pos_part}
 use Rattle.weeks.specs.Weeks.{monday, mondays_to}
 use Rattle.weeks.proofs.Mondays.{mondays_to_law, monday_is}
 use Rattle.values.specs.declared.Value.{Value}
 use Rattle.values.specs.Values.{midnight}
 use Rattle.axis.specs.Axes.{start, end}
-use Rattle.axis.specs.Questions.{checked}
-use Rattle.axis.specs.declared.ValueAnswer.TheVariants as value
-use Rattle.axis.proofs.Checked.{no_value}
+use Rattle.axis.specs.Questions.{checked_if}
+use Rattle.axis.proofs.Checked.{no_value, checked_some, checked_refused}
 use Rattle.counting.specs.Counting.{origin, position}
 use Rattle.counting.proofs.Counting.{on_day, starts, end_on, is_day_law, origin_weeks, position_weeks, position_most}
 use Rattle.discrete.proofs.Indices.{value_weeks, week_later}
+use Rattle.discrete.specs.Answers.{next_in}
 use Rattle.discrete.proofs.Answers.{next_before, next_end, next_inside}
 use Rattle.discrete.proofs.next_week.Goals as goal
-use Rattle.discrete.proofs.next_week.Goals.{After-day_on-2, After-day_on-3, After-mondays_to, After-mondays_to-2}
-use Rattle.discrete.proofs.next_week.Goals.{After-mondays_to-at, Else-at-mondays_to, Start}
+use Rattle.discrete.proofs.next_week.Goals.{After-at_midnight, After-day_on-2, After-day_on-3, After-mondays_to}
+use Rattle.discrete.proofs.next_week.Goals.{After-mondays_to-2, After-mondays_to-at, Else-at-mondays_to, Start}
 
 -- ---- where the value stands
 pub day_on-requires : goal.day_on-requires
@@ -48,7 +50,7 @@ from_is c = c.mondays_to.ensures ∙ ap mondays_to (start_day (goal.at.After-mon
 
 pub returns-then-at-mondays_to : goal.returns-then-at-mondays_to
 returns-then-at-mondays_to c = let x = c.args in
-    no_value ∙ ap checked (sym (next_before x.a x.v (omega (
+    no_value ∙ ap checked_if (sym (next_before x.a x.v (omega (
       arith,
       c.if-at-mondays_to.true,
       from_is (goal.at.returns-then-at-mondays_to c).After-mondays_to,
@@ -91,7 +93,7 @@ from_to c =
 
 pub returns-then-mondays_to-at : goal.returns-then-mondays_to-at
 returns-then-mondays_to-at c = let x = c.args in
-    no_value ∙ ap checked (sym (next_end x.a x.v (from_to (goal.at.returns-then-mondays_to-at c).Else-at-mondays_to)
+    no_value ∙ ap checked_if (sym (next_end x.a x.v (from_to (goal.at.returns-then-mondays_to-at c).Else-at-mondays_to)
     (omega (
       arith,
       c.if-mondays_to-at.true,
@@ -109,28 +111,40 @@ overflow_mul-at c = omega (arith, few (goal.at.overflow_mul-at c).After-mondays_
 pub overflow_add-at : goal.overflow_add-at
 overflow_add-at c = omega (arith, few (goal.at.overflow_add-at c).After-mondays_to-at)
 
-pub returns : goal.returns
-returns c = let x = c.args in
+-- the value of the next index
+next : (c : After-at_midnight) → checked_if (Some (midnight (pos (7 * c.mondays_to-at.result + 1))))
+    ≡ checked_if (next_in c.args.a c.args.v)
+next c = let x = c.args in
     let i = position x.a x.v - origin x.a + 1 in
     let h = pos_part x.a.start_head in
     let place : 7 * c.mondays_to-at.result + 1 ≡ monday h + 7 * i =
     omega (
       arith,
-      at_is (goal.at.returns c).After-mondays_to-at,
-      from_to (goal.at.returns c).Else-at-mondays_to,
+      at_is (goal.at.After-at_midnight c).After-mondays_to-at,
+      from_to (goal.at.After-at_midnight c).Else-at-mondays_to,
       origin_weeks x.a c.requires.2 c.requires.3 c.requires.4,
       mondays_to_law h,
       (starts x.a c.requires.0).head_least,
       monday_is h (starts x.a c.requires.0).head_least,
     ) in
-    c.at_midnight.ensures
-    ∙ ap (λ (k : ℕ). checked (value.At (midnight (pos k)))) place
-    ∙ ap (λ (v : Value). checked (value.At v))
-    (sym (value_weeks x.a i c.requires.2 c.requires.3 c.requires.4 ∙ week_later x.a i (λ z. omega arith)))
-    ∙ ap checked (sym (next_inside x.a x.v (from_to (goal.at.returns c).Else-at-mondays_to)
+    ap checked_if
+    (ap (λ (k : ℕ). Some (midnight (pos k))) place
+    ∙ ap Some (sym (value_weeks x.a i c.requires.2 c.requires.3 c.requires.4 ∙ week_later x.a i (λ z. omega arith)))
+    ∙ sym (next_inside x.a x.v (from_to (goal.at.After-at_midnight c).Else-at-mondays_to)
     (omega (
       arith,
       c.if-mondays_to-at.false,
-      to_is (goal.at.returns c).After-mondays_to-2,
-      at_is (goal.at.returns c).After-mondays_to-at,
+      to_is (goal.at.After-at_midnight c).After-mondays_to-2,
+      at_is (goal.at.After-at_midnight c).After-mondays_to-at,
     ))))
+
+pub returns-in_err-at_midnight : goal.returns-in_err-at_midnight
+returns-in_err-at_midnight c = let m = midnight (pos (7 * c.mondays_to-at.result + 1)) in
+    let e = checked_refused m c.in_err-at_midnight.field-0.0 (sym c.in_err-at_midnight.ensures)
+    ∙ next (goal.at.returns-in_err-at_midnight c).After-at_midnight in
+    search rules
+
+pub returns : goal.returns
+returns c = let m = midnight (pos (7 * c.mondays_to-at.result + 1)) in
+    checked_some m c.in_ok-at_midnight.field-0 (sym c.in_ok-at_midnight.ensures)
+    ∙ next (goal.at.returns c).After-at_midnight

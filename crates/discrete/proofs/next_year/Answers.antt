@@ -1,20 +1,22 @@
 -- `discrete::next_year` meets its contract. Assumes nothing.
+use borrow.Author.Rules.{rules}
 use mathlib.Core.Path.{◌≡◌, sym, ◌∙◌, ap}
 use native.Mathlib.Omega.{arith}
 use Prim.Native.Nat.{ℕ, ◌+◌, ◌-◌, ◌≤◌}
+use Rattle.std.specs.Prelude.{Some}
 use Rattle.calendar.specs.declared.Date.{Date}
-use Rattle.values.specs.declared.Value.{Value}
 use Rattle.axis.specs.Axes.{end}
-use Rattle.axis.specs.declared.ValueAnswer.TheVariants as value
 use Rattle.counting.specs.Counting.{first_date, date_on, origin, position}
 use Rattle.discrete.specs.Indices.{january}
-use Rattle.axis.specs.Questions.{checked}
+use Rattle.axis.specs.Questions.{checked_if}
 use Rattle.counting.proofs.Counting.{on_day, end_on, is_day_law, origin_years, position_years}
 use Rattle.discrete.proofs.Indices.{value_years}
-use Rattle.axis.proofs.Checked.{no_value}
+use Rattle.axis.proofs.Checked.{no_value, checked_some, checked_refused}
+use Rattle.discrete.specs.Answers.{next_in}
 use Rattle.discrete.proofs.Answers.{next_before, next_end, next_inside}
 use Rattle.discrete.proofs.next_year.Goals as goal
-use Rattle.discrete.proofs.next_year.Goals.{After-date_on-date, After-date_on-last, After-first_date-first, Else-date-first}
+use Rattle.discrete.proofs.next_year.Goals.{After-date_on-date, After-date_on-last, After-first_date-first}
+use Rattle.discrete.proofs.next_year.Goals.{After-january, Else-date-first}
 
 pub date_on-date-requires : goal.date_on-date-requires
 date_on-date-requires c = is_day_law c.args.v (on_day c.args.a c.requires.0 c.args.v c.requires.1)
@@ -27,7 +29,7 @@ at_is c = ap (λ (t : Date). t.year) c.date_on-date.ensures ∙ sym (position_ye
 
 pub returns-then-date-first : goal.returns-then-date-first
 returns-then-date-first c = let x = c.args in
-    no_value ∙ ap checked (sym (next_before x.a x.v (omega (
+    no_value ∙ ap checked_if (sym (next_before x.a x.v (omega (
       arith,
       c.if-date-first.true,
       from_is (goal.at.returns-then-date-first c).After-first_date-first,
@@ -53,7 +55,7 @@ to_is c = ap (λ (t : Date). t.year) (c.date_on-last.ensures ∙ ap date_on c.en
 
 pub returns-then-last-date : goal.returns-then-last-date
 returns-then-last-date c = let x = c.args in
-    no_value ∙ ap checked (sym (next_end x.a x.v (from_to (goal.at.returns-then-last-date c).Else-date-first)
+    no_value ∙ ap checked_if (sym (next_end x.a x.v (from_to (goal.at.returns-then-last-date c).Else-date-first)
     (omega (
       arith,
       c.if-last-date.true,
@@ -61,23 +63,34 @@ returns-then-last-date c = let x = c.args in
       at_is (goal.at.returns-then-last-date c).After-date_on-date,
     ))))
 
-pub returns : goal.returns
-returns c = let x = c.args in
+-- the value of the next index
+next : (c : After-january) → checked_if (Some (january c.args.a (c.date_on-date.result.year + 1)))
+    ≡ checked_if (next_in c.args.a c.args.v)
+next c = let x = c.args in
     let place : c.date_on-date.result.year + 1 ≡ (first_date x.a).year + (position x.a x.v - origin x.a + 1) =
     omega (
       arith,
-      at_is (goal.at.returns c).After-date_on-date,
-      from_to (goal.at.returns c).Else-date-first,
+      at_is (goal.at.After-january c).After-date_on-date,
+      from_to (goal.at.After-january c).Else-date-first,
       origin_years x.a c.requires.2 c.requires.3,
     ) in
-    c.january.ensures
-    ∙ ap (λ (y : ℕ). checked (value.At (january x.a y))) place
-    ∙ ap (λ (v : Value). checked (value.At v))
-    (sym (value_years x.a (position x.a x.v - origin x.a + 1) c.requires.2 c.requires.3))
-    ∙ ap checked (sym (next_inside x.a x.v (from_to (goal.at.returns c).Else-date-first)
+    ap checked_if
+    (ap (λ (y : ℕ). Some (january x.a y)) place
+    ∙ ap Some (sym (value_years x.a (position x.a x.v - origin x.a + 1) c.requires.2 c.requires.3))
+    ∙ sym (next_inside x.a x.v (from_to (goal.at.After-january c).Else-date-first)
     (omega (
       arith,
       c.if-last-date.false,
-      to_is (goal.at.returns c).After-date_on-last,
-      at_is (goal.at.returns c).After-date_on-date,
+      to_is (goal.at.After-january c).After-date_on-last,
+      at_is (goal.at.After-january c).After-date_on-date,
     ))))
+
+pub returns-in_err-january : goal.returns-in_err-january
+returns-in_err-january c = let v = january c.args.a (c.date_on-date.result.year + 1) in
+    let e = checked_refused v c.in_err-january.field-0.0 (sym c.in_err-january.ensures)
+    ∙ next (goal.at.returns-in_err-january c).After-january in
+    search rules
+
+pub returns : goal.returns
+returns c = let v = january c.args.a (c.date_on-date.result.year + 1) in
+    checked_some v c.in_ok-january.field-0 (sym c.in_ok-january.ensures) ∙ next (goal.at.returns c).After-january

@@ -1,28 +1,29 @@
 -- `discrete::size` meets its contract. Assumes nothing.
+use borrow.Author.Rules.{rules}
 use mathlib.Core.Path.{◌≡◌, sym, ◌∙◌, ap}
-use Rattle.laws.specs.Asking.{first_no}
-use Rattle.discrete.specs.declared.NumberAnswer.TheVariants as number
+use mathlib.Core.Bool.{true}
+use Rattle.std.specs.Prelude.{Ok}
+use Rattle.asking.specs.Asking.{passes}
+use Rattle.asking.proofs.Asked.{all_pass, passed}
+use Rattle.axis.specs.Axes.{closed}
 use Rattle.counting.specs.Counting.{size_of}
 use Rattle.discrete.specs.Answers.{size_questions, size_answer}
-use Rattle.laws.proofs.Asked.{refused_by, passed_by}
-use Rattle.axis.specs.Axes.{closed}
 use Rattle.discrete.proofs.Answers.{counted}
 use Rattle.discrete.proofs.size.Goals as goal
-use Rattle.discrete.proofs.size.Goals.{Else-q-ne0}
+use Rattle.discrete.proofs.size.Goals.{In_ok-ask_size}
 
-pub returns-then-q-ne0 : goal.returns-then-q-ne0
+pub returns-in_err-ask_size : goal.returns-in_err-ask_size
 unfolding size_answer
-returns-then-q-ne0 c = refused_by number.Refused (number.Is (size_of (closed c.args.a))) (size_questions c.args.a)
-    c.size_refusal-q.result c.size_refusal-q.ensures c.if-q-ne0.true
+returns-in_err-ask_size c = search rules
 
-none : (c : Else-q-ne0) → first_no (size_questions c.args.a) ≡ 0
-none c = sym c.size_refusal-q.ensures ∙ c.if-q-ne0.false
+pass : (c : In_ok-ask_size) → passes (size_questions c.args.a) ≡ true
+pass c = all_pass (size_questions c.args.a) tt (sym c.ask_size.ensures ∙ c.in_ok-ask_size.was)
 
 pub size_of-requires : goal.size_of-requires
-size_of-requires c = rw c.closed.ensures (counted c.args.a (none (goal.at.size_of-requires c).Else-q-ne0))
+size_of-requires c = rw c.closed.ensures (counted c.args.a (pass (goal.at.size_of-requires c).In_ok-ask_size))
 
 pub returns : goal.returns
 unfolding size_answer
 returns c = let a = c.args.a in
-    ap number.Is (c.size_of.ensures ∙ ap size_of c.closed.ensures)
-    ∙ passed_by number.Refused (number.Is (size_of (closed a))) (size_questions a) (none (goal.at.returns c).Else-q-ne0)
+    ap Ok (c.size_of.ensures ∙ ap size_of c.closed.ensures)
+    ∙ passed (size_questions a) (Ok (size_of (closed a))) (pass (goal.at.returns c).In_ok-ask_size)

@@ -7,7 +7,6 @@ use lib.IntN.{pos}
 use Rattle.laws.specs.Numbers.{pos_part}
 use Rattle.values.specs.declared.Value.{Value}
 use Rattle.axis.specs.Axes.{start}
-use Rattle.axis.specs.declared.ValueAnswer.TheVariants as value
 use Rattle.counting.specs.Counting.{monthly, yearly, weekly}
 use Rattle.values.specs.Values.{midnight}
 use Rattle.axis.specs.Questions.{checked}
@@ -22,12 +21,12 @@ not_months c = sym c.monthly.ensures ∙ c.if-monthly.false
 pub returns-then-monthly : goal.returns-then-monthly
 returns-then-monthly c = let s = c.args in
     let m : monthly s.a ≡ true = sym c.monthly.ensures ∙ c.if-monthly.true in
-    c.month_at.ensures ∙ ap (λ (v : Value). checked (value.At v)) (sym (value_months s.a s.i m))
+    c.month_at.ensures ∙ ap checked (sym (value_months s.a s.i m))
 
 pub returns-then-yearly : goal.returns-then-yearly
 returns-then-yearly c = let s = c.args in
     let y : yearly s.a ≡ true = sym c.yearly.ensures ∙ c.if-yearly.true in
-    c.year_at.ensures ∙ ap (λ (v : Value). checked (value.At v))
+    c.year_at.ensures ∙ ap checked
     (sym (value_years s.a s.i (not_months (goal.at.returns-then-yearly c).Else-monthly) y))
 
 not_years : (c : Else-yearly) → yearly c.args.a ≡ false
@@ -37,7 +36,7 @@ pub returns-then-weekly : goal.returns-then-weekly
 returns-then-weekly c = let s = c.args in
     let w : weekly s.a ≡ true = sym c.weekly.ensures ∙ c.if-weekly.true in
     c.week_at.ensures
-    ∙ ap (λ (v : Value). checked (value.At v)) (sym (value_weeks s.a s.i (not_months (goal.at.returns-then-weekly c).Else-monthly)
+    ∙ ap checked (sym (value_weeks s.a s.i (not_months (goal.at.returns-then-weekly c).Else-monthly)
     (not_years (goal.at.returns-then-weekly c).Else-yearly) w))
 
 pub day_on-requires : goal.day_on-requires
@@ -57,6 +56,6 @@ pub returns : goal.returns
 returns c = let s = c.args in
     let w : weekly s.a ≡ false = sym c.weekly.ensures ∙ c.if-weekly.false in
     c.at_midnight.ensures
-    ∙ ap (λ (k : ℕ). checked (value.At (midnight (pos (k + s.i))))) (start_day (goal.at.returns c).After-day_on)
-    ∙ ap (λ (v : Value). checked (value.At v)) (sym (value_days s.a s.i (not_months (goal.at.returns c).Else-monthly)
+    ∙ ap (λ (k : ℕ). checked (midnight (pos (k + s.i)))) (start_day (goal.at.returns c).After-day_on)
+    ∙ ap checked (sym (value_days s.a s.i (not_months (goal.at.returns c).Else-monthly)
     (not_years (goal.at.returns c).Else-yearly) w))

@@ -1,13 +1,29 @@
 -- `discrete::value_in` meets its contract. Assumes nothing.
-use mathlib.Core.Path.{sym, ◌∙◌, ap}
+use borrow.Author.Rules.{rules}
+use mathlib.Core.Path.{◌≡◌, sym, ◌∙◌, ap}
 use native.Mathlib.Omega.{arith}
-use Rattle.axis.specs.Questions.{checked}
-use Rattle.axis.proofs.Checked.{no_value}
+use Rattle.std.specs.Prelude.{Some}
+use Rattle.axis.specs.Questions.{checked_if}
+use Rattle.axis.proofs.Checked.{no_value, checked_some, checked_refused}
+use Rattle.discrete.specs.Indices.{value_at}
+use Rattle.discrete.specs.Answers.{value_in}
 use Rattle.discrete.proofs.Answers.{value_none, value_is}
 use Rattle.discrete.proofs.value_in.Goals as goal
+use Rattle.discrete.proofs.value_in.Goals.{After-value_at}
 
-pub returns-then-i-size_of : goal.returns-then-i-size_of
-returns-then-i-size_of c = c.value_at.ensures ∙ ap checked (sym (value_is c.args.a c.args.i (omega (arith, c.size_of.ensures))))
+pub returns-then-size_of-i : goal.returns-then-size_of-i
+returns-then-size_of-i c =
+    no_value ∙ ap checked_if (sym (value_none c.args.a c.args.i (omega (arith, c.size_of.ensures, c.if-size_of-i.true))))
+
+next : (c : After-value_at) → checked_if (Some (value_at c.args.a c.args.i)) ≡ checked_if (value_in c.args.a c.args.i)
+next c = ap checked_if (sym (value_is c.args.a c.args.i (omega (arith, c.size_of.ensures, c.if-size_of-i.false))))
+
+pub returns-in_err-value_at : goal.returns-in_err-value_at
+returns-in_err-value_at c = let v = value_at c.args.a c.args.i in
+    let e = checked_refused v c.in_err-value_at.field-0.0 (sym c.in_err-value_at.ensures)
+    ∙ next (goal.at.returns-in_err-value_at c).After-value_at in
+    search rules
 
 pub returns : goal.returns
-returns c = no_value ∙ ap checked (sym (value_none c.args.a c.args.i (omega (arith, c.size_of.ensures))))
+returns c = let v = value_at c.args.a c.args.i in
+    checked_some v c.in_ok-value_at.field-0 (sym c.in_ok-value_at.ensures) ∙ next (goal.at.returns c).After-value_at

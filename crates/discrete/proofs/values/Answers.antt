@@ -1,46 +1,59 @@
 -- `discrete::values` meets its contract. Assumes nothing.
 use borrow.Author.Rules.{rules}
-use mathlib.Core.Path.{sym, ◌∙◌, ap}
+use mathlib.Core.Path.{◌≡◌, sym, ◌∙◌, ap}
 use mir.Syntax.{w64}
 use mir.Val.{SFits}
 use mir.Facts.{to_z-of_z}
+use Rattle.std.specs.Prelude.{Option, Result, Ok, Err}
 use Rattle.laws.specs.Numbers.{pos_part}
+use Rattle.asking.specs.declared.Refusal.{Refusal}
+use Rattle.asking.proofs.Asked.{refused, passed}
+use Rattle.values.specs.declared.Value.{Value}
 use Rattle.axis.specs.Axes.{closed}
-use Rattle.axis.specs.Questions.{checked}
-use Rattle.axis.proofs.Checked.{value_refused, passed}
-use Rattle.discrete.specs.Answers.{index_questions, Indexed, IndexAsked, value_in, stepped, values_answer}
+use Rattle.axis.specs.Questions.{checked_if}
+use Rattle.discrete.specs.Answers.{index_questions, value_in, stepped, values_answer}
+use Rattle.discrete.proofs.Answers.{Indexed, index_asked}
 use Rattle.discrete.proofs.values.Goals as goal
-use Rattle.discrete.proofs.values.Goals.{After-asked_index-k, Else-k-ne0, Start}
+use Rattle.discrete.proofs.values.Goals.{After-value_in, In_ok-k, Start}
 
 place_fits : (c : Start) → SFits w64 c.args.c.place
 place_fits c = search rules
 
-asked_of : (c : After-asked_index-k) → let x = c.args in
-    IndexAsked x.a x.c.place c.asked_index-k.result
-asked_of c = rw (to_z-of_z (place_fits (goal.at.After-asked_index-k c).Start)) at c.asked_index-k.ensures
-
-pub returns-then-k-ne0 : goal.returns-then-k-ne0
+pub returns-in_err-k : goal.returns-in_err-k
 unfolding values_answer
-returns-then-k-ne0 c = let x = c.args in
-    ap (stepped x.c) (value_refused (index_questions x.a x.c.place) c.asked_index-k.result.refusal
-    (value_in (closed x.a) (pos_part x.c.place)) (asked_of (goal.at.returns-then-k-ne0 c).After-asked_index-k).refusal
-    c.if-k-ne0.true)
+returns-in_err-k c = let x = c.args in
+    let h = rw (to_z-of_z (place_fits (goal.at.returns-in_err-k c).Start)) at c.in_err-k.ensures in
+    let e = ap (stepped x.c) (refused (index_questions x.a x.c.place) (pos_part x.c.place)
+    (checked_if (value_in (closed x.a) (pos_part x.c.place))) c.in_err-k.field-0.0 (sym h)) in
+    search rules
 
-indexed : (c : Else-k-ne0) → let x = c.args in
-    Indexed x.a x.c.place c.asked_index-k.result.index
-indexed c = (asked_of (goal.at.Else-k-ne0 c).After-asked_index-k).indexed c.if-k-ne0.false
+indexed : (c : In_ok-k) → Indexed c.args.a c.args.c.place c.in_ok-k.k
+indexed c = index_asked c.args.a c.args.c.place c.in_ok-k.k
+    (rw (to_z-of_z (place_fits (goal.at.In_ok-k c).Start)) at (sym c.in_ok-k.ensures))
 
 pub value_in-requires : goal.value_in-requires
-value_in-requires c = (rw c.closed.ensures (indexed (goal.at.value_in-requires c).Else-k-ne0).dated, (indexed (goal.at.value_in-requires c).Else-k-ne0).most)
+value_in-requires c = let k = indexed (goal.at.value_in-requires c).In_ok-k in (rw c.closed.ensures k.dated, k.most)
 
-pub stepped-requires : goal.stepped-requires
-stepped-requires c = (indexed (goal.at.stepped-requires c).Else-k-ne0).index
-
-pub returns : goal.returns
+-- a step from the value at the place
+step_is : (c : After-value_in) (r : Result (Option Value) Refusal) → r ≡ checked_if (value_in c.closed.result c.in_ok-k.k) →
+    stepped c.args.c r ≡ values_answer c.args.a c.args.c
 unfolding values_answer
-returns c = let x = c.args in
-    c.stepped.ensures
-    ∙ ap (stepped x.c) (c.value_in.ensures
-    ∙ (λ j. checked (value_in (c.closed.ensures j) ((indexed (goal.at.returns c).Else-k-ne0).count j)))
-    ∙ sym (passed (index_questions x.a x.c.place) (value_in (closed x.a) (pos_part x.c.place))
-    (sym (asked_of (goal.at.returns c).After-asked_index-k).refusal ∙ c.if-k-ne0.false)))
+step_is c r e = let x = c.args in
+    let k = indexed (goal.at.After-value_in c).In_ok-k in
+    ap (stepped x.c) (e ∙ (λ j. checked_if (value_in (c.closed.ensures j) (k.count j)))
+    ∙ passed (index_questions x.a x.c.place) (checked_if (value_in (closed x.a) (pos_part x.c.place))) k.row)
+
+pub returns-in_err-v : goal.returns-in_err-v
+returns-in_err-v c =
+    let e = step_is (goal.at.returns-in_err-v c).After-value_in (Err c.in_err-v.field-0.0) c.in_err-v.ensures in search rules
+
+pub returns-in-Some : goal.returns-in-Some
+returns-in-Some c =
+    let e = step_is (goal.at.returns-in-Some c).After-value_in (Ok c.in_ok-v.field-0) c.in_ok-v.ensures in
+    let next = rw c.in-Some.is at e in
+    search rules
+
+pub returns-in-None : goal.returns-in-None
+returns-in-None c =
+    let e = step_is (goal.at.returns-in-None c).After-value_in (Ok c.in_ok-v.field-0) c.in_ok-v.ensures in
+    rw c.in-None.is at e

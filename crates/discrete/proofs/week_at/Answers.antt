@@ -3,6 +3,7 @@ use mathlib.Core.Path.{◌≡◌, sym, ◌∙◌, ap}
 use native.Mathlib.Omega.{arith}
 use Prim.Native.Nat.{ℕ, ◌+◌, ◌*◌, ◌≤◌}
 use lib.IntN.{pos}
+use Rattle.std.specs.Prelude.{Ok}
 use Rattle.laws.specs.Numbers.{pos_part}
 use Rattle.weeks.specs.Weeks.{monday}
 use Rattle.weeks.proofs.Mondays.{monday_is}
@@ -10,7 +11,6 @@ use Rattle.values.specs.declared.Value.{Value}
 use Rattle.values.specs.Values.{midnight}
 use Rattle.axis.specs.Axes.{start}
 use Rattle.axis.specs.Questions.{checked}
-use Rattle.axis.specs.declared.ValueAnswer.TheVariants as value
 use Rattle.axis.proofs.Checked.{in_range_law}
 use Rattle.counting.proofs.Counting.{starts, is_day_law}
 use Rattle.discrete.proofs.Indices.{week_first, week_later}
@@ -19,9 +19,9 @@ use Rattle.discrete.proofs.week_at.Goals.{After-day_on, After-monday, Start}
 
 pub returns-then-i-eq0 : goal.returns-then-i-eq0
 returns-then-i-eq0 c = let a = c.args.a in
-    ap value.At c.start-start.ensures
+    ap Ok c.start-start.ensures
     ∙ in_range_law (start a) (is_day_law (start a) (starts a c.requires.0))
-    ∙ ap (λ (v : Value). checked (value.At v)) (sym (week_first a c.args.i c.if-i-eq0.true))
+    ∙ ap checked (sym (week_first a c.args.i c.if-i-eq0.true))
 
 pub day_on-requires : goal.day_on-requires
 day_on-requires c = rw c.start-start.ensures (is_day_law (start c.args.a) (starts c.args.a c.requires.0))
@@ -57,6 +57,6 @@ pub returns : goal.returns
 returns c = let a = (s (goal.at.returns c).After-day_on).args.a in
     let i = (s (goal.at.returns c).After-day_on).args.i in
     c.at_midnight.ensures
-    ∙ ap (λ (k : ℕ). checked (value.At (midnight (pos (k + 7 * i)))))
+    ∙ ap (λ (k : ℕ). checked (midnight (pos (k + 7 * i))))
     (c.monday.ensures ∙ ap monday (start_day (goal.at.returns c).After-day_on))
-    ∙ ap (λ (v : Value). checked (value.At v)) (sym (week_later a i c.if-i-eq0.false))
+    ∙ ap checked (sym (week_later a i c.if-i-eq0.false))
