@@ -7,10 +7,10 @@ use native.Mathlib.Nat.{div-one, mod-one, zero-mul, div-eq_of_lt, mod-eq_of_lt, 
 use native.Mathlib.Nat.{mul-add-mod_self_right, div-lt_iff_lt-mul}
 use native.Mathlib.Decide.{dec_le}
 use native.Mathlib.Omega.{arith}
-use lib.Dec.{ltb}
 use lib.IntN.{ℤ, pos, negsuc, ◌+ℤ◌, ◌-ℤ◌, ◌*ℤ◌, +ℤ_idr}
 use lib.Signed.{mag, lt_z, le_z}
-use borrow.Author.Tests.{ltb-true, ltb-false, not-true}
+use borrow.Author.Tests.{not-true}
+use Rattle.std.specs.Prelude.{Option, Some, None}
 use Rattle.laws.specs.Numbers.{pos_part, neg_part}
 use Rattle.laws.specs.Units.{per_second, per_day, seconds_per_day}
 use Rattle.laws.proofs.Signed.{add, sub, same, lt_false, pos_up}
@@ -35,7 +35,6 @@ use Rattle.period.specs.Ladders.{first_fit}
 use Rattle.period.specs.Periods.{period_of}
 use Rattle.period.proofs.Fits.{fit_above, fit_most, fit_room}
 use Rattle.period.proofs.Periods as periods
-use Rattle.period.proofs.Periods.{period_room}
 use Rattle.steps.specs.declared.Steps.{Steps}
 use Rattle.steps.specs.Months.{first_day}
 use Rattle.steps.specs.Progression.{fitting, tick_of_number, ticks, Sound}
@@ -49,13 +48,13 @@ use Rattle.plans.specs.Weeks.{weeks_by, week_plan}
 use Rattle.plans.specs.Months.{from_month, to_month, year_step, month_step, months_by, month_plan, year_plan}
 use Rattle.plans.specs.Times.{period_in, shift, time_plan, Timed, first_second, seconds_left}
 use Rattle.plans.specs.Times.{span_days_plan, Long}
-use Rattle.plans.specs.Plans.{Accepted, period_plan, plan_of}
+use Rattle.plans.specs.Plans.{Accepted, plan_by, period_plan, plan_of}
 use Rattle.plans.proofs.Cases.{choose, by_test}
 use Rattle.plans.proofs.Days.{step_wide, days_kept}
 use Rattle.plans.proofs.Weeks.{week_wide, weeks_kept}
 use Rattle.plans.proofs.Months.{Wide, last_month, first_month, last_most, first_most, year_wide, month_wide, months_kept}
 use Rattle.plans.proofs.Plans.{four_or_seven}
-use Rattle.plans.proofs.Spans.{start_duration, end_duration, shift_small, no_period, some_period, timed, long}
+use Rattle.plans.proofs.Spans.{start_duration, end_duration, shift_small, no_period, some_period, spaced_out, timed, long}
 use Rattle.plans.proofs.Spans.{from, to, begins, not_fitting, left_dn, left_small, left_most, left_last}
 use Rattle.plans.proofs.Spans.{total_range}
 
@@ -319,20 +318,16 @@ module _ (a : Axis) (n k per x : ℕ) (t : Timed a k) (c : Counts a per) (few : 
             (not_earlier even (e - 1) e above (omega arith)));
       }
 
-module _ (a : Axis) (n : ℕ) (q : Accepted a n) (some : 1 ≤ n) (h : 0 < period_in a n) where
+module _ (a : Axis) (n : ℕ) (q : Accepted a n) (some : 1 ≤ n) (k : ℕ) (h : period_in a n ≡ Some k) where
   -- less than n + 1 periods
-  pub few_periods : pos_part (span_of a) < (n + 1) * period_in a n
-  few_periods =
-      let t = timed a n q some h in
-      let e = some_period a n t.fits in
-      let s = fits_range (span_of a) t.fits in
-      rw e at (period_room (pos_part (span_of a)) n (not (is_duration a.kind)) (omega arith) some q.most (rw (← e) at h))
+  pub few_periods : pos_part (span_of a) < (n + 1) * k
+  few_periods = omega (arith, (spaced_out a n q some k h).room)
 
-  time_good : Good a n (time_plan a (period_in a n))
+  time_good : Good a n (time_plan a k)
   unfolding time_plan
   time_good =
-      let k = period_in a n in
-      even_good a n k (unit a.kind) (shift a k) (timed a n q some h) (counts a q.real) few_periods (shift_small a k h)
+      let t = timed a n q some k h in
+      even_good a n k (unit a.kind) (shift a k) t (counts a q.real) few_periods (shift_small a k t.above)
 
 -- ---- whole days of a long duration
 module _ (a : Axis) (n : ℕ) (l : Long a) where
@@ -400,20 +395,20 @@ module _ (a : Axis) (n : ℕ) (q : Accepted a n) (some : 1 ≤ n) (d : is_durati
   period_is : fits_i64 (span_of a) ≡ true → period_of (pos_part (span_of a)) n true ≡ period_in a n
   period_is e = let s : not (is_duration a.kind) ≡ true = rw d in rw s at (some_period a n e)
 
-  pub from_none : period_in a n ≤ 0 → 10 ^ 14 * n ≤ pos_part (span_of a)
+  pub from_none : period_in a n ≡ None → 10 ^ 14 * n ≤ pos_part (span_of a)
   from_none h = by_test (fits_i64 (span_of a))
       (λ e. let r = fits_range (span_of a) e in
-      periods.from_none (pos_part (span_of a)) n (omega arith) some q.most (omega (arith, period_is e)))
+      periods.from_none (pos_part (span_of a)) n (omega arith) some q.most (period_is e ∙ h))
       (λ e. omega (arith, not_fitting (span_of a) (span_from_0 a q.real q.order) e, q.most))
 
-  pub none_from : 10 ^ 14 * n ≤ pos_part (span_of a) → 0 ≡ period_in a n
+  pub none_from : 10 ^ 14 * n ≤ pos_part (span_of a) → None ≡ period_in a n
   none_from h = by_test (fits_i64 (span_of a))
       (λ e. let r = fits_range (span_of a) e in
       periods.none_from (pos_part (span_of a)) n (omega arith) some q.most h ∙ period_is e)
       (λ e. no_period a n e)
 
   -- so that a whole day lies between the ends
-  pub day_order : period_in a n ≤ 0 → from_day a ≤ to_day a
+  pub day_order : period_in a n ≡ None → from_day a ≤ to_day a
   day_order h =
       let c = counts a q.real in
       let dated : Dated a = record { real = q.real; dates = d } in
@@ -433,11 +428,13 @@ module _ (a : Axis) (n : ℕ) (q : Accepted a n) where
 
   period_good : 1 ≤ n → Good a n (period_plan a n)
   unfolding period_plan
-  period_good some =
-      choose (Good a n) (ltb 0 (period_in a n)) (λ h. time_good a n q some (ltb-true 0 (period_in a n) h))
-      (λ h. let none = ltb-false 0 (period_in a n) h in
-      choose (Good a n) (is_duration a.kind) (λ d. long_good a n (long a n q some d none))
-      (λ d. day_good a n (dated d) (day_order a n q some d none)))
+  period_good some = by_period (period_in a n) refl
+    where
+      by_period : (p : Option ℕ) → period_in a n ≡ p → Good a n (plan_by a n p)
+      by_period (Some k) h = time_good a n q some k h
+      by_period None h =
+          choose (Good a n) (is_duration a.kind) (λ d. long_good a n (long a n q some d h))
+          (λ d. day_good a n (dated d) (day_order a n q some d h))
 
   pub plan_good : Good a n (plan_of a n)
   unfolding plan_of

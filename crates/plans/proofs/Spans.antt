@@ -2,13 +2,13 @@
 use mathlib.Core.Path.{◌≡◌, refl, sym, ◌∙◌, ap}
 use mathlib.Core.Bool.{Bool, true, false, cond, not, true≢false}
 use Prim.Native.Nat.{ℕ, ◌+◌, ◌*◌, ◌≤◌, ◌<◌}
-use native.Mathlib.Nat.{lt_irrefl}
 use native.Mathlib.Decide.{dec_le}
 use native.Mathlib.Omega.{arith}
 use lib.IntN.{ℤ, pos, ◌+ℤ◌, ◌-ℤ◌, ◌*ℤ◌}
 use lib.Signed.{lt_z}
 use mir.Syntax.{w64}
 use mir.Val.{SFits}
+use Rattle.std.specs.Prelude.{Some, None, is_some}
 use Rattle.laws.specs.Numbers.{pos_part, neg_part}
 use Rattle.laws.specs.Units.{per_second, per_day}
 use Rattle.laws.proofs.Signed.{add, sub, mul_up, mul_dn, quot_up, quot_dn, fits, is_ge}
@@ -27,7 +27,8 @@ use Rattle.axis.proofs.Axes.{both_ends, span_from_0, equal}
 use Rattle.axis.proofs.Questions.{of_seven, near_where_fits, near_range}
 use Rattle.laws.proofs.Tests.{bit}
 use Rattle.period.specs.Periods.{period_of, power_of}
-use Rattle.period.proofs.Periods.{any_step, period_above, period_fits}
+use Rattle.period.proofs.Periods as period
+use Rattle.period.proofs.Periods.{any_step, Spaced, spaced}
 use Rattle.plans.specs.Times.{shift, period_in, Timed, first_second, seconds_left, Long}
 use Rattle.plans.specs.Plans.{Accepted}
 use Rattle.plans.proofs.Cases.{choose, by_test}
@@ -66,7 +67,7 @@ shift_small a k p =
 
 -- ---- the period
 module _ (a : Axis) (n : ℕ) where
-  pub no_period : fits_i64 (span_of a) ≡ false → 0 ≡ period_in a n
+  pub no_period : fits_i64 (span_of a) ≡ false → None ≡ period_in a n
   unfolding period_in
   no_period e = rw e
 
@@ -74,35 +75,43 @@ module _ (a : Axis) (n : ℕ) where
   unfolding period_in
   some_period e = rw e
 
+  -- a period says that the span fits
+  pub fitting_span : (k : ℕ) → period_in a n ≡ Some k → fits_i64 (span_of a) ≡ true
+  fitting_span k e = by_test (fits_i64 (span_of a)) (λ f. f) (λ f. absurd (let z = no_period f in let w : ⊥ = cc in w))
+
   module _ (q : Accepted a n) (some : 1 ≤ n) where
-    pub timed : 0 < period_in a n → Timed a (period_in a n)
-    timed h =
-        let f = by_test (fits_i64 (span_of a)) (λ e. e) (λ e. absurd (lt_irrefl 0 (rw (← no_period e) at h))) in
+    -- less than n + 1 of it are in the span
+    pub spaced_out : (k : ℕ) → period_in a n ≡ Some k → Spaced (pos_part (span_of a)) n k
+    spaced_out k e =
+        let f = fitting_span k e in
         let (x, y) = fits_range (span_of a) f in
+        spaced (pos_part (span_of a)) n (not (is_duration a.kind)) (omega arith) some q.most k (some_period f ∙ e)
+
+    pub timed : (k : ℕ) → period_in a n ≡ Some k → Timed a k
+    timed k e =
+        let s = spaced_out k e in
         record {
           real = q.real;
           order = q.order;
           near = q.near;
-          fits = f;
-          above = h;
-          small = rw (some_period f) at (period_fits (pos_part (span_of a)) n (not (is_duration a.kind)) (omega arith) some
-              q.most);
+          fits = fitting_span k e;
+          above = s.above;
+          small = s.fits;
         }
 
     -- a duration whose span fits has a period
-    short : fits_i64 (span_of a) ≡ true → is_duration a.kind ≡ true → 0 < period_in a n
+    short : fits_i64 (span_of a) ≡ true → is_duration a.kind ≡ true → is_some (period_in a n) ≡ true
     short e d =
-        let (x, y) = fits_range (span_of a) e in
         let s : not (is_duration a.kind) ≡ false = rw d in
-        rw (some_period e) at (period_above (pos_part (span_of a)) n (not (is_duration a.kind)) (omega arith) some q.most
+        rw (some_period e) at (period.some_period (pos_part (span_of a)) n (not (is_duration a.kind))
         (any_step (power_of (pos_part (span_of a)) n) (not (is_duration a.kind)) s))
 
-    pub long : is_duration a.kind ≡ true → period_in a n ≤ 0 → Long a
+    pub long : is_duration a.kind ≡ true → period_in a n ≡ None → Long a
     long d h = record {
       real = q.real;
       order = q.order;
       duration = d;
-      beyond = by_test (fits_i64 (span_of a)) (λ e. absurd (let z : ⊥ = omega (arith, short e d) in z)) (λ e. e);
+      beyond = by_test (fits_i64 (span_of a)) (λ e. absurd (let t = rw h at (short e d) in let z : ⊥ = cc in z)) (λ e. e);
     }
 
 -- ---- whole days of a duration

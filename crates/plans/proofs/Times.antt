@@ -1,14 +1,14 @@
 -- The shift to the first tick, by the code's tests, and durations counted from zero. Assumes nothing.
 use mathlib.Core.Path.{◌≡◌, refl}
 use mathlib.Core.Bool.{true, false}
-use Prim.Native.Nat.{ℕ, zero, suc, ◌-◌, ◌%◌, ◌^◌, ◌≤◌, ◌<◌}
+use Prim.Native.Nat.{ℕ, zero, suc, ◌-◌, ◌%◌, ◌≤◌, ◌<◌}
 use native.Mathlib.Nat.{mod-lt}
 use native.Mathlib.Omega.{arith}
 use lib.Dec.{eqb}
 use lib.IntN.{ℤ, pos, negsuc, nat_abs, neg_ℤ, ◌-ℤ◌}
 use lib.Signed.{lt_z, rem_z}
 use borrow.Author.Tests.{eq-eqb, ne_eqb}
-use Rattle.laws.proofs.Signed.{sub, same, lt_true, lt_false}
+use Rattle.laws.proofs.Signed.{sub, same}
 use Rattle.values.specs.declared.Value.{Value}
 use Rattle.values.specs.Values.{is_value}
 use Rattle.values.specs.Differences.{nanoseconds, difference}
@@ -25,18 +25,6 @@ module _ (x k : ℕ) where
   pub up_some : (x % k ≡ 0 → ⊥) → k - x % k ≡ shift_up x k
   unfolding shift_up
   up_some e = rw (ne_eqb (x % k) 0 e) refl
-
-pub size_below : (z : ℤ) → lt_z z (pos 0) ≡ true → 1 ≤ nat_abs z
-size_below (pos n) e = omega (arith, lt_true (pos n) (pos 0) e)
-size_below (negsuc n) e = omega arith
-
-pub bits_below : (z : ℤ) → lt_z z (pos 0) ≡ true → 2 ^ 64 - 1 - (nat_abs z - 1) ≡ as_u64 z
-bits_below (pos n) e = absurd (let w : ⊥ = omega (arith, lt_true (pos n) (pos 0) e) in w)
-bits_below (negsuc n) e = omega arith
-
-pub bits_above : (z : ℤ) → lt_z z (pos 0) ≡ false → nat_abs z ≡ as_u64 z
-bits_above (pos n) e = refl
-bits_above (negsuc n) e = absurd (let w : ⊥ = omega (arith, lt_false (negsuc n) (pos 0) e) in w)
 
 module _ (z : ℤ) (k : ℕ) where
   pub shift_none : as_u64 z % k ≡ 0 → 0 ≡ shift_of z k

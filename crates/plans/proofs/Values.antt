@@ -5,10 +5,10 @@ use mathlib.Core.Bool.{Bool, true, false, ◌&&◌, ◌||◌}
 use Prim.Native.Nat.{ℕ, ◌*◌, ◌≤◌, ◌<◌}
 use native.Mathlib.Nat.{mod-lt}
 use native.Mathlib.Omega.{arith}
-use lib.Dec.{ltb}
 use lib.IntN.{ℤ, pos}
 use lib.Signed.{le_z}
 use lib.ListN.{length}
+use Rattle.std.specs.Prelude.{Option, Some, None}
 use Rattle.laws.specs.Numbers.{minus, within, pos_part, neg_part}
 use Rattle.laws.specs.Units.{per_second, per_day}
 use Rattle.laws.proofs.Signed.{same}
@@ -33,7 +33,7 @@ use Rattle.plans.specs.Days.{day_plan}
 use Rattle.plans.specs.Weeks.{week_plan}
 use Rattle.plans.specs.Months.{month_plan, year_plan}
 use Rattle.plans.specs.Times.{period_in, time_plan, span_days_plan}
-use Rattle.plans.specs.Plans.{Accepted, period_plan, plan_of}
+use Rattle.plans.specs.Plans.{Accepted, plan_by, period_plan, plan_of}
 use Rattle.plans.proofs.Cases.{choose}
 use Rattle.plans.proofs.Plans.{none_left}
 use Rattle.plans.proofs.Promise.{counts, plan_good}
@@ -73,9 +73,12 @@ module _ (a : Axis) (n : ℕ) (q : Accepted a n) where
       (λ o. choose (Counted a) (monthly a) (λ _. heads _ refl)
       (λ m. choose (Counted a) (yearly a) (λ _. heads _ refl)
       (λ y. choose (Counted a) (weekly a) (λ _. heads _ refl)
-      (λ w. choose (Counted a) (ltb 0 (period_in a n))
-      (λ _. record { most = omega arith; one = λ e. absurd (none_left a q.kind o m y w e) })
-      (λ _. choose (Counted a) (is_duration a.kind) (λ _. heads _ refl) (λ _. heads _ refl))))))
+      (λ w. by_period o m y w (period_in a n)))))
+    where
+      by_period : le_z a.kind (pos 1) ≡ false → monthly a ≡ false → yearly a ≡ false → weekly a ≡ false → (p : Option ℕ) →
+          Counted a (plan_by a n p)
+      by_period o m y w (Some k) = record { most = omega arith; one = λ e. absurd (none_left a q.kind o m y w e) }
+      by_period o m y w None = choose (Counted a) (is_duration a.kind) (λ _. heads _ refl) (λ _. heads _ refl)
 
   module _ (i : ℕ) (l : 2 * i < length (numbers (ticks (plan_of a n)))) where
     abbrev v : Value

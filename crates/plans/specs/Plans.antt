@@ -1,5 +1,5 @@
 -- The list of each kind, as a progression. Definitions only.
-use Rattle.std.specs.Prelude.{◌≡◌, true, cond, ℕ, ◌≤◌, ltb, pos}
+use Rattle.std.specs.Prelude.{◌≡◌, true, cond, ℕ, ◌≤◌, pos, Option, Some, None}
 use Rattle.std.specs.Int.Signed.{le_z}
 use Rattle.laws.specs.Numbers.{within}
 use Rattle.values.specs.Values.{is_duration}
@@ -23,11 +23,13 @@ pub record Accepted (a : Axis) (n : ℕ) : Type 0 where
 
 -- ---- at most n + 1 ticks
 -- kinds 4 and 7, where there is a period and where days are listed
+abbrev pub plan_by : Axis → ℕ → Option ℕ → Steps
+plan_by a n (Some k) = time_plan a k
+plan_by a n None = cond (is_duration a.kind) (span_days_plan a n) (day_plan a n)
+
+-- by the period that there is
 unfoldable pub period_plan : Axis → ℕ → Steps
-period_plan a n =
-    cond (ltb 0 (period_in a n)) (time_plan a (period_in a n))
-    (cond (is_duration a.kind) (span_days_plan a n)
-    (day_plan a n))
+period_plan a n = plan_by a n (period_in a n)
 
 -- kinds 1, 2 and 5, 3 and 6, 8, and the others
 unfoldable pub plan_of : Axis → ℕ → Steps

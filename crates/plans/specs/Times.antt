@@ -1,6 +1,6 @@
 -- The lists of date-times below the day branch and of durations, the end left out: a period apart where the span fits
 -- nanoseconds, and whole days of a duration where it does not. Definitions only.
-use Rattle.std.specs.Prelude.{◌≡◌, true, false, not, cond, ℕ, ◌+◌, ◌-◌, ◌*◌, ◌%◌, ◌^◌, ◌<◌, eqb, ℤ, pos, nat_abs, ◌+ℤ◌, ◌-ℤ◌}
+use Rattle.std.specs.Prelude.{◌≡◌, true, false, not, cond, ℕ, ◌+◌, ◌-◌, ◌*◌, ◌%◌, ◌^◌, ◌<◌, eqb, ℤ, pos, nat_abs, ◌+ℤ◌, ◌-ℤ◌, Option, None}
 use Rattle.std.specs.Int.Signed.{lt_z, rem_z}
 use Rattle.laws.specs.Numbers.{pos_part, as_u64}
 use Rattle.laws.specs.Units.{seconds_per_day}
@@ -16,9 +16,9 @@ use Rattle.steps.specs.declared.Steps.{Steps}
 use Rattle.plans.specs.Days.{evenly}
 
 -- ---- ticks a period apart
--- the period, or 0 where days are listed: date-times have none from a day on, durations none beyond i64 nanoseconds
-unfoldable pub period_in : Axis → ℕ → ℕ
-period_in a n = cond (fits_i64 (span_of a)) (period_of (pos_part (span_of a)) n (not (is_duration a.kind))) 0
+-- the period, if there is one, else days are listed: date-times have none from a day on, durations none beyond i64 nanoseconds
+unfoldable pub period_in : Axis → ℕ → Option ℕ
+period_in a n = cond (fits_i64 (span_of a)) (period_of (pos_part (span_of a)) n (not (is_duration a.kind))) None
 
 -- from x up to a multiple of k
 unfoldable pub shift_up : ℕ → ℕ → ℕ

@@ -13,13 +13,12 @@ ghost use Rattle.plans.specs.Weeks.{week_step, week_plan};
 ghost use Rattle.floats.specs.Rounding.{ceil_of};
 ghost use Rattle.plans.specs.Months.{from_month, to_month, year_step, month_step, months_by, month_plan, year_plan};
 ghost use Rattle.plans.specs.Times.{period_in, shift_up, shift_of, shift, time_plan, Timed};
-ghost use Rattle.laws.specs.Numbers.{as_u64};
 ghost use Rattle.plans.specs.Times.{first_second, seconds_left, span_days_plan, Long};
 ghost use Rattle.plans.specs.Plans.{Accepted, period_plan, plan_of};
 
 use axis::Axis;
 use steps::Steps;
-use values::{Nanoseconds, Value};
+use values::Value;
 
 // Ticks step apart from the number first to the number end, which is left out. A head has per numbers, and base is the
 // head of 0.
@@ -49,7 +48,7 @@ pub fn even_plan(e: Even) -> Steps
         per: e.per,
         first: e.first,
         step: e.step,
-        count: steps::how_many(counting::less(e.end, e.first), e.step),
+        count: steps::how_many(e.end.saturating_sub(e.first), e.step),
     }
 }
 
@@ -87,7 +86,7 @@ fn day_plan(a: Axis, n: u64) -> Steps
     ensures { result ≡ day_plan a n }
 {
     let from = counting::from_day(a);
-    let d = counting::less(counting::to_day(a), from);
+    let d = counting::to_day(a).saturating_sub(from);
     let base = from as i64;
     even_plan(Even {
         per: 1,
@@ -103,7 +102,7 @@ fn week_step(c: u64, n: u64) -> u64
     requires { (c < 4000000) × (n ≤ 4096) }
     ensures { result ≡ week_step c n }
 {
-    counting::less(c, 1) / (n + 1) + 1
+    c.saturating_sub(1) / (n + 1) + 1
 }
 
 // From the first Monday on, which may lie behind the last day.
@@ -118,8 +117,8 @@ fn week_plan(a: Axis, n: u64) -> Steps
         per: 1,
         base: base,
         first: 0,
-        end: counting::less(last + 1, first),
-        step: 7 * week_step(counting::less(last + 7, first) / 7, n),
+        end: (last + 1).saturating_sub(first),
+        step: 7 * week_step((last + 7).saturating_sub(first) / 7, n),
     })
 }
 
@@ -159,7 +158,7 @@ pub fn months_by(m: MonthRange, k: u64) -> Steps
         per: 1,
         first: m.first,
         step: k,
-        count: steps::how_many(counting::less(m.last + 1, m.first), k),
+        count: steps::how_many((m.last + 1).saturating_sub(m.first), k),
     }
 }
 
@@ -178,7 +177,7 @@ fn month_plan(a: Axis, n: u64) -> Steps
     ensures { result ≡ month_plan a n }
 {
     let m = months_on(a);
-    months_by(m, month_step(counting::less(m.last, m.first), n))
+    months_by(m, month_step(m.last.saturating_sub(m.first), n))
 }
 
 fn year_plan(a: Axis, n: u64) -> Steps
@@ -186,21 +185,18 @@ fn year_plan(a: Axis, n: u64) -> Steps
     ensures { result ≡ year_plan a n }
 {
     let m = months_on(a);
-    months_by(m, year_step(counting::less(m.last, m.first), n))
+    months_by(m, year_step(m.last.saturating_sub(m.first), n))
 }
 
-// The period of kinds 4 and 7, or 0 where days are listed.
-pub fn period_in(a: Axis, n: u64) -> u64
+// The period of kinds 4 and 7, if there is one: else days are listed.
+pub fn period_in(a: Axis, n: u64) -> Option<u64>
     requires { Accepted a n × (1 ≤ n) }
     ensures { result ≡ period_in a n }
 {
-    let s = axis::span(a);
-    if !s.fits {
-        return 0;
-    }
+    let span = axis::span(a)?;
     let sub_daily = !values::is_duration(a.kind);
-    let p = period::compute_period_per_point(calendar::as_count(s.value), n, sub_daily);
-    p.nanoseconds
+    let p = period::compute_period_per_point(calendar::as_count(span), n, sub_daily)?;
+    Some(p.nanoseconds)
 }
 
 // From x up to a multiple of k.
@@ -215,30 +211,17 @@ fn shift_up(x: u64, k: u64) -> u64
     k - r
 }
 
-// The 64 bits of a number, as Rust's `as u64`. 2^64 is no number here.
-fn bits(v: Nanoseconds) -> u64
-    ensures { result ≡ as_u64 v.value }
-{
-    let size = floats::unsigned_abs(v.value);
-    if v.value < 0 {
-        return 18446744073709551615 - (size - 1);
-    }
-    size
-}
-
-// From a duration to the first tick: up to a multiple of k, or from below zero toward it. Nothing where k divides the bits.
-fn shift_of(v: Nanoseconds, k: u64) -> u64
+// From a duration of z nanoseconds to the first tick: up to a multiple of k, or from below zero toward it. Nothing where k
+// divides the bits of z.
+fn shift_of(z: i64, k: u64) -> u64
     requires { (0 < k) × (k < 2 ^ 63) }
-    ensures { result ≡ shift_of v.value k }
+    ensures { result ≡ shift_of z k }
 {
-    if bits(v) % k == 0 {
+    if z.cast_unsigned() % k == 0 {
         return 0;
     }
-    let rest = floats::unsigned_abs(v.value % (k as i64));
-    if 0 < v.value {
-        return k - rest;
-    }
-    rest
+    let rest = floats::unsigned_abs(z % (k as i64));
+    if 0 < z { k - rest } else { rest }
 }
 
 // From the start to the first tick.
@@ -250,7 +233,10 @@ fn shift(a: Axis, k: u64) -> u64
         return shift_up(calendar::as_count(a.start_tail), k);
     }
     let zero = Value { head: 0, tail: 0 };
-    shift_of(values::nanoseconds_between(7, zero, axis::start(a)), k)
+    shift_of(
+        values::nanoseconds_between(7, zero, axis::start(a)).unwrap(),
+        k,
+    )
 }
 
 // The nanoseconds of a head.
@@ -268,13 +254,13 @@ fn time_plan(a: Axis, k: u64) -> Steps
     requires { Timed a k }
     ensures { result ≡ time_plan a k }
 {
-    let s = axis::span(a);
+    let span = axis::span(a).unwrap();
     let tail = calendar::as_count(a.start_tail);
     even_plan(Even {
         per: unit(a.kind),
         base: a.start_head,
         first: tail + shift(a, k),
-        end: tail + calendar::as_count(s.value),
+        end: tail + calendar::as_count(span),
         step: k,
     })
 }
@@ -334,14 +320,11 @@ fn period_plan(a: Axis, n: u64) -> Steps
     requires { Accepted a n × (1 ≤ n) }
     ensures { result ≡ period_plan a n }
 {
-    let k = period_in(a, n);
-    if 0 < k {
-        return time_plan(a, k);
+    match period_in(a, n) {
+        Some(k) => time_plan(a, k),
+        None if values::is_duration(a.kind) => span_days_plan(a, n),
+        None => day_plan(a, n),
     }
-    if values::is_duration(a.kind) {
-        return span_days_plan(a, n);
-    }
-    day_plan(a, n)
 }
 
 // The plan of a kind.

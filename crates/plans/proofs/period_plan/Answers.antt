@@ -1,55 +1,49 @@
 -- `plans::period_plan` meets its contract: each branch is one of the definition's. Assumes nothing.
 use borrow.Author.Rules.{rules}
-use borrow.Author.Tests.{lt-ltb, le-ltb}
 use mathlib.Core.Path.{◌≡◌, sym, ◌∙◌}
-use Prim.Native.Nat.{◌≤◌}
-use native.Mathlib.Omega.{arith}
-use mir.Syntax.{w64}
-use mir.Val.{SFits}
-use mir.Facts.{to_z-of_z}
+use Rattle.std.specs.Prelude.{Some, None}
 use Rattle.values.specs.Values.{is_duration}
 use Rattle.plans.specs.Times.{period_in}
 use Rattle.plans.specs.Plans.{period_plan}
 use Rattle.plans.proofs.Spans.{timed, long}
 use Rattle.plans.proofs.period_plan.Goals as goal
-use Rattle.plans.proofs.period_plan.Goals.{After-is_duration, Else-k-gt0, Start}
+use Rattle.plans.proofs.period_plan.Goals.{In-Some, In-None, After-is_duration}
 
-kind_fits : (c : Start) → SFits w64 c.args.a.kind
-kind_fits c = search rules
+some : (c : In-Some) → period_in c.args.a c.args.n ≡ Some c.in-Some.k
+some c = sym c.period_in.ensures ∙ c.in-Some.is
 
-none : (c : Else-k-gt0) → period_in c.args.a c.args.n ≤ 0
-none c = omega (arith, c.period_in-k.ensures)
+none : (c : In-None) → period_in c.args.a c.args.n ≡ None
+none c = sym c.period_in.ensures ∙ c.in-None.is
 
-asked : (c : After-is_duration) → is_duration c.args.a.kind ≡ c.is_duration.result
-asked c = sym (rw (to_z-of_z (kind_fits (goal.at.After-is_duration c).Start)) at c.is_duration.ensures)
+kind : (c : After-is_duration) → is_duration c.args.a.kind ≡ c.is_duration.result
+kind c = search rules
 
 pub time_plan-requires : goal.time_plan-requires
-time_plan-requires c = rw c.period_in-k.ensures (timed c.args.a c.args.n c.requires.0 c.requires.1
-    (rw c.period_in-k.ensures at c.if-k-gt0.true))
+time_plan-requires c =
+    timed c.args.a c.args.n c.requires.0 c.requires.1 c.in-Some.k (some (goal.at.time_plan-requires c).In-Some)
 
-pub returns-then-k-gt0 : goal.returns-then-k-gt0
+pub returns-in-Some : goal.returns-in-Some
 unfolding period_plan
-returns-then-k-gt0 c = let x = c.args in
-    c.time_plan.ensures
-    ∙ rw (c.period_in-k.ensures, lt-ltb 0 (period_in x.a x.n) (rw c.period_in-k.ensures at c.if-k-gt0.true))
+returns-in-Some c = c.time_plan.ensures ∙ rw (some (goal.at.returns-in-Some c).In-Some)
 
 pub span_days_plan-requires : goal.span_days_plan-requires
 span_days_plan-requires c =
-    long c.args.a c.args.n c.requires.0 c.requires.1 (asked (goal.at.span_days_plan-requires c).After-is_duration ∙
-    c.if-is_duration.true) (none (goal.at.span_days_plan-requires c).Else-k-gt0)
+    long c.args.a c.args.n c.requires.0 c.requires.1
+    (kind (goal.at.span_days_plan-requires c).After-is_duration ∙ c.if-is_duration.true)
+    (none (goal.at.span_days_plan-requires c).In-None)
 
-pub returns-then-is_duration : goal.returns-then-is_duration
+pub returns-in-None : goal.returns-in-None
 unfolding period_plan
-returns-then-is_duration c = let x = c.args in
+returns-in-None c =
     c.span_days_plan.ensures ∙ rw (
-      le-ltb 0 (period_in x.a x.n) (none (goal.at.returns-then-is_duration c).Else-k-gt0),
-      asked (goal.at.returns-then-is_duration c).After-is_duration ∙ c.if-is_duration.true,
+      none (goal.at.returns-in-None c).In-None,
+      kind (goal.at.returns-in-None c).After-is_duration ∙ c.if-is_duration.true,
     )
 
-pub returns : goal.returns
+pub returns-in-None-2 : goal.returns-in-None-2
 unfolding period_plan
-returns c = let x = c.args in
+returns-in-None-2 c =
     c.day_plan.ensures ∙ rw (
-      le-ltb 0 (period_in x.a x.n) (none (goal.at.returns c).Else-k-gt0),
-      asked (goal.at.returns c).After-is_duration ∙ c.if-is_duration.false,
+      none (goal.at.returns-in-None-2 c).In-None,
+      kind (goal.at.returns-in-None-2 c).After-is_duration ∙ c.if-is_duration.false,
     )

@@ -6,10 +6,10 @@ use Prim.Native.Nat.{ℕ}
 use native.Mathlib.Omega.{arith}
 use lib.IntN.{ℤ, pos}
 use mir.Syntax.{w64}
-use mir.Val.{SFits}
+use mir.Val.{SFits, to_z, of_z}
 use mir.Facts.{to_z-of_z}
 use Rattle.laws.specs.Numbers.{pos_part}
-use Rattle.values.specs.declared.Nanoseconds.{Nanoseconds}
+use Rattle.std.specs.Prelude.{Some}
 use Rattle.values.specs.Values.{is_duration}
 use Rattle.values.specs.Differences.{nanoseconds, difference, nanoseconds_of}
 use Rattle.values.proofs.Fits.{fits_yes, value_is}
@@ -20,6 +20,9 @@ use Rattle.plans.proofs.Times.{zero_span, zero_value, from_zero}
 use Rattle.plans.proofs.Spans.{tail_range, start_seven, near_start}
 use Rattle.plans.proofs.shift.Goals as goal
 use Rattle.plans.proofs.shift.Goals.{After-is_duration, After-nanoseconds_between, Else-not-is_duration, Start}
+
+some_is : {x y : ℤ} → Some x ≡ Some y → x ≡ y
+some_is e = cc
 
 kind_fits : (c : Start) → SFits w64 c.args.a.kind
 kind_fits c = search rules
@@ -34,15 +37,17 @@ seven : (c : Else-not-is_duration) → is_duration c.args.a.kind ≡ true
 seven c = sym (asked (goal.at.Else-not-is_duration c).After-is_duration) ∙ c.if-not-is_duration.false
 
 -- the start's nanoseconds, which fit
-worked : (c : After-nanoseconds_between) → c.nanoseconds_between.result.value ≡ nanoseconds (pos 7)
-    (start c.args.a)
+worked : (c : After-nanoseconds_between) → c.nanoseconds_between.result ≡ Some (nanoseconds (pos 7) (start c.args.a))
 worked c = let n = nanoseconds (pos 7) (start c.args.a) in
     let r = near_start c.args.a c.args.k c.requires (seven (goal.at.After-nanoseconds_between c).Else-not-is_duration) in
     let d : difference (pos 7) zero_span c.start.result ≡ n =
     ap (difference (pos 7) zero_span) c.start.ensures ∙ from_zero (start c.args.a) in
-    ap (λ (y : Nanoseconds). y.value) c.nanoseconds_between.ensures
-    ∙ ap (λ (z : ℤ). (nanoseconds_of z).value) d
+    c.nanoseconds_between.ensures
+    ∙ ap nanoseconds_of d
     ∙ value_is n (fits_yes n (omega arith) (omega arith))
+
+pub unwrap-requires : goal.unwrap-requires
+unwrap-requires c = rw (worked (goal.at.unwrap-requires c).After-nanoseconds_between) (search rules)
 
 pub as_count-requires : goal.as_count-requires
 as_count-requires c =
@@ -67,5 +72,8 @@ nanoseconds_between-requires c = rw c.start.ensures (record {
 pub returns : goal.returns
 unfolding shift
 returns c =
-    c.shift_of.ensures ∙ (ap (λ (z : ℤ). shift_of z c.args.k) (worked (goal.at.returns c).After-nanoseconds_between) ∙
+    let z : to_z w64 (of_z w64 c.unwrap.result) ≡ nanoseconds (pos 7) (start c.args.a) =
+    to_z-of_z {w = w64} {z = c.unwrap.result} (search rules)
+    ∙ some_is (sym c.unwrap.ensures ∙ worked (goal.at.returns c).After-nanoseconds_between) in
+    c.shift_of.ensures ∙ (ap (λ (z : ℤ). shift_of z c.args.k) z ∙
     rw (seven (goal.at.returns c).Else-not-is_duration))

@@ -6,15 +6,14 @@ use mir.Syntax.{w64}
 use mir.Val.{SFits, to_z, of_z}
 use mir.Facts.{to_z-of_z}
 use Rattle.laws.specs.Numbers.{pos_part}
-use Rattle.values.specs.declared.Nanoseconds.{Nanoseconds}
-use Rattle.values.proofs.Fits.{value_is}
+use Rattle.values.proofs.Fits.{value_is, answer_some}
 use Rattle.axis.specs.Axes.{span_of}
 use Rattle.axis.proofs.Axes.{span_from_0}
 use Rattle.counting.proofs.Counting.{no_less}
 use Rattle.plans.specs.Times.{time_plan}
 use Rattle.plans.proofs.Spans.{tail_range, shift_small}
 use Rattle.plans.proofs.time_plan.Goals as goal
-use Rattle.plans.proofs.time_plan.Goals.{After-as_count, After-as_count-tail, After-span-s, Start}
+use Rattle.plans.proofs.time_plan.Goals.{After-as_count, After-as_count-tail, After-unwrap-span, Start}
 
 kind_fits : (c : Start) → SFits w64 c.args.a.kind
 kind_fits c = search rules
@@ -25,18 +24,19 @@ head_fits c = search rules
 tail_fits : (c : Start) → SFits w64 c.args.a.start_tail
 tail_fits c = search rules
 
-span_fits : (c : After-span-s) → SFits w64 c.span-s.result.value
-span_fits c = search rules
+value : (c : After-unwrap-span) → to_z w64 (of_z w64 c.unwrap-span.result) ≡ span_of c.args.a
+value c =
+    to_z-of_z {w = w64} {z = c.unwrap-span.result} (search rules)
+    ∙ (answer_some (span_of c.args.a) c.span.result c.span.ensures c.unwrap-span.result c.unwrap-span.ensures).1
 
-value : (c : After-span-s) → to_z w64 (of_z w64 c.span-s.result.value) ≡ span_of c.args.a
-value c = to_z-of_z (span_fits c) ∙ (ap (λ (x : Nanoseconds). x.value) c.span-s.ensures
-    ∙ value_is (span_of c.args.a) c.requires.fits)
+pub unwrap-span-requires : goal.unwrap-span-requires
+unwrap-span-requires c = rw (c.span.ensures, value_is (span_of c.args.a) c.requires.fits) (search rules)
 
 tail : (c : After-as_count-tail) → c.as_count-tail.result ≡ pos_part c.args.a.start_tail
 tail c = c.as_count-tail.ensures ∙ ap pos_part (to_z-of_z (tail_fits (goal.at.After-as_count-tail c).Start))
 
 counted : (c : After-as_count) → c.as_count.result ≡ pos_part (span_of c.args.a)
-counted c = c.as_count.ensures ∙ ap pos_part (value (goal.at.After-as_count c).After-span-s)
+counted c = c.as_count.ensures ∙ ap pos_part (value (goal.at.After-as_count c).After-unwrap-span)
 
 pub as_count-tail-requires : goal.as_count-tail-requires
 as_count-tail-requires c =
@@ -56,7 +56,7 @@ overflow_add-tail c = omega (
 
 pub as_count-requires : goal.as_count-requires
 as_count-requires c =
-    rw (value (goal.at.as_count-requires c).After-span-s) (no_less (span_of c.args.a)
+    rw (value (goal.at.as_count-requires c).After-unwrap-span) (no_less (span_of c.args.a)
     (span_from_0 c.args.a c.requires.real c.requires.order))
 
 pub returns : goal.returns

@@ -10,7 +10,7 @@ use Rattle.counting.proofs.Counting.{from_range, to_range}
 use Rattle.plans.specs.Weeks.{week_plan}
 use Rattle.plans.proofs.Weeks.{week_room}
 use Rattle.plans.proofs.week_plan.Goals as goal
-use Rattle.plans.proofs.week_plan.Goals.{After-first_monday-first, After-less-2, After-to_day-last, After-week_step}
+use Rattle.plans.proofs.week_plan.Goals.{After-first_monday-first, After-saturating_sub-2, After-to_day-last, After-week_step}
 
 pub first_monday-first-requires : goal.first_monday-first-requires
 first_monday-first-requires c = rw c.from_day.ensures ((from_range c.args.a c.requires.0).0, c.requires.1)
@@ -34,15 +34,15 @@ overflow_add-last c = omega (arith, last_small (goal.at.overflow_add-last c).Aft
 pub overflow_add-last-2 : goal.overflow_add-last-2
 overflow_add-last-2 c = omega (arith, last_small (goal.at.overflow_add-last-2 c).After-to_day-last)
 
-few : (c : After-less-2) → c.less-2.result / 7 < 4000000
-few c = omega (arith, c.less-2.ensures, last_small (goal.at.After-less-2 c).After-to_day-last)
+few : (c : After-saturating_sub-2) → c.saturating_sub-2.result / 7 < 4000000
+few c = omega (arith, c.saturating_sub-2.ensures, last_small (goal.at.After-saturating_sub-2 c).After-to_day-last)
 
 pub week_step-requires : goal.week_step-requires
-week_step-requires c = (few (goal.at.week_step-requires c).After-less-2, c.requires.2)
+week_step-requires c = (few (goal.at.week_step-requires c).After-saturating_sub-2, c.requires.2)
 
 stride : (c : After-week_step) → (0 < c.week_step.result) × (c.week_step.result < 4000001)
 stride c = let n = c.args.n in
-    omega (arith, c.week_step.ensures, week_room (c.less-2.result / 7) n, few (goal.at.After-week_step c).After-less-2)
+    omega (arith, c.week_step.ensures, week_room (c.saturating_sub-2.result / 7) n, few (goal.at.After-week_step c).After-saturating_sub-2)
 
 pub overflow_mul-week_step : goal.overflow_mul-week_step
 overflow_mul-week_step c = omega (arith, stride (goal.at.overflow_mul-week_step c).After-week_step)
@@ -56,8 +56,8 @@ returns c = c.even_plan.ensures
     ∙ rw (
       read_count c.first_monday-first.result (first_small (goal.at.returns c).After-first_monday-first),
       c.week_step.ensures,
-      c.less-2.ensures,
-      c.less.ensures,
+      c.saturating_sub-2.ensures,
+      c.saturating_sub.ensures,
       c.to_day-last.ensures,
       first_is (goal.at.returns c).After-first_monday-first,
     )

@@ -4,4 +4,4 @@ use Rattle.plans.proofs.week_step.Goals as goal
 
 pub returns : goal.returns
 unfolding week_step
-returns c = rw c.less.ensures
+returns c = rw c.saturating_sub.ensures
