@@ -1,6 +1,7 @@
 -- The lines of a text, words, and where the fields of a line stand. Definitions only.
 -- A line is its bytes without the LF; its fields have one space between them.
-use Rattle.std.specs.Prelude.{Bool, true, false, cond, ◌&&◌, List, [], ◌∷◌, ℕ, zero, suc, ◌+◌, leb, eqb, length, drop}
+use Rattle.std.specs.Prelude.{Bool, cond, ◌&&◌, List, [], ◌∷◌, ℕ, zero, suc, ◌+◌, leb, eqb, length, drop, Option, None, Some}
+use lib.Pointwise.{pointwise}
 use Rattle.text_read.specs.Bytes.{line_feed, space_byte}
 use Rattle.text_read.specs.Fields.{until_of}
 
@@ -24,16 +25,13 @@ lines_of (b ∷ s) =
 
 -- ---- words
 -- the same bytes
-unfoldable pub same_as : List ℕ → List ℕ → Bool
-same_as [] [] = true
-same_as [] (b ∷ t) = false
-same_as (a ∷ s) [] = false
-same_as (a ∷ s) (b ∷ t) = cond (eqb a b) (same_as s t) false
+abbrev pub same_as : List ℕ → List ℕ → Bool
+same_as s t = pointwise eqb s t
 
--- where w stands among words of which the first counts as k; 0: it is none of them
-abbrev pub place_in : ℕ → List (List ℕ) → List ℕ → ℕ
-place_in k [] w = 0
-place_in k (v ∷ vs) w = cond (same_as w v) k (place_in (suc k) vs w)
+-- what a word names, of words beside what they name; None: it is none of them
+abbrev pub named : {A : Type 0} → List (List ℕ × A) → List ℕ → Option A
+named [] w = None
+named ((v, a) ∷ vs) w = cond (same_as w v) (Some a) (named vs w)
 
 -- ---- fields
 -- how often c stands in s

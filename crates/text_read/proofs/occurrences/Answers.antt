@@ -1,21 +1,7 @@
--- `text_read::occurrences` meets its contract: n of the bytes before i are c. Assumes nothing.
-use native.Mathlib.Omega.{arith}
-use Rattle.text_read.proofs.Lines.{count_here, count_on, count_end}
+-- `text_read::occurrences` meets its contract: it counts as std does. Assumes nothing.
+use borrow.Author.Rules.{rules}
+use Rattle.text_read.proofs.Lines.{occurrences_count}
 use Rattle.text_read.proofs.occurrences.Goals as goal
-use Rattle.text_read.proofs.occurrences.Goals.{then-s-i, else-s-i}
-
-pub loop-i-preserved : goal.loop-i-preserved
-loop-i-preserved c = let l = c.loop-i in
-    let x = c.args in
-    let h = c.loop-i-test.true in
-    elim c.if-s-i.branch [
-      | then-s-i w ↦ (omega arith, (omega arith, omega (arith, count_here x.s.now l.i x.c h w.if-s-i.true)))
-      | else-s-i w ↦ (omega arith, (omega arith, omega (arith, count_on x.s.now l.i x.c h w.if-s-i.false)))
-    ]
 
 pub returns : goal.returns
-returns c = omega (
-  arith,
-  count_end c.args.s.now c.loop-i.i c.args.c
-      c.loop-i-test.false,
-)
+returns c = rw (occurrences_count c.args.c c.args.s.now) (search rules)
