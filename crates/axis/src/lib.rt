@@ -9,7 +9,7 @@ ghost use Rattle.values.specs.Differences.{nanoseconds_of, whole_days};
 ghost use Rattle.axis.specs.Axes.{axis_of, start, end, span_of, offset_of, excluded, closed};
 ghost use Rattle.axis.specs.Questions.{known, has_unmap, has_period, has_index, ends, in_order, excludable};
 ghost use Rattle.axis.specs.Questions.{near_zero, near_or_long};
-ghost use Rattle.axis.specs.Questions.{bold_hint, light_hint, hint_on, is_pixel, pixels, differ, unmap_pixels};
+ghost use Rattle.axis.specs.Questions.{bold_hint, light_hint, hint_on, is_count, enough, is_pixel, pixels, differ, unmap_pixels};
 ghost use Rattle.axis.specs.Questions.{value_on, is_index, mappable, fits_i32, plain_questions, axis_questions};
 
 use asking::{Refusal, ask};
@@ -65,12 +65,12 @@ pub fn axis_of(
     ensures { result ≡ axis_of kind start_head start_tail end_head end_tail end_excluded }
 {
     Axis {
-        kind: kind,
-        start_head: start_head,
-        start_tail: start_tail,
-        end_head: end_head,
-        end_tail: end_tail,
-        end_excluded: end_excluded,
+        kind,
+        start_head,
+        start_tail,
+        end_head,
+        end_tail,
+        end_excluded,
     }
 }
 
@@ -134,14 +134,14 @@ fn in_order(a: Axis) -> bool
     if a.start_head < a.end_head {
         return true;
     }
-    (a.start_head <= a.end_head) & (a.start_tail <= a.end_tail)
+    start(a) <= end(a)
 }
 
 // Does the end not belong to the axis?
 fn excluded(a: Axis) -> bool
     ensures { result ≡ excluded a }
 {
-    !((0 <= a.end_excluded) & (a.end_excluded <= 0))
+    a.end_excluded != 0
 }
 
 // Question 14.
@@ -151,9 +151,7 @@ fn excludable(a: Axis) -> bool
     if !excluded(a) {
         return true;
     }
-    (((1 <= a.kind) & (a.kind <= 3)) | ((8 <= a.kind) & (a.kind <= 8)))
-        & !(((a.start_head <= a.end_head) & (a.end_head <= a.start_head))
-            & ((a.start_tail <= a.end_tail) & (a.end_tail <= a.start_tail)))
+    (((1 <= a.kind) & (a.kind <= 3)) | ((8 <= a.kind) & (a.kind <= 8))) & (end(a) != start(a))
 }
 
 // The axis by which an axis counts and lists: the one that ends a day earlier, where the end is excluded.
@@ -211,7 +209,11 @@ fn near_zero(v: Value) -> bool
     requires { is_value (pos 7) v ≡ true }
     ensures { result ≡ near_zero v }
 {
-    (-4000000000 <= v.head) & ((v.head < 4000000000) | ((v.head <= 4000000000) & (v.tail <= 0)))
+    let most = Value {
+        head: 4000000000,
+        tail: 0,
+    };
+    (-4000000000 <= v.head) & (v <= most)
 }
 
 // Question 5. The span of most axes is not needed for it.
@@ -228,19 +230,32 @@ fn near_or_long(a: Axis) -> bool
     span(a).is_none()
 }
 
+// Question 6 of a count.
+fn is_count(n: i64) -> bool
+    ensures { result ≡ is_count n }
+{
+    (0 <= n) & (n <= 4096)
+}
+
+// Question 6 of N, by the kind.
+fn enough(a: Axis, n: i64) -> bool
+    ensures { result ≡ enough a n }
+{
+    !((4 <= a.kind) & (a.kind <= 7)) | (1 <= n)
+}
+
 // Question 6 of a bold hint.
 fn bold_hint(a: Axis, h: BoldPoints) -> bool
     ensures { result ≡ bold_hint a h }
 {
-    ((0 <= h.n) & (h.n <= 4096)) & (!((4 <= a.kind) & (a.kind <= 7)) | (1 <= h.n))
+    is_count(h.n) & enough(a, h.n)
 }
 
 // Question 6 of a light hint.
 fn light_hint(a: Axis, h: LightPoints) -> bool
     ensures { result ≡ light_hint a h }
 {
-    ((0 <= h.bold) & (h.bold <= 4096))
-        & (((0 <= h.n) & (h.n <= 4096)) & (!((4 <= a.kind) & (a.kind <= 7)) | (1 <= h.n)))
+    is_count(h.bold) & (is_count(h.n) & enough(a, h.n))
 }
 
 // Question 6.
@@ -257,7 +272,7 @@ pub fn hint_on(a: Axis, h: Hint) -> bool
 pub fn pixels(l: Limits) -> bool
     ensures { result ≡ pixels l }
 {
-    ((-32767 <= l.low) & (l.low <= 32767)) & ((-32767 <= l.high) & (l.high <= 32767))
+    is_pixel(l.low) & is_pixel(l.high)
 }
 
 // Question 7 of a pixel.
@@ -271,7 +286,7 @@ fn is_pixel(p: i64) -> bool
 fn differ(l: Limits) -> bool
     ensures { result ≡ differ l }
 {
-    (l.low < l.high) | (l.high < l.low)
+    l.low != l.high
 }
 
 // Question 7 of unmapping.
@@ -302,9 +317,7 @@ pub fn mappable(a: Axis, v: Value) -> bool
     if a.start_head < a.end_head {
         return true;
     }
-    values::earlier(start(a), end(a))
-        | (((a.start_head <= v.head) & (v.head <= a.start_head))
-            & ((a.start_tail <= v.tail) & (v.tail <= a.start_tail)))
+    (start(a) < end(a)) | (v == start(a))
 }
 
 // Question 10 of a number.

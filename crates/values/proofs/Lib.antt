@@ -4,3 +4,4 @@ pub mod Values
 pub mod Fits
 pub mod Joining
 pub mod Differences
+pub mod Order

@@ -4,14 +4,14 @@
 
 ghost use Rattle.std.specs.Prelude.{◌≡◌};
 ghost use Rattle.std.specs.Int.Signed.{quot_z};
-ghost use Rattle.values.specs.Values.{is_duration, is_value, earlier, Both};
+ghost use Rattle.values.specs.Values.{is_duration, is_value, Both};
 ghost use Rattle.values.specs.Differences.{difference, nanoseconds_of, whole_days};
 ghost use Rattle.values.specs.Parts.{Bounded, TowardZero, Of, sum};
 
 use calendar::LAST_DAY;
 
 // Date: day number and 0. Date-time: day number and nanosecond of the day. Duration: seconds and nanoseconds.
-#[derive(Clone, Copy)]
+#[derive(Clone, Copy, PartialEq, Eq, PartialOrd, Ord)]
 pub struct Value {
     pub head: i64,
     pub tail: i64,
@@ -40,20 +40,12 @@ pub fn is_value(kind: i64, v: Value) -> bool
     ensures { result ≡ is_value kind v }
 {
     if (kind <= 3) | (8 <= kind) {
-        return ((1 <= kind) & (kind <= 8))
-            & ((1 <= v.head) & (v.head <= LAST_DAY) & ((0 <= v.tail) & (v.tail <= 0)));
+        return ((1 <= kind) & (kind <= 8)) & ((1 <= v.head) & (v.head <= LAST_DAY) & (v.tail == 0));
     }
     if kind <= 6 {
         return (1 <= v.head) & (v.head <= LAST_DAY) & ((0 <= v.tail) & (v.tail <= 86399999999999));
     }
     (-315576000000 <= v.head) & (v.head <= 315576000000) & ((0 <= v.tail) & (v.tail <= 999999999))
-}
-
-// Is a before b?
-pub fn earlier(a: Value, b: Value) -> bool
-    ensures { result ≡ earlier a b }
-{
-    (a.head < b.head) | ((a.head <= b.head) & (a.tail < b.tail))
 }
 
 // The parts of the difference from a to b.
@@ -65,8 +57,8 @@ fn split(kind: i64, a: Value, b: Value) -> Parts
     let tails = b.tail - a.tail;
     if is_duration(kind) {
         return Parts {
-            heads: heads,
-            tails: tails,
+            heads,
+            tails,
             unit: 1000000000,
             most: Value {
                 head: 9223372036,
@@ -79,8 +71,8 @@ fn split(kind: i64, a: Value, b: Value) -> Parts
         };
     }
     Parts {
-        heads: heads,
-        tails: tails,
+        heads,
+        tails,
         unit: 86400000000000,
         most: Value {
             head: 106751,
@@ -122,7 +114,7 @@ fn far(p: Parts) -> Option<i64>
     ensures { result ≡ nanoseconds_of (sum p) }
 {
     let v = toward_zero(p);
-    if earlier(v, p.least) | earlier(p.most, v) {
+    if (v < p.least) | (p.most < v) {
         return None;
     }
     Some(v.head * p.unit + v.tail)

@@ -1,8 +1,13 @@
 -- `axis::in_order` meets its contract. Assumes nothing.
 use borrow.Author.Rules.{rules}
+use mathlib.Core.Path.{◌≡◌, ◌∙◌}
+use mathlib.Core.Bool.{false}
+use lib.Signed.{lt_z}
 use mir.Syntax.{w64}
 use mir.Val.{SFits}
 use mir.Facts.{to_z-of_z}
+use Rattle.values.proofs.Order.{less_or_same}
+use Rattle.axis.specs.Axes.{start, end}
 use Rattle.axis.proofs.Questions.{heads_apart, heads_not_apart}
 use Rattle.axis.proofs.in_order.Goals as goal
 use Rattle.axis.proofs.in_order.Goals.{Start}
@@ -14,12 +19,6 @@ module _ (c : Start) where
   end_fits : SFits w64 c.args.a.end_head
   end_fits = search rules
 
-  start_tail_fits : SFits w64 c.args.a.start_tail
-  start_tail_fits = search rules
-
-  end_tail_fits : SFits w64 c.args.a.end_tail
-  end_tail_fits = search rules
-
 pub returns-then-a : goal.returns-then-a
 returns-then-a c =
     heads_apart c.args.a (rw (
@@ -28,14 +27,8 @@ returns-then-a c =
     ) at c.if-a.true)
 
 pub returns : goal.returns
-returns c =
-    rw (
-      to_z-of_z (start_fits (goal.at.returns c).Start),
-      to_z-of_z (end_fits (goal.at.returns c).Start),
-      to_z-of_z (start_tail_fits (goal.at.returns c).Start),
-      to_z-of_z (end_tail_fits (goal.at.returns c).Start),
-    )
-    (heads_not_apart c.args.a (rw (
-      to_z-of_z (start_fits (goal.at.returns c).Start),
-      to_z-of_z (end_fits (goal.at.returns c).Start),
-    ) at c.if-a.false))
+returns c = let a = c.args.a in
+    let e : lt_z a.start_head a.end_head ≡ false =
+    rw (to_z-of_z (start_fits (goal.at.returns c).Start), to_z-of_z (end_fits (goal.at.returns c).Start)) at c.if-a.false in
+    c.le.ensures
+    ∙ rw (c.start.ensures, c.end.ensures, less_or_same (start a) (end a), e) (heads_not_apart a e)

@@ -1,9 +1,11 @@
 -- `axis::mappable` meets its contract. Assumes nothing.
 use borrow.Author.Rules.{rules}
+use mathlib.Core.Path.{◌∙◌}
 use mir.Syntax.{w64}
 use mir.Val.{SFits}
 use mir.Facts.{to_z-of_z}
 use Rattle.values.specs.Values.{earlier}
+use Rattle.values.proofs.Order.{less_is_earlier, same_is_equal}
 use Rattle.axis.specs.Questions.{mappable}
 use Rattle.axis.proofs.mappable.Goals as goal
 use Rattle.axis.proofs.mappable.Goals.{Start}
@@ -22,4 +24,11 @@ returns-then-a c =
 
 pub returns : goal.returns
 unfolding mappable
-returns c = rw (c.earlier.ensures, c.start.ensures, c.end.ensures) (search rules)
+returns c = let a = c.args.a in
+    rw (
+      c.lt.ensures ∙ less_is_earlier c.start.result c.end.result,
+      c.eq.ensures ∙ same_is_equal c.args.v c.start-2.result,
+      c.start.ensures,
+      c.end.ensures,
+      c.start-2.ensures,
+    )

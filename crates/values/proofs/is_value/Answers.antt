@@ -6,11 +6,12 @@ use native.Mathlib.Omega.{arith}
 use lib.IntN.{pos}
 use lib.Signed.{le_z}
 use mir.Facts.{to_z-of_z}
-use Rattle.laws.proofs.Signed.{le_false}
+use Rattle.laws.proofs.Signed.{le_false, count_fits}
 use Rattle.laws.proofs.Tests.{either_false}
 use Rattle.values.proofs.Numbers.{is_le}
 use Rattle.values.specs.Values.{over_date_times, is_duration}
 use Rattle.values.proofs.Values.{InRange, of_date_times, of_durations, not_between}
+use Rattle.values.proofs.Order.{tested_equal}
 use Rattle.values.proofs.is_value.Goals as goal
 use Rattle.values.proofs.is_value.Goals.{Else-kind, Else-kind-le6, Start, Then-kind-le6}
 
@@ -23,7 +24,7 @@ returns-then-kind c = let k = to_z-of_z c.ranges.kind in
     rw (
       k,
       to_z-of_z (in_range_law (goal.at.returns-then-kind c).Start).head,
-      to_z-of_z (in_range_law (goal.at.returns-then-kind c).Start).tail,
+      tested_equal c.args.v.tail (pos 0) (in_range_law (goal.at.returns-then-kind c).Start).tail (count_fits 0 (omega arith)),
     ) (sym (not_between c.args.kind c.args.v e))
 
 -- a kind between 3 and 8
