@@ -1,10 +1,10 @@
 -- A date-time axis without a period lists what the axis of its dates lists. Assumes nothing.
 use mathlib.Core.Path.{◌≡◌, refl, sym, ap, subst, ◌∙◌}
 use mathlib.Core.Bool.{true}
-use mathlib.Core.Option.{none}
 use Prim.Native.Nat.{ℕ, ◌*◌, ◌≤◌}
 use lib.IntN.{ℤ, pos}
 use borrow.Author.Tests.{le-leb}
+use Rattle.std.specs.Prelude.{None}
 use Rattle.laws.specs.Numbers.{pos_part}
 use Rattle.axis.specs.declared.Axis.{Axis}
 use Rattle.axis.specs.declared.LightPoints.{LightPoints}
@@ -19,7 +19,7 @@ use Rattle.keypoints.specs.AsDates.{date_times, ListsTimes, times, months, years
 
 module _ (turns : ℕ) (a : Axis) where
   -- kind 4 itself
-  as_dates : (n : ℕ) → period_on turns (date_times a) n true ≡ none →
+  as_dates : (n : ℕ) → period_on turns (date_times a) n true ≡ None →
       key_points turns (date_times a) n ≡ key_points turns (date_range a) n
   unfolding key_points date_time_key_points monthly yearly weekly from_day to_day
   as_dates n e = rw e
@@ -65,6 +65,6 @@ module _ (turns : ℕ) (a : Axis) where
       (light_years b (pos_part l.n) (subst (λ x. size_of x ≤ b * 2) s f) (subst (λ x. size_of (finer x) ≤ b * 2) s g))
 
   -- ---- the law: where such an axis has no period, for N, its list is that of its dates for N
-  pub lists_dates : (h : Hint) → ListsTimes a h → period_on turns (date_times a) (pos_part (bold_points h).n) true ≡ none →
+  pub lists_dates : (h : Hint) → ListsTimes a h → period_on turns (date_times a) (pos_part (bold_points h).n) true ≡ None →
       key_points_in turns a h ≡ key_points_in turns (date_range a) (Bold (bold_points h))
   lists_dates h t e = as_times h t ∙ as_dates (pos_part (bold_points h).n) e

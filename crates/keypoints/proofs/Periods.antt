@@ -2,7 +2,6 @@
 use mathlib.Core.Path.{◌≡◌, refl}
 use mathlib.Core.Bool.{Bool, false, cond, not}
 use mathlib.Core.Logic.{◌⊎◌, inl, inr}
-use mathlib.Core.Option.{Option, none, some}
 use Prim.Native.Nat.{ℕ, zero, suc, ◌+◌, ◌*◌, ◌/◌, ◌^◌, ◌≤◌, ◌<◌}
 use native.Mathlib.Nat.{pow-le-pow_right, mul-le-mul_right, le_antisymm, lt_of_lt_of_le, not-le_of_lt}
 use native.Mathlib.Numerals.{add-one}
@@ -11,12 +10,13 @@ use native.Mathlib.Omega.{arith}
 use lib.Dec.{leb, ltb, eqb, lit<}
 use lib.ListN.{length, get_or}
 use borrow.Author.Tests.{leb-true, leb-false, ltb-true, ltb-false, eqb-true, eqb-false, not-true, not-false}
+use Rattle.std.specs.Prelude.{Option, Some}
 use Rattle.laws.specs.Units.{per_second, per_hour, per_day}
 use Rattle.period.specs.Ladders.{Ladder, decimal_ladder, Climbable, first_wide}
 use Rattle.period.specs.Periods.{exponent_of, power_of, ten_days, second_ladder, hour_ladder, day_ladder, ladder_of, no_period}
 use Rattle.period.specs.Periods.{period_of}
 use Rattle.period.proofs.Exponents.{from_top, largest, power_in}
-use Rattle.period.proofs.Climbing.{Climbed, climb_start, in_list, climb_step, climb_same, climb_next}
+use Rattle.period.proofs.Climbing.{Climbed, climb_start, climb_step, climb_on, climb_next}
 use Rattle.period.proofs.Ladders.{is_decimal, is_seconds, is_hours, is_days, is_longest, chosen_ends}
 use Rattle.period.proofs.Periods.{below_day, any_step, days_listed, answers, answers_none}
 use Rattle.plans.proofs.Cases.{both_ways, choose}
@@ -80,60 +80,53 @@ module _ (span n : ℕ) where
 
 -- ---- the units
 module _ {span n : ℕ} {l : Ladder} (c : Climbable span n l) where
-  found : (turns unit whole idx i : ℕ) → 16 < turns + i → Climbed span n l unit whole idx i →
+  found : (turns unit whole before idx i : ℕ) → 16 < turns + i → idx < length l.counts →
+      Climbed span n l unit whole before idx i →
       determine_actual_ns_per_point turns span unit l.counts l.base n idx ≡ first_wide span n l
   unfolding determine_actual_ns_per_point
-  found zero unit whole idx i t w = absurd (let z : ⊥ = omega (arith, w.come.within) in z)
-  found (suc turns) unit whole idx i t w =
+  found zero unit whole before idx i t y w = absurd (let z : ⊥ = omega (arith, w.come.within) in z)
+  found (suc turns) unit whole before idx i t y w =
       let limit = n * get_or l.counts idx 0 in
       let size = length l.counts in
       choose (λ (x : ℕ). x ≡ first_wide span n l) (ltb limit (span / unit))
       (λ e. let h : limit < whole = rw w.parts (ltb-true limit (span / unit) e) in
+      let next = climb_on c w y h in
       both_ways
       (λ (d : Bool).
       determine_actual_ns_per_point turns span (cond d (unit * l.base) unit) l.counts l.base n (cond d 0 (idx + 1))
       ≡ first_wide span n l)
       (eqb (idx + 1) size)
-      (λ d. found turns (unit * l.base) (span / (unit * l.base)) 0 (suc i) (omega arith)
-      (climb_next c w h (rw (← add-one idx) (eqb-true (idx + 1) size d))))
-      (λ d. let y : idx < size = in_list c w in
-      let x : suc idx < size = omega (arith, eqb-false (idx + 1) size d) in
-      rw (← add-one idx) at (found turns unit whole (suc idx) (suc i) (omega arith) (climb_same c w h x))))
-      (λ e. climb_step c w (rw w.parts (ltb-false limit (span / unit) e)))
+      (λ d. let end : suc idx ≡ size = rw (← add-one idx) (eqb-true (idx + 1) size d) in
+      found turns (unit * l.base) (span / (unit * l.base)) (suc i) 0 (suc i) (omega arith) c.some
+      (climb_next c (rw end at next)))
+      (λ d. let x : suc idx < size = omega (arith, eqb-false (idx + 1) size d) in
+      rw (← add-one idx) at (found turns unit whole before (suc idx) (suc i) (omega arith) x next)))
+      (λ e. climb_step c w y (rw w.parts (ltb-false limit (span / unit) e)))
 
   determine_is : (turns : ℕ) → 16 < turns →
       determine_actual_ns_per_point turns span l.unit l.counts l.base n 0 ≡ first_wide span n l
-  determine_is turns t = found turns l.unit (span / l.unit) 0 0 (omega arith) (climb_start c)
+  determine_is turns t = found turns l.unit (span / l.unit) 0 0 0 (omega arith) c.some (climb_start c)
 
 -- ---- the choice
--- a period where 0 is none
-abbrev pub optional : ℕ → Option ℕ
-optional zero = none
-optional (suc x) = some (suc x)
-
-some_is : (x : ℕ) → 0 < x → some x ≡ optional x
-some_is zero h = absurd (let z : ⊥ = omega arith in z)
-some_is (suc x) h = refl
-
 module _ (turns span n : ℕ) (s : Bool) (small : span < 2 ^ 63) (N : 1 ≤ n) (most : n ≤ 4096) (t : 19 ≤ turns) where
   module _ (p : ℕ) (is : p ≡ power_of span n) where
     by : (l : Ladder) → ladder_of p ≡ l → no_period p s ≡ false →
-        some (determine_actual_ns_per_point turns span l.unit l.counts l.base n 0) ≡ optional (period_of span n s)
+        Some (determine_actual_ns_per_point turns span l.unit l.counts l.base n 0) ≡ period_of span n s
     by l e f =
         let c : Climbable span n l = rw e at (chosen_ends span n most p is N small) in
-        rw (determine_is c turns (omega arith), ← (answers span n s p is f l e).0) (some_is (first_wide span n l) c.above)
+        rw (determine_is c turns (omega arith)) (answers span n s p is f l e).0
 
-    days_chosen : per_day ≤ p → s ≡ false → some (days_from turns p span n) ≡ optional (period_of span n s)
+    days_chosen : per_day ≤ p → s ≡ false → Some (days_from turns p span n) ≡ period_of span n s
     unfolding days_from
     days_chosen h e =
-        choose (λ (x : ℕ). some x ≡ optional (period_of span n s)) (ltb p ten_days)
+        choose (λ (x : ℕ). Some x ≡ period_of span n s) (ltb p ten_days)
         (λ a. by day_ladder (is_days p h (ltb-true p ten_days a)) (any_step p s e))
         (λ a. by (decimal_ladder ten_days) (is_longest p (ltb-false p ten_days a)) (any_step p s e))
 
-    chosen : period_from turns p span n s ≡ optional (period_of span n s)
+    chosen : period_from turns p span n s ≡ period_of span n s
     unfolding period_from
     chosen =
-        let found : Option ℕ → Type 0 = λ x. x ≡ optional (period_of span n s) in
+        let found : Option ℕ → Type 0 = λ x. x ≡ period_of span n s in
         choose found (ltb p per_second)
         (λ a. let l = ltb-true p per_second a in by (decimal_ladder p) (is_decimal p l) (below_day p s (omega arith)))
         (λ a. let h = ltb-false p per_second a in
@@ -145,9 +138,9 @@ module _ (turns span n : ℕ) (s : Bool) (small : span < 2 ^ 63) (N : 1 ≤ n) (
         (λ c. let h = ltb-false p per_day c in
         choose found (not s)
         (λ d. days_chosen h (not-true s d))
-        (λ d. rw (← (answers_none span n s p is (days_listed p s h (not-false s d))).0) refl))))
+        (λ d. (answers_none span n s p is (days_listed p s h (not-false s d))).0))))
 
   -- ---- the law, for any number of turns from 19 on
-  pub period_same : compute_period_per_point turns span n s ≡ optional (period_of span n s)
+  pub period_same : compute_period_per_point turns span n s ≡ period_of span n s
   unfolding compute_period_per_point
   period_same = rw (exponent_same span n small N turns t) (chosen (power_of span n) refl)

@@ -9,6 +9,7 @@ use native.Mathlib.Omega.{arith}
 use lib.IntN.{ℤ, pos, negsuc, nat_abs, neg_ℤ-neg_ℤ, ◌+ℤ◌, ◌-ℤ◌, ◌*ℤ◌, +ℤ_idr, +ℤ_assoc}
 use lib.Signed.{lt_z, rem_z}
 use borrow.Author.Tests.{lt-ltb, le-ltb, eq-eqb, ne_eqb}
+use Rattle.std.specs.Prelude.{Some}
 use Rattle.laws.specs.Numbers.{pos_part, neg_part, as_u64}
 use Rattle.laws.specs.Units.{per_second, per_day}
 use Rattle.laws.proofs.Signed.{add, sub, same, lt_true, lt_false}
@@ -168,45 +169,42 @@ module _ (k : ℕ) (p : 0 < k) where
       rw (aligned_is n) (duration_at v.head v.tail (shift_of n k) z)
 
 -- ---- the laws
-module _ (a : Axis) (n turns : ℕ) (q : Accepted a n) (some : 1 ≤ n) (h : 0 < period_in a n) (t : n + 30 ≤ turns) where
-  abbrev axis : Timed a (period_in a n)
-  axis = timed a n q some h
+module _ (a : Axis) (n turns : ℕ) (q : Accepted a n) (some : 1 ≤ n) (k : ℕ) (h : period_in a n ≡ Some k) (t : n + 30 ≤ turns) where
+  abbrev axis : Timed a k
+  axis = timed a n q some k h
 
-  abbrev few : pos_part (span_of a) < (n + 1) * period_in a n
-  few = few_periods a n q some h
+  abbrev few : pos_part (span_of a) < (n + 1) * k
+  few = few_periods a n q some k h
 
-  by_period : (per x : ℕ) (first : Value) (c : Counts a per) (near : x ≤ period_in a n) →
+  by_period : (per x : ℕ) (first : Value) (c : Counts a per) (near : x ≤ k) →
       first ≡ counted a.start_head per (pos_part a.start_tail + x) →
-      list_from turns a per (period_in a n) first ≡ ticks (even a n (period_in a n) per x axis c few near)
+      list_from turns a per k first ≡ ticks (even a n k per x axis c few near)
   by_period per x first c near b =
-      let k = period_in a n in
       let s = even a n k per x axis c few near in
       let l = pos_part a.start_tail + pos_part (span_of a) in
       let last = at_end_tick a n k per x axis c few near in
       let above : 0 < per = omega (arith, c.least) in
       let room : l - s.first ≤ (n + 1) * k = omega (arith, few) in
-      walk_is a s l (λ v. plus per v k) h refl
+      walk_is a s l (λ v. plus per v k) axis.above refl
       (λ y o. rw (← last) (earlier_yes (tick_of_number s y) (tick_of_number s l) (before 1 (omega arith) (later s y l above o))))
       (λ y o. rw (← last) (elim (eq-or-lt_of_le o) [
         | inl e ↦ rw e (earlier_no (tick_of_number s y) (tick_of_number s y) (inr (omega arith, omega arith)))
         | inr g ↦ earlier_no (tick_of_number s y) (tick_of_number s l) (before 0 (omega arith) (later s l y above g))
       ]))
-      (λ y. plus_is a.start_head per y k above) turns first b (omega (arith, few_steps (l - s.first) k n h room))
+      (λ y. plus_is a.start_head per y k above) turns first b (omega (arith, few_steps (l - s.first) k n axis.above room))
 
-  pub date_times_same : is_duration a.kind ≡ false → date_times_by turns a (period_in a n) ≡ ticks (time_plan a (period_in a n))
+  pub date_times_same : is_duration a.kind ≡ false → date_times_by turns a k ≡ ticks (time_plan a k)
   unfolding date_times_by time_plan shift
   date_times_same d =
-      let k = period_in a n in
       let x = pos_part a.start_tail in
       let per : unit a.kind ≡ per_day = rw d in
       let c : Counts a per_day = rw per at (counts a q.real) in
-      rw d (by_period per_day (shift_up x k) _ c (up_most k h x) (first_date_time a.start_head x k))
+      rw d (by_period per_day (shift_up x k) _ c (up_most k axis.above x) (first_date_time a.start_head x k))
 
-  pub durations_same : is_duration a.kind ≡ true → durations_by turns a (period_in a n) ≡ ticks (time_plan a (period_in a n))
+  pub durations_same : is_duration a.kind ≡ true → durations_by turns a k ≡ ticks (time_plan a k)
   unfolding durations_by time_plan shift
   durations_same d =
-      let k = period_in a n in
       let z = nanoseconds (pos 7) (start a) in
       let per : unit a.kind ≡ per_second = rw d in
       let c : Counts a per_second = rw per at (counts a q.real) in
-      rw d (by_period per_second (shift_of z k) _ c (shift_most k h z) (first_duration k h (start a) c.start_dn))
+      rw d (by_period per_second (shift_of z k) _ c (shift_most k axis.above z) (first_duration k axis.above (start a) c.start_dn))

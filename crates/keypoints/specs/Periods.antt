@@ -1,7 +1,7 @@
 -- `compute_period_per_point` and its `determine_actual_ns_per_point`, as the Rust has them, but for the rounded logarithm:
 -- the power of ten is document 01's, 'the largest k with 10^k × N ≤ span, or 0'. Definitions only.
 use Rattle.std.specs.Prelude.{Bool, not, cond, List, [], ◌∷◌, ℕ, zero, suc, ◌+◌, ◌*◌, ◌/◌, ◌^◌, eqb, ltb, leb, length, get_or}
-use Rattle.std.proofs.Math.Option.{Option, none, some}
+use Rattle.std.specs.Prelude.{Option, Some, None}
 use Rattle.laws.specs.Units.{per_second, per_hour, per_day}
 
 -- while 10^(k + 1) × N ≤ span { k += 1; }
@@ -29,13 +29,13 @@ days_from turns actual totalNs maxPoints =
 -- the units by the power of ten, actual_ns_per_point
 unfoldable pub period_from : ℕ → ℕ → ℕ → ℕ → Bool → Option ℕ
 period_from turns actual totalNs maxPoints subDaily =
-    cond (ltb actual per_second) (some (determine_actual_ns_per_point turns totalNs actual (1 ∷ 2 ∷ 5 ∷ []) 10 maxPoints 0))
+    cond (ltb actual per_second) (Some (determine_actual_ns_per_point turns totalNs actual (1 ∷ 2 ∷ 5 ∷ []) 10 maxPoints 0))
     (cond (ltb actual per_hour)
-    (some (determine_actual_ns_per_point turns totalNs per_second (1 ∷ 2 ∷ 5 ∷ 10 ∷ 15 ∷ 20 ∷ 30 ∷ []) 60 maxPoints 0))
+    (Some (determine_actual_ns_per_point turns totalNs per_second (1 ∷ 2 ∷ 5 ∷ 10 ∷ 15 ∷ 20 ∷ 30 ∷ []) 60 maxPoints 0))
     (cond (ltb actual per_day)
-    (some (determine_actual_ns_per_point turns totalNs per_hour (1 ∷ 2 ∷ 4 ∷ 8 ∷ 12 ∷ []) 24 maxPoints 0))
-    (cond (not subDaily) (some (days_from turns actual totalNs maxPoints))
-    none)))
+    (Some (determine_actual_ns_per_point turns totalNs per_hour (1 ∷ 2 ∷ 4 ∷ 8 ∷ 12 ∷ []) 24 maxPoints 0))
+    (cond (not subDaily) (Some (days_from turns actual totalNs maxPoints))
+    None)))
 
 -- let mut actual_ns_per_point = 10u64.pow(..);
 unfoldable pub compute_period_per_point : ℕ → ℕ → ℕ → Bool → Option ℕ

@@ -1,8 +1,7 @@
 -- `key_points` of `RangedDateTime` and of `RangedDuration`, as the Rust has them. A value is a head and a tail.
 -- Definitions only.
 use Rattle.std.specs.Prelude.{Bool, true, false, cond, List, [], ◌∷◌, ℕ, zero, suc, ◌+◌, ◌-◌, ◌*◌, ◌/◌, ◌%◌, eqb, ltb, ℤ, pos}
-use Rattle.std.specs.Prelude.{negsuc, ◌+ℤ◌, ◌-ℤ◌, length, get_or}
-use Rattle.std.proofs.Math.Option.{Option, none, some}
+use Rattle.std.specs.Prelude.{negsuc, ◌+ℤ◌, ◌-ℤ◌, length, get_or, Option, Some, None}
 use Rattle.std.specs.Int.Signed.{lt_z, quot_z, rem_z}
 use Rattle.laws.specs.Numbers.{pos_part, as_u64}
 use Rattle.laws.specs.Units.{per_second, per_day, seconds_per_day}
@@ -28,12 +27,12 @@ list_from turns a per period first = while turns (λ v. earlier v (end a)) (λ v
 -- if let Some(total_ns) = total_span.num_nanoseconds() { if let Some(period) = compute_period_per_point(total_ns as u64, ..)
 unfoldable pub period_on : ℕ → Axis → ℕ → Bool → Option ℕ
 period_on turns a maxPoints subDaily =
-    cond (fits_i64 (span_of a)) (compute_period_per_point turns (as_u64 (span_of a)) maxPoints subDaily) none
+    cond (fits_i64 (span_of a)) (compute_period_per_point turns (as_u64 (span_of a)) maxPoints subDaily) None
 
 -- if let Some(period) = .. { return f(period); } rest
 abbrev pub if_some : Option ℕ → (ℕ → List Value) → List Value → List Value
-if_some (some period) f rest = f period
-if_some none f rest = rest
+if_some (Some period) f rest = f period
+if_some None f rest = rest
 
 -- ---- RangedDateTime
 -- if ns % period > 0 { ns + (period - ns % period) } else { ns }
