@@ -234,10 +234,7 @@ fn index_at(offset: i64, size: u64, width: i64) -> u64
     if (offset < 0) != (width < 0) {
         return 0;
     }
-    floats::floor_quotient(
-        floats::unsigned_abs(offset) * size,
-        floats::unsigned_abs(width),
-    )
+    floats::floor_quotient(offset.unsigned_abs() * size, width.unsigned_abs())
 }
 
 fn index_under(a: Axis, l: Limits, p: i64) -> u64

@@ -36,13 +36,13 @@ returns-then-offset-width c = let t = signs (goal.at.returns-then-offset-width c
 
 -- the magnitudes, as the code hands them on
 offset_is : (c : After-unsigned_abs) → c.unsigned_abs.result ≡ nat_abs c.args.offset
-offset_is c = c.unsigned_abs.ensures ∙ ap nat_abs (to_z-of_z c.ranges.offset)
+offset_is c = c.unsigned_abs.ensures.value ∙ ap nat_abs (to_z-of_z c.ranges.offset)
 
 product : (s : Start) → nat_abs s.args.offset * s.args.size ≤ 65534 * 3652059
 product s = mul-le-mul s.requires.0 s.requires.1
 
 width_is : (c : After-unsigned_abs-2) → c.unsigned_abs-2.result ≡ nat_abs c.args.width
-width_is c = c.unsigned_abs-2.ensures ∙ ap nat_abs (to_z-of_z c.ranges.width)
+width_is c = c.unsigned_abs-2.ensures.value ∙ ap nat_abs (to_z-of_z c.ranges.width)
 
 pub returns : goal.returns
 returns c = let n = nat_abs c.args.offset * c.args.size in
