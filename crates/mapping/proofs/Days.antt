@@ -9,7 +9,7 @@ use lib.IntN.{ℤ, nat_abs, ◌-ℤ◌}
 use lib.Signed.{le_z}
 use Rattle.laws.specs.Numbers.{pos_part, neg_part}
 use Rattle.laws.proofs.Signed.{sub, same, abs, is_lt, is_ge}
-use Rattle.laws.proofs.Asked.{told}
+use Rattle.asking.proofs.Asked.{told}
 use Rattle.laws.proofs.Tests.{and_false}
 use Rattle.floats.proofs.Values.{below_zero}
 use Rattle.values.specs.Values.{earlier, midnight}
@@ -21,7 +21,7 @@ use Rattle.axis.specs.Axes.{start, end, last}
 use Rattle.axis.proofs.Axes.{both_ends}
 use Rattle.axis.proofs.ClosedAxes.{in_written}
 use Rattle.mapping.specs.declared.Hairline.{Hairline}
-use Rattle.mapping.specs.declared.Pixel.TheVariants.{At}
+use Rattle.std.specs.Prelude.{Ok}
 use Rattle.mapping.specs.Mapping.{mapped, map_questions}
 use Rattle.mapping.specs.Days.{DayOf, MorePixels}
 use Rattle.mapping.specs.Position.{Inside, width}
@@ -51,14 +51,14 @@ days_from x s a b l = let d = sub x s in let z = not_below (x -ℤ s) (omega ari
 
 -- of two days, the first one earlier
 earlier_day : (a : Axis) (l : Limits) (i j : ℤ) (p q : Hairline) → MorePixels a l → DayOf a i → DayOf a j → neg_part i ≡ 0 →
-    neg_part j ≡ 0 → pos_part i < pos_part j → mapped a l (midnight i) ≡ At p → mapped a l (midnight j) ≡ At q →
+    neg_part j ≡ 0 → pos_part i < pos_part j → mapped a l (midnight i) ≡ Ok p → mapped a l (midnight j) ≡ Ok q →
     p.pixel ≡ q.pixel → ⊥
 earlier_day a l i j p q more on-i on-j zi zj less ei ej same_pixel =
     let (nx, x) = accepted a l (midnight i) p ei in
     let (ny, y) = accepted a l (midnight j) q ej in
     let row = map_questions a l (midnight i) in
-    let e = told 3 row tt nx in
-    let page = told 7 row tt nx in
+    let e = told 3 row nx in
+    let page = told 7 row nx in
     let both = both_ends a e in
     let first = date_value a.kind (start a) both.first on-i.dates in
     let final = date_value a.kind (end a) both.second on-i.dates in
@@ -66,9 +66,9 @@ earlier_day a l i j p q more on-i on-j zi zj less ei ej same_pixel =
     let t = a.end_head in
     let u = within_true s i t (in_written a s i on-i.inside) in
     let v = within_true s j t (in_written a s j on-j.inside) in
-    let m = date_cut a l (midnight i) e (told 8 row tt nx) page
+    let m = date_cut a l (midnight i) e (told 8 row nx) page
     (inside a first final i (omega arith) zi (omega arith) (omega arith)) on-i.dates in
-    let n = date_cut a l (midnight j) e (told 8 (map_questions a l (midnight j)) tt ny) page
+    let n = date_cut a l (midnight j) e (told 8 (map_questions a l (midnight j)) ny) page
     (inside a first final j (omega arith) zj (omega arith) (omega arith)) on-i.dates in
     let one : m.cut ≡ n.cut = one_sign (below_zero (width l)) m.cut n.cut
     (sym m.is ∙ ap (λ (r : ℤ). r -ℤ l.low) (x ∙ same_pixel ∙ sym y) ∙ n.is) in
@@ -79,9 +79,9 @@ earlier_day a l i j p q more on-i on-j zi zj less ei ej same_pixel =
 
 -- two different days of a date axis, more pixels than days: their pixels differ
 pub days_differ : (a : Axis) (l : Limits) (i j : ℤ) (p q : Hairline) → MorePixels a l → DayOf a i → DayOf a j → (i ≡ j → ⊥)
-    → mapped a l (midnight i) ≡ At p → mapped a l (midnight j) ≡ At q → p.pixel ≡ q.pixel → ⊥
+    → mapped a l (midnight i) ≡ Ok p → mapped a l (midnight j) ≡ Ok q → p.pixel ≡ q.pixel → ⊥
 days_differ a l i j p q w on-i on-j ne ei ej e =
-    let both = both_ends a (told 3 (map_questions a l (midnight i)) tt (accepted a l (midnight i) p ei).0) in
+    let both = both_ends a (told 3 (map_questions a l (midnight i)) (accepted a l (midnight i) p ei).0) in
     let first = date_value a.kind (start a) both.first on-i.dates in
     let zi : neg_part i ≡ 0 = not_below i (omega (arith, within_true a.start_head i (last a).head on-i.inside)) in
     let zj : neg_part j ≡ 0 = not_below j (omega (arith, within_true a.start_head j (last a).head on-j.inside)) in

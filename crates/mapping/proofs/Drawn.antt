@@ -11,10 +11,11 @@ use lib.Dec.{lit<}
 use lib.IntN.{ℤ, pos, negsuc, nat_abs, ◌-ℤ◌, ◌*ℤ◌, *ℤ-zero, zero-*ℤ}
 use lib.Signed.{quot_z}
 use Rattle.laws.specs.Numbers.{equal, is_number, pos_part, neg_part}
-use Rattle.laws.specs.Asking.{first_no, unless}
+use mathlib.Core.List.{List}
+use Rattle.asking.specs.Asking.{Question}
 use Rattle.laws.proofs.Signed.{sub, mul, mul_up, mul_dn, quot_up, quot_dn, abs, same, pos_up, equal_true, true_equal}
 use Rattle.laws.proofs.Tests.{both_true, and_true, and_false}
-use Rattle.laws.proofs.Asked.{told}
+use Rattle.asking.proofs.Asked.{told}
 use Rattle.floats.specs.Losses.{lost_in}
 use Rattle.floats.proofs.Losses as losses
 use Rattle.values.specs.declared.Value.{Value}
@@ -30,13 +31,13 @@ use Rattle.axis.specs.Questions.{ends, in_order, value_on, mappable, equals}
 use Rattle.axis.proofs.Axes as axes
 use Rattle.axis.proofs.Axes.{both_ends, with_value, span_from_0}
 use Rattle.mapping.specs.declared.Hairline.{Hairline}
-use Rattle.mapping.specs.declared.Pixel.TheVariants.{Refused, At}
+use Rattle.std.specs.Prelude.{Ok}
 use Rattle.mapping.specs.Hairlines.{on_pixel, in_nanoseconds, divides_nothing, exact_at, lost_at, hairline_at}
 use Rattle.mapping.specs.Mapping.{placed, hairline, scale_questions, map_questions, mapped, answered_at}
 use Rattle.mapping.specs.Position.{width, cut_position, days_position}
 use Rattle.mapping.specs.Drawn.{OnPosition, OnDays, HowDrawn}
 use Rattle.mapping.proofs.Hairlines.{days_kept, days_of}
-use Rattle.mapping.proofs.Answers.{answer_at, accepted, accepted_as}
+use Rattle.mapping.proofs.Answers.{behind, answer_at, accepted, accepted_as}
 use Rattle.mapping.proofs.Ends.{no_offset, start_at_low}
 
 -- ---- a quotient that leaves nothing
@@ -281,21 +282,21 @@ module _ (a : Axis) (l : Limits) (v : Value) (p : ℤ) (e : ends a ≡ true) (o 
             (multiplied at)) i)
 
 -- ---- the start is drawn on the low limit
-start_low : (a : Axis) (l : Limits) (h : Hairline) → mapped a l (start a) ≡ At h → h.pixel -ℤ l.low ≡ pos 0
+start_low : (a : Axis) (l : Limits) (h : Hairline) → mapped a l (start a) ≡ Ok h → h.pixel -ℤ l.low ≡ pos 0
 start_low a l h m =
-    let is = (answer_at (first_no (scale_questions a l)) (hairline_at a l (start a) l.low) h (sym (start_at_low a l) ∙ m)).1 in
+    let is = (answer_at (scale_questions a l) (hairline_at a l (start a) l.low) h (sym (start_at_low a l) ∙ m)).1 in
     ap (λ (k : Hairline). k.pixel -ℤ l.low) (sym is) ∙ same (l.low -ℤ l.low) (pos 0) (omega (arith, sub l.low l.low))
 
 -- THE THEOREM, of every pixel that mapping answers
-pub how_drawn : (a : Axis) (l : Limits) (v : Value) (h : Hairline) → mapped a l v ≡ At h → HowDrawn a l v h
+pub how_drawn : (a : Axis) (l : Limits) (v : Value) (h : Hairline) → mapped a l v ≡ Ok h → HowDrawn a l v h
 unfolding hairline
 how_drawn a l v h m =
     let (none, is) = accepted a l v h m in
     let row = map_questions a l v in
-    let e = told 3 row tt none in
-    let o = told 4 row tt none in
-    let value = told 8 row tt none in
-    let maps = told 9 row tt none in
+    let e = told 3 row none in
+    let o = told 4 row none in
+    let value = told 8 row none in
+    let maps = told 9 row none in
     let p = placed a l v in
     let low : (span_of a ≡ pos 0 → p -ℤ l.low ≡ pos 0) = λ s.
     ap (λ (q : ℤ). q -ℤ l.low) is ∙ start_low a l h (ap (mapped a l) (sym (only_start a v e maps s)) ∙ m) in
@@ -348,16 +349,15 @@ start_exact a l e o = go (fits_i64 (span_of a)) refl
 
 pub start_drawn : (a : Axis) (l : Limits) →
     mapped a l (start a) ≡ answered_at a l (record { pixel = l.low; exact = true; lost = lost_at a (start a) })
-start_drawn a l = start_at_low a l ∙ go (first_no (scale_questions a l)) refl
+start_drawn a l =
+    start_at_low a l
+    ∙ behind row (Ok (hairline_at a l (start a) l.low)) (Ok (record { pixel = l.low; exact = true; lost = lost_at a (start a) }))
+    (λ none.
+    let x = start_exact a l (told 3 row none) (told 4 row none) in
+    λ i. Ok (record { pixel = l.low; exact = x i; lost = lost_at a (start a) }))
   where
-    go : (q : ℕ) → first_no (scale_questions a l) ≡ q →
-        unless q Refused (At (hairline_at a l (start a) l.low))
-        ≡ unless q Refused (At (record { pixel = l.low; exact = true; lost = lost_at a (start a) }))
-    go zero none =
-        let row = scale_questions a l in
-        let x = start_exact a l (told 3 row tt none) (told 4 row tt none) in
-        λ i. At (record { pixel = l.low; exact = x i; lost = lost_at a (start a) })
-    go (suc q) e = refl
+    row : List Question
+    row = scale_questions a l
 
 -- ---- the end is exact just on the high limit: its position is the width
 record AtEnd (a : Axis) (l : Limits) (p : ℤ) : Type 0 where
@@ -411,14 +411,14 @@ module _ (a : Axis) (l : Limits) (e : ends a ≡ true) (o : in_order a ≡ true)
       (equal_true (width l *ℤ pos x.t) ((p -ℤ l.low) *ℤ pos x.t) (sym x.is ∙ is)) in
       same p l.high (omega (arith, sub p l.low, sub l.high l.low, ap pos_part w, ap neg_part w))
 
-pub end_exact : (a : Axis) (l : Limits) (h : Hairline) → earlier (start a) (end a) ≡ true → mapped a l (end a) ≡ At h →
+pub end_exact : (a : Axis) (l : Limits) (h : Hairline) → earlier (start a) (end a) ≡ true → mapped a l (end a) ≡ Ok h →
     (h.exact ≡ true → h.pixel ≡ l.high) × (h.pixel ≡ l.high → h.exact ≡ true)
 unfolding hairline
 end_exact a l h later m =
     let none = (accepted a l (end a) h m).0 in
     let row = map_questions a l (end a) in
-    let e = told 3 row tt none in
-    let o = told 4 row tt none in
+    let e = told 3 row none in
+    let o = told 4 row none in
     subst (λ (k : Hairline). (k.exact ≡ true → k.pixel ≡ l.high) × (k.pixel ≡ l.high → k.exact ≡ true))
     (accepted_as a l (end a) h m) (
       exact_high a l e o later (placed a l (end a)),

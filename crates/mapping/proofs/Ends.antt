@@ -2,7 +2,7 @@
 -- Assumes nothing.
 use mathlib.Core.Path.{◌≡◌, refl, sym, ap, ◌∙◌}
 use mathlib.Core.Logic.{◌⊎◌, inl, inr}
-use mathlib.Core.Bool.{Bool, true, false, ◌||◌}
+use mathlib.Core.Bool.{Bool, true, false, ◌||◌, false≢true}
 use mathlib.Core.List.{List}
 use Prim.Native.Nat.{ℕ, zero, suc, ◌+◌, ◌*◌, ◌≤◌, ◌<◌}
 use native.Mathlib.Nat.{le_of_suc-le-suc, lt_of_mul-lt-mul_right, eq-or-lt_of_le, le_antisymm, mul-zero, zero-mul}
@@ -13,10 +13,10 @@ use lib.Ieee as ieee
 use lib.Ieee.{Float, nan, to_signed}
 use borrow.Author.Tests.{not-true}
 use Rattle.laws.specs.Numbers.{minus, pos_part, neg_part}
-use Rattle.laws.specs.Asking.{Question, first_no, unless}
+use Rattle.asking.specs.Asking.{Question, passes}
 use Rattle.laws.proofs.Signed.{add, sub, neg_up, neg_dn, same, one_is_zero, is_ge}
 use Rattle.laws.proofs.Tests.{and_false}
-use Rattle.laws.proofs.Asked.{told}
+use Rattle.asking.proofs.Asked.{told}
 use Rattle.floats.specs.Rounding.{with_sign, cut}
 use Rattle.floats.proofs.Values.{below_zero}
 use Rattle.floats.proofs.Quotients.{zero_by_zero}
@@ -33,11 +33,11 @@ use Rattle.axis.specs.Questions.{ends, in_order, is_pixel, pixels, value_on, map
 use Rattle.axis.proofs.Axes.{both_ends, span_from_0}
 use Rattle.axis.proofs.Questions.{pixel_range}
 use Rattle.axis.proofs.PixelRanges.{limits_are}
-use Rattle.mapping.specs.declared.Pixel.TheVariants.{Refused, At}
+use Rattle.std.specs.Prelude.{Ok}
 use Rattle.mapping.specs.Hairlines.{hairline_at}
 use Rattle.mapping.specs.Mapping.{placed, hairline, scale_questions, mapped, mapped_by, answered_at}
 use Rattle.mapping.specs.Position.{Inside, width, one_nearer}
-use Rattle.mapping.proofs.Answers.{in_parts}
+use Rattle.mapping.proofs.Answers.{in_parts, behind}
 use Rattle.mapping.proofs.SignedCuts.{nearer}
 use Rattle.mapping.proofs.Placing.{nudged, in_nanoseconds_law}
 use Rattle.mapping.proofs.Positions.{cut_from, low_off, width_few, z, pixel_cut}
@@ -105,16 +105,12 @@ on_page_fits p e = let r = pixel_range p e in
     rw (is_le (minus 2147483648) p (omega arith), is_le p (pos 2147483647) (omega arith))
 
 answered : (a : Axis) (l : Limits) (v : Value) (p : ℤ) →
-    (first_no (scale_questions a l) ≡ 0 → (value_on a v ≡ true) × (mappable a v ≡ true) × (is_pixel p ≡ true) ×
+    (passes (scale_questions a l) ≡ true → (value_on a v ≡ true) × (mappable a v ≡ true) × (is_pixel p ≡ true) ×
     (placed a l v ≡ p)) →
     mapped a l v ≡ answered_at a l (hairline_at a l v p)
 unfolding hairline mapped_by
-answered a l v p f = in_parts a l v ∙ go (first_no (scale_questions a l)) refl
-  where
-    go : (q : ℕ) → first_no (scale_questions a l) ≡ q →
-        unless q Refused (mapped_by a l v) ≡ unless q Refused (At (hairline_at a l v p))
-    go zero e = let (value, maps, page, is) = f e in rw (is, value, maps, on_page_fits p page)
-    go (suc q) e = refl
+answered a l v p f = in_parts a l v ∙ behind (scale_questions a l) (mapped_by a l v) (Ok (hairline_at a l v p)) (λ none.
+    let (value, maps, page, is) = f none in rw (is, value, maps, on_page_fits p page) refl)
 
 -- ---- the start
 pub no_offset : (a : Axis) → offset_of a (start a) ≡ pos 0
@@ -162,12 +158,12 @@ pub start_at_low : (a : Axis) (l : Limits) → mapped a l (start a) ≡ answered
 unfolding value_on mappable
 start_at_low a l = answered a l (start a) l.low (λ none.
     let row = scale_questions a l in
-    let e = told 3 row tt none in
-    let page = told 7 row tt none in (
+    let e = told 3 row none in
+    let page = told 7 row none in (
       (both_ends a e).first,
       rw equals_itself (or_true (earlier (start a) (end a))),
       (limits_are l page).0,
-      at_low _ _ (start_placed a l e (told 4 row tt none) page),
+      at_low _ _ (start_placed a l e (told 4 row none) page),
     ))
 
 -- ---- the end
@@ -215,25 +211,25 @@ pub end_at_high : (a : Axis) (l : Limits) → earlier (start a) (end a) ≡ true
     (mapped a l (end a) ≡ answered_at a l (hairline_at a l (end a) l.high))
     ⊎ (mapped a l (end a) ≡ answered_at a l (hairline_at a l (end a) (l.low +ℤ one_nearer (width l))))
 unfolding value_on mappable
-end_at_high a l some = go (first_no (scale_questions a l)) refl
+end_at_high a l some = go (passes (scale_questions a l)) refl
   where
     row : List Question
     row = scale_questions a l
 
     -- a pixel of the page
-    at : (p : ℤ) → (first_no row ≡ 0 → (is_pixel p ≡ true) × (placed a l (end a) ≡ p)) →
+    at : (p : ℤ) → (passes row ≡ true → (is_pixel p ≡ true) × (placed a l (end a) ≡ p)) →
         mapped a l (end a) ≡ answered_at a l (hairline_at a l (end a) p)
     at p f = answered a l (end a) p (λ none.
         let (page, is) = f none in
-        ((both_ends a (told 3 row tt none)).second, ap (λ (b : Bool). b || equals (end a) (start a)) some, page, is))
+        ((both_ends a (told 3 row none)).second, ap (λ (b : Bool). b || equals (end a) (start a)) some, page, is))
 
-    go : (q : ℕ) → first_no row ≡ q →
+    go : (b : Bool) → passes row ≡ b →
         (mapped a l (end a) ≡ answered_at a l (hairline_at a l (end a) l.high))
         ⊎ (mapped a l (end a) ≡ answered_at a l (hairline_at a l (end a) (l.low +ℤ one_nearer (width l))))
-    go (suc q) refuses = inl (at l.high (λ none. absurd (let x : ⊥ = omega arith in x)))
-    go zero none =
-        let page = told 7 row tt none in
-        elim (end_placed a l some (told 3 row tt none) (told 4 row tt none) page) [
+    go false refuses = inl (at l.high (λ none. absurd (false≢true (sym refuses ∙ none))))
+    go true none =
+        let page = told 7 row none in
+        elim (end_placed a l some (told 3 row none) (told 4 row none) page) [
           | inl e ↦ inl (at l.high (λ _. ((limits_are l page).1, at_width_of l _ e)))
           | inr e ↦ inr (let (x, y) = one_short l _ page e in at _ (λ _. (ap is_pixel (sym y) ∙ x, y)))
         ]

@@ -1,11 +1,13 @@
 -- How a pixel is drawn: by what the mapping divides, and of the start. Assumes nothing.
 use mathlib.Core.Path.{◌≡◌, refl, sym, ap, ◌∙◌}
-use mathlib.Core.Bool.{Bool, true, false, not, ◌&&◌, ◌||◌}
+use mathlib.Core.Bool.{Bool, true, false, not, cond, ◌&&◌, ◌||◌}
 use Prim.Native.Nat.{◌/◌, ◌≤◌}
 use native.Mathlib.Omega.{arith}
+use Rattle.std.specs.Prelude.{Option, Some, None}
+use Rattle.std.specs.Option.{option_map}
 use lib.Dec.{lit<}
 use lib.IntN.{ℤ, pos, negsuc, nat_abs, ◌+ℤ◌}
-use lib.Ieee.{binary64, of_int}
+use lib.Ieee.{Float, binary64, of_int}
 use Rattle.laws.specs.Numbers.{is_number}
 use Rattle.laws.proofs.Signed.{add, sub, same}
 use Rattle.laws.proofs.Tests.{and_false}
@@ -14,11 +16,10 @@ use Rattle.floats.specs.Losses.{lost_in}
 use Rattle.floats.proofs.Values.{below_zero, int_val, signed_val, cut_signed, cut_within}
 use Rattle.floats.proofs.Losses.{small_kept}
 use Rattle.values.specs.declared.Value.{Value}
-use Rattle.values.specs.declared.Nanoseconds.{Nanoseconds}
 use Rattle.values.specs.Values.{is_duration}
 use Rattle.values.specs.Differences.{fits_i64, nanoseconds_of, whole_days}
 use Rattle.values.proofs.Differences.{whole_range}
-use Rattle.values.proofs.Fits.{answer_fits, answer_value}
+use Rattle.values.proofs.Fits.{answer_none, answer_some}
 use Rattle.axis.specs.declared.Axis.{Axis}
 use Rattle.axis.specs.declared.Limits.{Limits}
 use Rattle.axis.specs.Axes.{start, end, span_of, offset_of}
@@ -26,9 +27,11 @@ use Rattle.axis.specs.Questions.{ends, pixels, value_on}
 use Rattle.axis.proofs.Axes.{both_ends, with_value}
 use Rattle.axis.proofs.PixelRanges.{limits_are, between_few}
 use Rattle.mapping.specs.Position.{width}
+use Rattle.mapping.specs.declared.Span.{Span}
 use Rattle.mapping.specs.declared.Scale.{Scale}
+use Rattle.mapping.specs.declared.Ratio.{Ratio}
 use Rattle.mapping.specs.Hairlines.{on_pixel, in_nanoseconds, divides_nothing, exact_at, lost_at, hairline_at}
-use Rattle.mapping.specs.Mapping.{scale_of, limits_of}
+use Rattle.mapping.specs.Mapping.{with_total, scale_of, limits_of, in_nanos, hairline_from}
 use Rattle.mapping.proofs.Ranges.{few}
 
 -- ---- nothing is lost in whole days
@@ -67,29 +70,66 @@ module _ (a : Axis) (l : Limits) (v : Value) (p : ℤ) where
   unfolding exact_at lost_at
   days_is f g = rw (f, g) refl
 
--- ---- by a ready scale, and an offset as the code has it
+-- ---- by a ready scale
 module _ (a : Axis) (s : Scale) (is : s ≡ scale_of a (limits_of s)) where
-  pub fits_is : s.fits ≡ fits_i64 (span_of a)
+  -- the span as the scale has it
+  span_is : s.span ≡ option_map with_total (nanoseconds_of (span_of a))
   unfolding scale_of
-  fits_is = ap (λ (x : Scale). x.fits) is ∙ answer_fits (span_of a) (nanoseconds_of (span_of a)) refl
+  span_is = ap (λ (x : Scale). x.span) is
 
-  pub span_is : s.fits ≡ true → s.span ≡ span_of a
-  unfolding scale_of
-  span_is f = ap (λ (x : Scale). x.span) is
-      ∙ answer_value (span_of a) (nanoseconds_of (span_of a)) refl (sym (ap (λ (x : Scale). x.fits) is) ∙ f)
+  pub span_none : s.span ≡ None → fits_i64 (span_of a) ≡ false
+  span_none f = by (nanoseconds_of (span_of a)) refl (sym span_is ∙ f)
+    where
+      by : (n : Option ℤ) → n ≡ nanoseconds_of (span_of a) → option_map with_total n ≡ None → fits_i64 (span_of a) ≡ false
+      by None e f = answer_none (span_of a) None e refl
+      by (Some n) e f = absurd (let z : ⊥ = cc in z)
+
+  pub span_some : (t : Span) → s.span ≡ Some t → (fits_i64 (span_of a) ≡ true) × (t ≡ with_total (span_of a))
+  span_some t f = by (nanoseconds_of (span_of a)) refl (sym span_is ∙ f)
+    where
+      by : (n : Option ℤ) → n ≡ nanoseconds_of (span_of a) → option_map with_total n ≡ Some t →
+          (fits_i64 (span_of a) ≡ true) × (t ≡ with_total (span_of a))
+      by None e f = absurd (let z : ⊥ = cc in z)
+      by (Some n) e f =
+          let (k, m) = answer_some (span_of a) (Some n) e n refl in
+          let z : with_total n ≡ t = cc in
+          (k, sym z ∙ ap with_total m)
 
   pub width_is : s.width ≡ of_int binary64 (width (limits_of s))
   unfolding scale_of
   width_is = ap (λ (x : Scale). x.width) is
 
-  pub total_is : s.fits ≡ true → s.total ≡ of_int binary64 (span_of a)
-  unfolding scale_of
-  total_is f = ap (λ (x : Scale). x.total) is
-      ∙ ap (of_int binary64) (sym (ap (λ (x : Scale). x.span) is) ∙ span_is f)
+-- ---- what is divided in nanoseconds, by a scale's span and an offset as the code has them
+pub nanos_are : (a : Axis) (s : Scale) → s ≡ scale_of a (limits_of s) → (v : Value) (o : ℤ) (t : Span) →
+    o ≡ offset_of a v → t ≡ with_total (span_of a) →
+    in_nanos s.width o t ≡ in_nanos (of_int binary64 (width (limits_of s))) (offset_of a v) (with_total (span_of a))
+nanos_are a s is v o t offset span = λ i. in_nanos (width_is a s is i) (offset i) (span i)
 
-  module _ (v : Value) (n : Nanoseconds) (offset : n ≡ nanoseconds_of (offset_of a v)) where
-    pub unit_is : in_nanoseconds a v ≡ s.fits && n.fits
-    unit_is = λ i. sym fits_is i && sym (answer_fits (offset_of a v) n offset) i
+-- ---- the hairline of what was divided
+module _ (a : Axis) (l : Limits) (v : Value) (x : Float) where
+  pub near_from : in_nanoseconds a v ≡ true →
+      hairline_from l (record { x = x; ratio = Some (record { offset = offset_of a v; span = span_of a }) })
+      ≡ hairline_at a l v (l.low +ℤ cut x)
+  near_from f = sym (near_is a l v (l.low +ℤ cut x) f)
+
+  abbrev days_ratio : Bool → Option Ratio
+  days_ratio b = cond b None (Some (record { offset = whole_days (offset_of a v); span = whole_days (span_of a) }))
+
+  pub days_from : in_nanoseconds a v ≡ false → divides_nothing a ≡ false → ends a ≡ true → value_on a v ≡ true →
+      hairline_from l (record { x = x; ratio = days_ratio (is_number (whole_days (span_of a)) 0) })
+      ≡ hairline_at a l v (l.low +ℤ cut x)
+  days_from f g e value = by (is_number (whole_days (span_of a)) 0) ∙ sym (days_is a l v p f g)
+    where
+      p : ℤ
+      p = l.low +ℤ cut x
+
+      by : (b : Bool) → hairline_from l (record { x = x; ratio = days_ratio b }) ≡ record {
+        pixel = p;
+        exact = not b && on_pixel l (whole_days (offset_of a v)) (whole_days (span_of a)) p;
+        lost = lost_in (whole_days (offset_of a v)) || lost_in (whole_days (span_of a));
+      }
+      by true = λ i. record { pixel = p; exact = false; lost = sym (days_kept a v e value) i }
+      by false = refl
 
 -- a mapping that does not divide nanoseconds divides days: on all kinds but 7, and on 7 where the span does not fit
 pub days_of : (a : Axis) → is_duration a.kind ≡ false → divides_nothing a ≡ false
@@ -115,6 +155,8 @@ at_high l page =
     with_sign_law (pos n) = refl
     with_sign_law (negsuc n) = refl
 
--- nothing is lost of 0
-pub none_lost : lost_in (pos 0) || lost_in (pos 0) ≡ false
-none_lost = let z = small_kept (pos 0) (omega arith) in λ i. z i || z i
+-- the high limit, where nothing is divided
+pub nothing_from : (a : Axis) (l : Limits) (v : Value) → pixels l ≡ true → in_nanoseconds a v ≡ false → divides_nothing a ≡ true →
+    hairline_from l (record { x = of_int binary64 (width l); ratio = None }) ≡ hairline_at a l v l.high
+nothing_from a l v page f g =
+    (λ i. record { pixel = at_high l page i; exact = false; lost = false }) ∙ sym (nothing_is a l v l.high f g)

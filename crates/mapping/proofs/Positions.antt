@@ -13,7 +13,7 @@ use lib.Ieee.{binary64, of_int}
 use lib.Ieee.Exact.{HasValue}
 use Rattle.laws.specs.Numbers.{pos_part, neg_part}
 use Rattle.laws.proofs.Signed.{add, sub, mul_up, pos_up, same}
-use Rattle.laws.proofs.Asked.{told}
+use Rattle.asking.proofs.Asked.{told}
 use Rattle.laws.proofs.Quotients.{below_next}
 use Rattle.floats.specs.Rounding.{with_sign, quotient_of, cut}
 use Rattle.floats.proofs.Values.{below_zero}
@@ -33,7 +33,7 @@ use Rattle.axis.specs.Questions.{pixels, ends, value_on}
 use Rattle.axis.proofs.Axes.{both_ends, with_value}
 use Rattle.axis.proofs.PixelRanges.{limits_are, between_few}
 use Rattle.mapping.specs.declared.Hairline.{Hairline}
-use Rattle.mapping.specs.declared.Pixel.TheVariants.{At}
+use Rattle.std.specs.Prelude.{Ok}
 use Rattle.mapping.specs.Mapping.{nudge, placed, map_questions, mapped}
 use Rattle.mapping.specs.Position.{Inside, width, cut_position, WholePosition, days_position}
 use Rattle.mapping.specs.Position.{WithinOne, CutOrNearer, HowFarOff}
@@ -300,13 +300,13 @@ module _ (a : Axis) (l : Limits) (v : Value) (e : ends a ≡ true) (value : valu
         product_days span_days c.between)
 
 -- THE THEOREM, of every pixel that mapping answers
-pub how_far_off : (a : Axis) (l : Limits) (v : Value) (h : Hairline) → mapped a l v ≡ At h → HowFarOff a l v h.pixel
+pub how_far_off : (a : Axis) (l : Limits) (v : Value) (h : Hairline) → mapped a l v ≡ Ok h → HowFarOff a l v h.pixel
 how_far_off a l v h m =
     let (none, is) = accepted a l v h m in
     let row = map_questions a l v in
-    let e = told 3 row tt none in
-    let value = told 8 row tt none in
-    let page = told 7 row tt none in
+    let e = told 3 row none in
+    let value = told 8 row none in
+    let page = told 7 row none in
     subst (HowFarOff a l v) is (record {
       one_off = λ i. within_one a l v e value page i;
       if_whole = λ i whole. at_whole a l v e value page i whole;

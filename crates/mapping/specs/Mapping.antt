@@ -1,9 +1,13 @@
 -- The pixel of a value on an axis between two limits: map_coord of all kinds but 7, the duration's own map, and what
 -- mapping answers, refused calls too; a pixel is answered as a hairline, which says how it is drawn. Definitions only.
-use Rattle.std.specs.Prelude.{◌≡◌, true, not, cond, ◌&&◌, ◌||◌, List, [], ◌∷◌, ◌++◌, ◌^◌, ℤ, pos, ◌+ℤ◌, Float}
+use Rattle.std.specs.Prelude.{◌≡◌, Bool, true, false, cond, ◌||◌, List, [], ◌∷◌, ◌++◌, ◌^◌, ℤ, pos, ◌+ℤ◌, Float}
+use Rattle.std.specs.Prelude.{Result, Ok, Option, Some, None}
+use Rattle.std.specs.Option.{option_map}
 use Rattle.std.specs.Float.{binary64}
 use Rattle.std.specs.Float.Ieee.{of_int, add, div}
-use Rattle.laws.specs.Asking.{Question, ask, first_no, asked}
+use Rattle.asking.specs.Asking.{Question, ask, asked}
+use Rattle.asking.specs.declared.Refusal.{Refusal}
+use Rattle.asking.specs.declared.Refusal.TheVariants as refusal
 use Rattle.laws.specs.Numbers.{is_number}
 use Rattle.floats.specs.Rounding.{quotient_of, cut}
 use Rattle.floats.specs.Losses.{lost_in}
@@ -14,12 +18,11 @@ use Rattle.axis.specs.declared.Axis.{Axis}
 use Rattle.axis.specs.declared.Limits.{Limits}
 use Rattle.axis.specs.Axes.{span_of, offset_of}
 use Rattle.axis.specs.Questions.{pixels, value_on, mappable, fits_i32, axis_questions}
+use Rattle.mapping.specs.declared.Span.{Span}
 use Rattle.mapping.specs.declared.Scale.{Scale}
-use Rattle.mapping.specs.declared.Ready.{Ready}
 use Rattle.mapping.specs.declared.Hairline.{Hairline}
+use Rattle.mapping.specs.declared.Ratio.{Ratio}
 use Rattle.mapping.specs.declared.Divided.{Divided}
-use Rattle.mapping.specs.declared.Pixel.{Pixel}
-use Rattle.mapping.specs.declared.Pixel.TheVariants.{Refused, At}
 use Rattle.mapping.specs.Position.{width}
 use Rattle.mapping.specs.Hairlines.{on_pixel, in_nanoseconds, hairline_at}
 
@@ -59,36 +62,39 @@ hairline a l v = hairline_at a l v (placed a l v)
 
 -- the questions of mapping: those of the axis and of the limits, which are the same for all values
 abbrev pub scale_questions : Axis → Limits → List Question
-scale_questions a l = axis_questions true a ++ (ask 7 (pixels l) ∷ [])
+scale_questions a l = axis_questions true a ++ (ask refusal.Limits (pixels l) ∷ [])
 
 -- then those of the value
 abbrev pub map_value_questions : Axis → Value → List Question
-map_value_questions a v = ask 8 (value_on a v) ∷ (ask 9 (mappable a v) ∷ [])
+map_value_questions a v = ask refusal.Value (value_on a v) ∷ (ask refusal.Length (mappable a v) ∷ [])
 
 -- and of the answer p
 abbrev pub pixel_questions : Axis → Value → ℤ → List Question
-pixel_questions a v p = map_value_questions a v ++ (ask 10 (fits_i32 p) ∷ [])
+pixel_questions a v p = map_value_questions a v ++ (ask refusal.Range (fits_i32 p) ∷ [])
 
 -- all questions of mapping
 abbrev pub map_questions : Axis → Limits → Value → List Question
 map_questions a l v = scale_questions a l ++ pixel_questions a v (placed a l v)
 
 -- what mapping answers
-unfoldable pub mapped : Axis → Limits → Value → Pixel
+unfoldable pub mapped : Axis → Limits → Value → Result Hairline Refusal
 unfolding placed hairline
-mapped a l v = asked (map_questions a l v) Refused (At (hairline a l v))
+mapped a l v = asked (map_questions a l v) (Ok (hairline a l v))
 
 -- a hairline that only the questions of the axis and the limits can refuse, as those of the ends are
-abbrev pub answered_at : Axis → Limits → Hairline → Pixel
-answered_at a l h = asked (scale_questions a l) Refused (At h)
+abbrev pub answered_at : Axis → Limits → Hairline → Result Hairline Refusal
+answered_at a l h = asked (scale_questions a l) (Ok h)
 
 -- ---- many values of one axis
 -- the same where the axis and the limits were asked
-unfoldable pub mapped_by : Axis → Limits → Value → Pixel
+unfoldable pub mapped_by : Axis → Limits → Value → Result Hairline Refusal
 unfolding placed hairline
-mapped_by a l v = asked (pixel_questions a v (placed a l v)) Refused (At (hairline a l v))
+mapped_by a l v = asked (pixel_questions a v (placed a l v)) (Ok (hairline a l v))
 
 -- what all values on an axis share
+abbrev pub with_total : ℤ → Span
+with_total n = record { nanoseconds = n; total = of_int binary64 n }
+
 unfoldable pub scale_of : Axis → Limits → Scale
 unfolding nanoseconds_of
 scale_of a l =
@@ -96,9 +102,7 @@ scale_of a l =
       low = l.low;
       high = l.high;
       width = of_int binary64 (width l);
-      fits = (nanoseconds_of (span_of a)).fits;
-      span = (nanoseconds_of (span_of a)).value;
-      total = of_int binary64 (nanoseconds_of (span_of a)).value;
+      span = option_map with_total (nanoseconds_of (span_of a));
     }
 
 -- the limits of a scale
@@ -114,24 +118,36 @@ pub record ScaleFor (a : Axis) (s : Scale) : Type 0 where
   pub scale : s ≡ scale_of a (limits_of s)
   pub on_page : pixels (limits_of s) ≡ true
 
--- what is divided in whole days
+-- what is divided in nanoseconds
+abbrev pub in_nanos : Float → ℤ → Span → Divided
+in_nanos width offset t =
+    record { x = quotient_of width offset t.total; ratio = Some (record { offset = offset; span = t.nanoseconds }) }
+
+-- and in whole days
 abbrev pub in_days : Axis → Limits → Value → Divided
 in_days a l v =
+    let days = whole_days (offset_of a v) in
     let span = whole_days (span_of a) in
-    record {
-      some = not (is_number span 0);
-      x = over l (whole_days (offset_of a v)) span;
-      offset = whole_days (offset_of a v);
-      span = span;
-    }
+    record { x = over l days span; ratio = cond (is_number span 0) None (Some (record { offset = days; span = span })) }
+
+-- 1e-10 more
+abbrev pub nudged : Divided → Divided
+nudged q = record { x = add binary64 q.x nudge; ratio = q.ratio }
+
+-- is the pixel p where the ratio of what was divided says?
+abbrev pub exact_by : Limits → ℤ → Option Ratio → Bool
+exact_by l p None = false
+exact_by l p (Some r) = on_pixel l r.offset r.span p
+
+-- and what was lost of it
+abbrev pub lost_by : Option Ratio → Bool
+lost_by None = false
+lost_by (Some r) = lost_in r.offset || lost_in r.span
 
 -- the hairline of what was divided: low and the position, cut
 abbrev pub hairline_from : Limits → Divided → Hairline
-hairline_from l q =
-    let p = l.low +ℤ cut q.x in
-    record { pixel = p; exact = q.some && on_pixel l q.offset q.span p; lost = lost_in q.offset || lost_in q.span }
+hairline_from l q = let p = l.low +ℤ cut q.x in record { pixel = p; exact = exact_by l p q.ratio; lost = lost_by q.ratio }
 
 -- what was asked once, and the scale where nothing was refused
-pub record ReadyFor (a : Axis) (l : Limits) (r : Ready) : Type 0 where
-  pub refusal : r.refusal ≡ first_no (scale_questions a l)
-  pub scale : r.refusal ≡ 0 → r.scale ≡ scale_of a l
+abbrev pub ReadyFor : Axis → Limits → Result Scale Refusal → Type 0
+ReadyFor a l m = m ≡ asked (scale_questions a l) (Ok (scale_of a l))

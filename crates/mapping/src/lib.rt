@@ -2,36 +2,35 @@
 // Floats where the Rust computes in floats, each step rounded as IEEE 754 says.
 #![tactic(auto)]
 
-ghost use Rattle.std.specs.Prelude.{◌≡◌, true, false};
-ghost use Rattle.laws.specs.Asking.{first_no};
+ghost use Rattle.std.specs.Prelude.{◌≡◌, true, false, Ok};
+ghost use Rattle.asking.specs.Asking.{asked};
 ghost use Rattle.values.specs.Values.{is_duration};
 ghost use Rattle.floats.specs.Rounding.{quotient_of};
 ghost use Rattle.axis.specs.Questions.{ends, pixels, value_on};
 ghost use Rattle.mapping.specs.Hairlines.{hairline_at};
-ghost use Rattle.mapping.specs.Mapping.{map_coord, map_duration, hairline};
-ghost use Rattle.mapping.specs.Mapping.{scale_of, limits_of, OnPage, ScaleFor, in_days, hairline_from};
+ghost use Rattle.mapping.specs.Mapping.{map_coord, map_duration, hairline, with_total, scale_of, limits_of};
+ghost use Rattle.mapping.specs.Mapping.{OnPage, ScaleFor, in_nanos, nudged, in_days, hairline_from};
 ghost use Rattle.mapping.specs.Mapping.{scale_questions, map_value_questions, mapped, mapped_by, ReadyFor};
 
+use asking::{Refusal, ask};
 use axis::{Axis, Limits};
 use values::Value;
 
-// What all values on an axis share, worked out once for an axis and its limits: these, the width as f64, and the span in
-// nanoseconds, where it fits, with the same as f64.
+// A span in nanoseconds, and the same as f64.
+#[derive(Clone, Copy)]
+pub struct Span {
+    pub nanoseconds: i64,
+    pub total: f64,
+}
+
+// What all values on an axis share, worked out once for an axis and its limits: these, the width as f64, and the span, where it
+// fits nanoseconds.
 #[derive(Clone, Copy)]
 pub struct Scale {
     pub low: i64,
     pub high: i64,
     pub width: f64,
-    pub fits: bool,
-    pub span: i64,
-    pub total: f64,
-}
-
-// What is asked once for many values, and their scale; no number of it is used where the refusal is not 0.
-#[derive(Clone, Copy)]
-pub struct Ready {
-    pub refusal: u8,
-    pub scale: Scale,
+    pub span: Option<Span>,
 }
 
 // A pixel, whether it is the exact position, and whether an offset or a span that was divided had lost something. The flags
@@ -43,20 +42,29 @@ pub struct Hairline {
     pub lost: bool,
 }
 
-// The position W × offset ÷ span in floats, before the cut, and what was divided; some says whether there was something to divide
-// by, without which no position is exact.
+// An offset and the span that it is divided by.
 #[derive(Clone, Copy)]
-pub struct Divided {
-    pub some: bool,
-    pub x: f64,
+pub struct Ratio {
     pub offset: i64,
     pub span: i64,
 }
 
+// The position W × offset ÷ span in floats, before the cut, and what was divided, where there was something to divide by;
+// without it no position is exact.
 #[derive(Clone, Copy)]
-pub enum Pixel {
-    Refused(u8),
-    At(Hairline),
+pub struct Divided {
+    pub x: f64,
+    pub ratio: Option<Ratio>,
+}
+
+// The span's float, made once.
+fn with_total(n: i64) -> Span
+    ensures { result ≡ with_total n }
+{
+    Span {
+        nanoseconds: n,
+        total: floats::from_i64(n).value,
+    }
 }
 
 // The width is below 2^53, so that `as` loses nothing of it.
@@ -64,27 +72,12 @@ pub fn scale_of(a: Axis, l: Limits) -> Scale
     requires { (ends a ≡ true) × (pixels l ≡ true) }
     ensures { result ≡ scale_of a l }
 {
-    let span = axis::span(a);
     let width = l.high - l.low;
     Scale {
         low: l.low,
         high: l.high,
         width: width as f64,
-        fits: span.fits,
-        span: span.value,
-        total: floats::from_i64(span.value).value,
-    }
-}
-
-// In place of a scale, where the axis or the limits are refused.
-fn no_scale() -> Scale {
-    Scale {
-        low: 0,
-        high: 0,
-        width: 0.0,
-        fits: false,
-        span: 0,
-        total: 0.0,
+        span: axis::span(a).map(with_total),
     }
 }
 
@@ -103,10 +96,24 @@ fn in_days(s: Scale, a: Axis, v: Value) -> Divided
     let days = axis::offset_days(a, v);
     let span = axis::span_days(a);
     Divided {
-        some: !((0 <= span) & (span <= 0)),
         x: quotient(s.width, days, floats::from_i64(span).value),
-        offset: days,
-        span: span,
+        ratio: (span != 0).then_some(Ratio {
+            offset: days,
+            span: span,
+        }),
+    }
+}
+
+// An offset in nanoseconds, divided.
+fn in_nanos(s: Scale, offset: i64, span: Span) -> Divided
+    ensures { result ≡ in_nanos s.width offset span }
+{
+    Divided {
+        x: quotient(s.width, offset, span.total),
+        ratio: Some(Ratio {
+            offset: offset,
+            span: span.nanoseconds,
+        }),
     }
 }
 
@@ -115,48 +122,41 @@ pub fn map_coord(s: Scale, a: Axis, v: Value) -> Divided
     requires { ScaleFor a s × (is_duration a.kind ≡ false) × (ends a ≡ true) × (value_on a v ≡ true) }
     ensures { hairline_from (limits_of s) result ≡ hairline_at a (limits_of s) v (map_coord a (limits_of s) v) }
 {
-    let o = axis::offset(a, v);
-    if s.fits & o.fits {
-        return Divided {
-            some: true,
-            x: quotient(s.width, o.value, s.total),
-            offset: o.value,
-            span: s.span,
-        };
+    let Some(span) = s.span else {
+        return in_days(s, a, v);
+    };
+    match axis::offset(a, v) {
+        Some(offset) => in_nanos(s, offset, span),
+        None => in_days(s, a, v),
     }
-    in_days(s, a, v)
 }
 
-// Kind 7, as RangedDuration::map: 1e-10 is added before the cut, and where the span fits nanoseconds and the offset does
-// not, the answer is the high limit.
+// What a duration's position gets before the cut: 1e-10.
+fn nudged(q: Divided) -> Divided
+    ensures { result ≡ nudged q }
+{
+    Divided {
+        x: q.x + 0.0000000001,
+        ratio: q.ratio,
+    }
+}
+
+// Kind 7, as RangedDuration::map: nudged, and where the span fits nanoseconds and the offset does not, the answer is the high
+// limit.
 pub fn map_duration(s: Scale, a: Axis, v: Value) -> Divided
     requires { ScaleFor a s × (is_duration a.kind ≡ true) × (ends a ≡ true) × (value_on a v ≡ true) }
     ensures { hairline_from (limits_of s) result ≡ hairline_at a (limits_of s) v (map_duration a (limits_of s) v) }
 {
-    if !s.fits {
-        let q = in_days(s, a, v);
+    let Some(span) = s.span else {
+        return nudged(in_days(s, a, v));
+    };
+    let Some(offset) = axis::offset(a, v) else {
         return Divided {
-            some: q.some,
-            x: q.x + 0.0000000001,
-            offset: q.offset,
-            span: q.span,
-        };
-    }
-    let o = axis::offset(a, v);
-    if !o.fits {
-        return Divided {
-            some: false,
             x: s.width,
-            offset: 0,
-            span: 0,
+            ratio: None,
         };
-    }
-    Divided {
-        some: true,
-        x: quotient(s.width, o.value, s.total) + 0.0000000001,
-        offset: o.value,
-        span: s.span,
-    }
+    };
+    nudged(in_nanos(s, offset, span))
 }
 
 // Either, by the kind.
@@ -176,11 +176,18 @@ fn from_low(s: Scale, q: Divided) -> Hairline
     ensures { result ≡ hairline_from (limits_of s) q }
 {
     let position = floats::to_i32(q.x) as i64;
-    let same = products::same_products(s.high - s.low, q.offset, position, q.span);
+    let pixel = s.low + position;
+    let Some(r) = q.ratio else {
+        return Hairline {
+            pixel: pixel,
+            exact: false,
+            lost: false,
+        };
+    };
     Hairline {
-        pixel: s.low + position,
-        exact: q.some & same,
-        lost: floats::either_loses(q.offset, q.span),
+        pixel: pixel,
+        exact: products::same_products(s.high - s.low, r.offset, position, r.span),
+        lost: floats::either_loses(r.offset, r.span),
     }
 }
 
@@ -193,73 +200,56 @@ pub fn pixel_by(s: Scale, a: Axis, v: Value) -> Hairline
 }
 
 // The questions of a value.
-fn map_value_refusal(a: Axis, v: Value) -> u8
-    ensures { result ≡ first_no (map_value_questions a v) }
+fn ask_value(a: Axis, v: Value) -> Result<(), Refusal>
+    ensures { result ≡ asked (map_value_questions a v) (Ok tt) }
 {
-    let q = axis::then_ask(0, 8, axis::value_on(a, v));
-    axis::then_ask(q, 9, axis::mappable(a, v))
+    ask(Refusal::Value, axis::value_on(a, v))?;
+    ask(Refusal::Length, axis::mappable(a, v))
 }
 
 // The pixel of any numbers with a ready scale.
-fn map_by(s: Scale, a: Axis, v: Value) -> Pixel
+fn map_by(s: Scale, a: Axis, v: Value) -> Result<Hairline, Refusal>
     requires { ScaleFor a s × (ends a ≡ true) }
     ensures { result ≡ mapped_by a (limits_of s) v }
 {
-    let q = map_value_refusal(a, v);
-    if q != 0 {
-        return Pixel::Refused(q);
-    }
+    ask_value(a, v)?;
     let h = pixel_by(s, a, v);
-    if axis::fits_i32(h.pixel) {
-        return Pixel::At(h);
-    }
-    Pixel::Refused(10)
+    ask(Refusal::Range, axis::fits_i32(h.pixel))?;
+    Ok(h)
 }
 
 // The questions of the axis and the limits.
-fn scale_refusal(a: Axis, l: Limits) -> u8
-    ensures { result ≡ first_no (scale_questions a l) }
+fn ask_scale(a: Axis, l: Limits) -> Result<(), Refusal>
+    ensures { result ≡ asked (scale_questions a l) (Ok tt) }
 {
-    let q = axis::axis_refusal(a, true);
-    axis::then_ask(q, 7, axis::pixels(l))
+    axis::ask_axis(a, true)?;
+    ask(Refusal::Limits, axis::pixels(l))
 }
 
 // The pixel of any numbers.
-pub fn map(a: Axis, l: Limits, v: Value) -> Pixel
+pub fn map(a: Axis, l: Limits, v: Value) -> Result<Hairline, Refusal>
     ensures { result ≡ mapped a l v }
 {
-    let q = scale_refusal(a, l);
-    if q != 0 {
-        return Pixel::Refused(q);
-    }
-    map_by(scale_of(a, l), a, v)
+    map_ready(prepare(a, l), a, l, v)
 }
 
 // Asks what all values share, and makes their scale.
-pub fn prepare(a: Axis, l: Limits) -> Ready
+pub fn prepare(a: Axis, l: Limits) -> Result<Scale, Refusal>
     ensures { ReadyFor a l result }
 {
-    let q = scale_refusal(a, l);
-    if q != 0 {
-        return Ready {
-            refusal: q,
-            scale: no_scale(),
-        };
-    }
-    Ready {
-        refusal: 0,
-        scale: scale_of(a, l),
-    }
+    ask_scale(a, l)?;
+    Ok(scale_of(a, l))
 }
 
 // One of many values.
-pub fn map_ready(m: Ready, a: Axis, l: Limits, v: Value) -> Pixel
+pub fn map_ready(
+    m: Result<Scale, Refusal>,
+    a: Axis,
+    l: Limits,
+    v: Value,
+) -> Result<Hairline, Refusal>
     requires { ReadyFor a l m }
     ensures { result ≡ mapped a l v }
 {
-    if m.refusal != 0 {
-        return Pixel::Refused(m.refusal);
-    }
-    let s = m.scale;
-    map_by(s, a, v)
+    map_by(m?, a, v)
 }

@@ -1,7 +1,7 @@
 -- `mapping::from_low` meets its contract: a cut float fits, and so does its sum with a pixel. Assumes nothing.
 use borrow.Author.Rules.{rules}
 use mathlib.Core.Path.{◌≡◌, refl, sym, ◌∙◌, ap}
-use mathlib.Core.Bool.{◌&&◌, ◌||◌}
+use mathlib.Core.Bool.{◌||◌}
 use native.Mathlib.Omega.{arith}
 use lib.IntN.{ℤ, ◌+ℤ◌, ◌-ℤ◌, ◌*ℤ◌}
 use mir.Syntax.{w32, w64}
@@ -13,7 +13,7 @@ use Rattle.axis.proofs.PixelRanges.{limits_are, between_fits}
 use Rattle.floats.specs.Rounding.{cut}
 use Rattle.floats.specs.Losses.{lost_in}
 use Rattle.mapping.specs.Position.{width}
-use Rattle.mapping.specs.Mapping.{limits_of}
+use Rattle.mapping.specs.Mapping.{limits_of, exact_by, lost_by}
 use Rattle.mapping.proofs.Ranges.{wider, cut_fits, cut_few, sum_fits}
 use Rattle.mapping.proofs.Positions.{low_off, width_few}
 use Rattle.mapping.proofs.from_low.Goals as goal
@@ -33,11 +33,31 @@ low_fits c = search rules
 high_fits : (c : Start) → SFits w64 c.args.s.high
 high_fits c = search rules
 
-offset_fits : (c : Start) → SFits w64 c.args.q.offset
-offset_fits c = search rules
+-- the pixel
+fits : (c : Start) → SFits w64 (c.args.s.low +ℤ cut c.args.q.x)
+fits c = sum_fits c.args.s.low (cut c.args.q.x) (limits_are (limits_of c.args.s) c.requires.on_page).0
+    (cut_fits c.args.q.x)
 
-span_fits : (c : Start) → SFits w64 c.args.q.span
-span_fits c = search rules
+pub overflow_add-pixel : goal.overflow_add-pixel
+overflow_add-pixel c = let p = goal.at.overflow_add-pixel c in
+    rw (to_z-of_z (low_fits p.Start), back p.After-to_i32-position) (fits p.Start)
+
+-- as the code reads it back
+pixel_is : (c : After-to_i32-position) →
+    to_z w64 (of_z w64 (to_z w64 (of_z w64 c.args.s.low) +ℤ to_z w64 (of_z w64 (to_z w32 (of_z w32 c.to_i32-position.result)))))
+    ≡ c.args.s.low +ℤ cut c.args.q.x
+pixel_is c = let p = (goal.at.After-to_i32-position c).Start in
+    ap (λ (z : ℤ). to_z w64 (of_z w64 z)) (λ j. to_z-of_z (low_fits p) j +ℤ back c j) ∙ to_z-of_z (fits p)
+
+pub returns-in_default : goal.returns-in_default
+returns-in_default c = let x = c.args in
+    let p = x.s.low +ℤ cut x.q.x in
+    let is = sym c.in_default.is in
+    λ i. record {
+      pixel = pixel_is (goal.at.returns-in_default c).After-to_i32-position i;
+      exact = exact_by (limits_of x.s) p (is i);
+      lost = lost_by (is i);
+    }
 
 -- the width
 width_fits : (c : Start) → SFits w64 (c.args.s.high -ℤ c.args.s.low)
@@ -49,40 +69,29 @@ width_is : (c : Start) → to_z w64 (of_z w64 (to_z w64 (of_z w64 c.args.s.high)
 width_is c = read_sub c.args.s.high c.args.s.low (high_fits c) (low_fits c) (width_fits c)
 
 pub overflow_sub-s : goal.overflow_sub-s
-overflow_sub-s c =
-    rw (to_z-of_z (high_fits (goal.at.overflow_sub-s c).Start), to_z-of_z (low_fits (goal.at.overflow_sub-s c).Start))
-    (width_fits (goal.at.overflow_sub-s c).Start)
+overflow_sub-s c = let p = (goal.at.overflow_sub-s c).Start in
+    rw (to_z-of_z (high_fits p), to_z-of_z (low_fits p)) (width_fits p)
 
-pub same_products-same-requires : goal.same_products-same-requires
-same_products-same-requires c = (
-  rw (width_is (goal.at.same_products-same-requires c).Start) (omega (arith, width_few (limits_of c.args.s) c.requires.on_page)),
-  rw (back (goal.at.same_products-same-requires c).After-to_i32-position) (cut_few c.args.q.x),
+pub same_products-requires : goal.same_products-requires
+same_products-requires c = let p = goal.at.same_products-requires c in (
+  rw (width_is p.Start) (omega (arith, width_few (limits_of c.args.s) c.requires.on_page)),
+  rw (back p.After-to_i32-position) (cut_few c.args.q.x),
 )
-
--- the pixel
-fits : (c : Start) → SFits w64 (c.args.s.low +ℤ cut c.args.q.x)
-fits c = sum_fits c.args.s.low (cut c.args.q.x) (limits_are (limits_of c.args.s) c.requires.on_page).0
-    (cut_fits c.args.q.x)
-
-pub overflow_add-result : goal.overflow_add-result
-overflow_add-result c =
-    rw (to_z-of_z (low_fits (goal.at.overflow_add-result c).Start), back (goal.at.overflow_add-result c).After-to_i32-position)
-    (fits (goal.at.overflow_add-result c).Start)
 
 pub returns : goal.returns
 returns c = let x = c.args in
+    let p = goal.at.returns c in
     let low = x.s.low in
     let at = cut x.q.x in
+    let r = c.in-Some.r in
+    let of : SFits w64 r.offset = search rules in
+    let sf : SFits w64 r.span = search rules in
+    let is = sym c.in-Some.is in
     λ i. record {
-      pixel =
-          (ap (λ (z : ℤ). to_z w64 (of_z w64 z)) (λ j. to_z-of_z (low_fits (goal.at.returns c).Start) j +ℤ back
-          (goal.at.returns c).After-to_i32-position j) ∙ to_z-of_z (fits (goal.at.returns c).Start)) i;
-      exact = x.q.some && (c.same_products-same.ensures
-          ∙ (λ j. equal (width_is (goal.at.returns c).Start j *ℤ to_z-of_z (offset_fits (goal.at.returns c).Start) j)
-          (back (goal.at.returns c).After-to_i32-position j *ℤ to_z-of_z (span_fits (goal.at.returns c).Start) j))
-          ∙ ap (λ (z : ℤ). equal (width (limits_of x.s) *ℤ x.q.offset) (z *ℤ x.q.span))
-          (sym (low_off low at (low +ℤ at) refl))) i;
-      lost = (c.either_loses.ensures
-          ∙ (λ j. lost_in (to_z-of_z (offset_fits (goal.at.returns c).Start) j) || lost_in
-          (to_z-of_z (span_fits (goal.at.returns c).Start) j))) i;
+      pixel = pixel_is p.After-to_i32-position i;
+      exact = (c.same_products.ensures
+          ∙ (λ j. equal (width_is p.Start j *ℤ to_z-of_z of j) (back p.After-to_i32-position j *ℤ to_z-of_z sf j))
+          ∙ ap (λ (z : ℤ). equal (width (limits_of x.s) *ℤ r.offset) (z *ℤ r.span)) (sym (low_off low at (low +ℤ at) refl))
+          ∙ ap (exact_by (limits_of x.s) (low +ℤ at)) is) i;
+      lost = (c.either_loses.ensures ∙ (λ j. lost_in (to_z-of_z of j) || lost_in (to_z-of_z sf j)) ∙ ap lost_by is) i;
     }

@@ -1,54 +1,52 @@
 -- `mapping::map_by` meets its contract: the questions of the value, and question 10 of the pixel. Assumes nothing.
 use borrow.Author.Rules.{rules}
 use mathlib.Core.Path.{◌≡◌, sym, ◌∙◌, ap}
-use mathlib.Core.Bool.{Bool, cond}
+use mathlib.Core.Bool.{Bool}
+use mathlib.Core.List.{[], ◌∷◌}
 use mir.Syntax.{w64}
-use mir.Val.{to_z, of_z}
 use mir.Facts.{to_z-of_z}
-use Rattle.laws.specs.Asking.{ask, first_no, unless}
-use Rattle.laws.proofs.Asked.{refused_before, last_asked}
+use Rattle.std.specs.Prelude.{Ok}
+use Rattle.std.proofs.lemmas.Result.{err_from_is_err_and}
+use Rattle.asking.specs.Asking.{ask, asked}
+use Rattle.asking.specs.declared.Refusal.TheVariants as refusal
+use Rattle.asking.proofs.Asked.{all_pass, passed, refused}
+use Rattle.values.specs.declared.Value.{Value}
+use Rattle.axis.specs.declared.Axis.{Axis}
+use Rattle.axis.specs.declared.Limits.{Limits}
 use Rattle.axis.specs.Questions.{fits_i32}
 use Rattle.mapping.specs.declared.Hairline.{Hairline}
-use Rattle.mapping.specs.declared.Pixel.TheVariants.{Refused, At}
 use Rattle.mapping.specs.Mapping.{limits_of, map_value_questions, placed, hairline, mapped_by}
+use Rattle.mapping.proofs.Answers.{value_refused, range_asked}
 use Rattle.mapping.proofs.map_by.Goals as goal
-use Rattle.mapping.proofs.map_by.Goals.{After-fits_i32, After-pixel_by-h, Else-q-ne0}
+use Rattle.mapping.proofs.map_by.Goals.{After-fits_i32, In_ok-ask_value}
 
-pub returns-then-q-ne0 : goal.returns-then-q-ne0
-unfolding mapped_by
-returns-then-q-ne0 c = let x = c.args in
-    let l = limits_of x.s in
-    refused_before Refused (At (hairline x.a l x.v)) (map_value_questions x.a x.v)
-    (ask 10 (fits_i32 (placed x.a l x.v))) c.map_value_refusal-q.result
-    c.map_value_refusal-q.ensures c.if-q-ne0.true
+pub returns-in_err-ask_value : goal.returns-in_err-ask_value
+returns-in_err-ask_value c = let x = c.args in
+    let p = err_from_is_err_and c.from_residual.result c.from_residual.ensures.1 in
+    rw (p.1, p.2) (value_refused x.a (limits_of x.s) x.v _ tt (sym c.in_err-ask_value.ensures))
 
-none : (c : Else-q-ne0) → first_no (map_value_questions c.args.a c.args.v) ≡ 0
-none c = sym c.map_value_refusal-q.ensures ∙ c.if-q-ne0.false
-
--- the pixel that was worked out
-worked : (c : After-pixel_by-h) → let x = c.args in
-    to_z w64 (of_z w64 c.pixel_by-h.result.pixel) ≡ placed x.a (limits_of x.s) x.v
+placed_as : (a : Axis) (l : Limits) (v : Value) (h : Hairline) → h ≡ hairline a l v → h.pixel ≡ placed a l v
 unfolding hairline
-worked c = to_z-of_z {w = w64} {z = c.pixel_by-h.result.pixel} (search rules)
-    ∙ ap (λ (h : Hairline). h.pixel) c.pixel_by-h.ensures
+placed_as a l v h e = ap (λ (k : Hairline). k.pixel) e
 
-fits : (c : After-fits_i32) → let x = c.args in
-    c.fits_i32.result ≡ fits_i32 (placed x.a (limits_of x.s) x.v)
-fits c = c.fits_i32.ensures ∙ ap fits_i32 (worked (goal.at.After-fits_i32 c).After-pixel_by-h)
-
--- only question 10 is left
-left : (c : After-fits_i32) (b : Bool) → c.fits_i32.result ≡ b → let x = c.args in
-    unless (cond b 0 10) Refused (At (hairline x.a (limits_of x.s) x.v)) ≡ mapped_by x.a (limits_of x.s) x.v
-unfolding mapped_by
-left c b e = let x = c.args in
+-- question 10, as the code asks it
+range : (c : After-fits_i32) → let x = c.args in
+    asked (ask refusal.Range c.fits_i32.result ∷ []) (Ok (hairline x.a (limits_of x.s) x.v)) ≡ mapped_by x.a (limits_of x.s) x.v
+range c = let x = c.args in
     let l = limits_of x.s in
-    let h = hairline x.a l x.v in
-    sym (last_asked Refused (At h) (map_value_questions x.a x.v) (ask 10 (fits_i32 (placed x.a l x.v)))
-    (none (goal.at.After-fits_i32 c).Else-q-ne0)
-    ∙ ap (λ (t : Bool). unless (cond t 0 10) Refused (At h)) (sym (fits c) ∙ e))
+    let p = goal.at.After-fits_i32 c in
+    let pixel = to_z-of_z {w = w64} {z = c.pixel_by-h.result.pixel} (search rules) ∙ placed_as x.a l x.v _ c.pixel_by-h.ensures in
+    ap (λ (b : Bool). asked (ask refusal.Range b ∷ []) (Ok (hairline x.a l x.v))) (c.fits_i32.ensures ∙ ap fits_i32 pixel)
+    ∙ range_asked x.a l x.v (all_pass (map_value_questions x.a x.v) tt (sym c.in_ok-ask_value.ensures))
 
-pub returns-then-fits_i32 : goal.returns-then-fits_i32
-returns-then-fits_i32 c = ap At c.pixel_by-h.ensures ∙ left (goal.at.returns-then-fits_i32 c).After-fits_i32 _ c.if-fits_i32.true
+pub returns-in_err-ask : goal.returns-in_err-ask
+returns-in_err-ask c = let x = c.args in
+    let p = err_from_is_err_and c.from_residual-in_err-ask.result c.from_residual-in_err-ask.ensures.1 in
+    rw (p.1, p.2) (refused (ask refusal.Range c.fits_i32.result ∷ []) tt (Ok (hairline x.a (limits_of x.s) x.v)) _
+    (sym c.in_err-ask.ensures) ∙ range (goal.at.returns-in_err-ask c).After-fits_i32)
 
 pub returns : goal.returns
-returns c = left (goal.at.returns c).After-fits_i32 _ c.if-fits_i32.false
+returns c = let x = c.args in
+    let row = ask refusal.Range c.fits_i32.result ∷ [] in
+    ap Ok c.pixel_by-h.ensures ∙ passed row (Ok (hairline x.a (limits_of x.s) x.v)) (all_pass row tt (sym c.in_ok-ask.ensures))
+    ∙ range (goal.at.returns c).After-fits_i32

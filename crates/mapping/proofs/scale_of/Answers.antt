@@ -1,27 +1,25 @@
 -- `mapping::scale_of` meets its contract. Assumes nothing.
 use borrow.Author.Rules.{rules}
 use mathlib.Core.Path.{◌≡◌, ap, ◌∙◌}
-use lib.IntN.{◌-ℤ◌}
+use lib.IntN.{ℤ, ◌-ℤ◌}
 use lib.Ieee.{binary64, of_int}
 use mir.Syntax.{w64}
 use mir.Val.{SFits, to_z, of_z}
 use mir.Facts.{to_z-of_z}
+use Rattle.std.specs.Prelude.{Option}
+use Rattle.std.specs.Option.{option_map}
 use Rattle.laws.proofs.Signed.{read_sub}
-use Rattle.values.specs.declared.Nanoseconds.{Nanoseconds}
 use Rattle.axis.proofs.PixelRanges.{limits_are, between_fits}
-use Rattle.mapping.specs.Mapping.{scale_of}
+use Rattle.mapping.specs.Mapping.{with_total, scale_of}
 use Rattle.mapping.proofs.Ranges.{width_in}
 use Rattle.mapping.proofs.scale_of.Goals as goal
-use Rattle.mapping.proofs.scale_of.Goals.{After-span-span, Start}
+use Rattle.mapping.proofs.scale_of.Goals.{After-map, Start}
 
 low_fits : (c : Start) → SFits w64 c.args.l.low
 low_fits c = search rules
 
 high_fits : (c : Start) → SFits w64 c.args.l.high
 high_fits c = search rules
-
-value_fits : (c : After-span-span) → SFits w64 c.span-span.result.value
-value_fits c = search rules
 
 width_fits : (c : Start) → SFits w64 (c.args.l.high -ℤ c.args.l.low)
 width_fits c = let (p, q) = limits_are c.args.l c.requires.1 in between_fits c.args.l.high c.args.l.low q p
@@ -39,15 +37,15 @@ width_is c = read_sub c.args.l.high c.args.l.low (high_fits c) (low_fits c) (wid
 pub int_to_float-result : goal.int_to_float-result
 int_to_float-result c = rw (width_is (goal.at.int_to_float-result c).Start) (width_in c.args.l c.requires.1)
 
+spans : (c : After-map) → c.map.result ≡ option_map with_total c.span.result
+spans c = search rules
+
 pub returns : goal.returns
 unfolding scale_of
-returns c = let e = c.span-span.ensures in
-    let value = to_z-of_z (value_fits (goal.at.returns c).After-span-span) ∙ ap (λ (x : Nanoseconds). x.value) e in
+returns c =
     λ i. record {
       low = to_z-of_z (low_fits (goal.at.returns c).Start) i;
       high = to_z-of_z (high_fits (goal.at.returns c).Start) i;
       width = ap (of_int binary64) (width_is (goal.at.returns c).Start) i;
-      fits = ap (λ (x : Nanoseconds). x.fits) e i;
-      span = value i;
-      total = (c.from_i64.ensures.value ∙ ap (of_int binary64) value) i;
+      span = (spans (goal.at.returns c).After-map ∙ ap (λ (n : Option ℤ). option_map with_total n) c.span.ensures) i;
     }
