@@ -2,16 +2,37 @@
 // without the LF; its fields are kind start end hint low high, with one space between them.
 #![tactic(auto)]
 
-ghost use Rattle.std.specs.Prelude.{◌≡◌, cond, ◌≤◌, ◌<◌, ◌^◌};
+ghost use Rattle.std.specs.Prelude.{◌≡◌, ◌≤◌, ◌<◌, ◌^◌, IfSome};
+ghost use Rattle.std.specs.List.{find};
+ghost use Rattle.std.specs.Option.{option_map};
 ghost use Rattle.laws.specs.Units.{per_second, per_day};
-ghost use Rattle.text_read.specs.Fields.{field_of, Typed};
-ghost use Rattle.text_line.specs.Line.{same_as, is_names, occurrences, in_form, kind_of, rest_of};
-ghost use Rattle.text_line.specs.Line.{on_day, is_time, stamp_value, below_zero, span_value, read_value, request_of, read_line};
+ghost use Rattle.text_read.specs.Fields.{Typed};
+ghost use Rattle.text_read.specs.Lines.{same_as};
+ghost use Rattle.text_line.specs.Line.{is_names, kind_of, on_day, is_time, stamp_value, below_zero, span_value};
+ghost use Rattle.text_line.specs.Line.{read_value, read_line};
 
 use axis::{Axis, BoldPoints, Limits};
-use calendar::{DayAnswer, Ymd};
-use text_read::{DateField, Day, Duration, Moment, NumberField, SpanField, StampField};
+use calendar::Ymd;
+use text_read::{Day, Duration, Moment};
 use values::Value;
+
+// The names line.
+const NAMES: &[u8] = b"kind start end hint low high";
+
+// The kinds' words and numbers.
+const KINDS: [(&[u8], u64); 8] = [
+    (b"date", 1),
+    (b"month", 2),
+    (b"year", 3),
+    (b"stamp", 4),
+    (b"stampmonth", 5),
+    (b"stampyear", 6),
+    (b"span", 7),
+    (b"week", 8),
+];
+
+// What is typed in form and is not real: no value of the kinds over dates and date-times, whose heads begin at 1.
+const UNREAL: Value = Value { head: 0, tail: 0 };
 
 // The numbers of a line. No question was asked of them yet.
 #[derive(Clone, Copy)]
@@ -21,104 +42,26 @@ pub struct Request {
     pub limits: Limits,
 }
 
-#[derive(Clone, Copy)]
-pub enum Line {
-    Read(Request),
-    Unread,
-}
-
-// A start or an end.
-#[derive(Clone, Copy)]
-pub enum ValueField {
-    Read(Value),
-    Unread,
-}
-
-// Are the two the same bytes?
-pub fn same(a: &[u8], b: &[u8]) -> bool
-    ensures { result ≡ same_as a.now b.now }
-{
-    if a.len() != b.len() {
-        return false;
-    }
-    let mut i: usize = 0;
-    while i < a.len() {
-        if a[i] != b[i] {
-            return false;
-        }
-        i += 1;
-    }
-    true
-}
-
 // Is it the names line?
 pub fn is_names(s: &[u8]) -> bool
     ensures { result ≡ is_names s.now }
 {
-    same(s, b"kind start end hint low high")
+    s == NAMES
 }
 
-// How often c stands in s.
-fn occurrences(s: &[u8], c: u8) -> usize
-    ensures { result ≡ occurrences c s.now }
+// What the word names, of words beside what they name.
+fn named(words: &[(&[u8], u64)], w: &[u8]) -> Option<u64>
+    ensures { result ≡ option_map (λ p. p.1) (find (λ p. same_as w.now p.0.now) words.now) }
 {
-    let mut n: usize = 0;
-    let mut i: usize = 0;
-    while i < s.len() {
-        if s[i] == c {
-            n += 1;
-        }
-        i += 1;
-    }
-    n
+    words.iter().find(|p| w == p.0).map(|p| p.1)
 }
 
-// At most 120 bytes, and six fields.
-fn in_form(s: &[u8]) -> bool
-    ensures { result ≡ in_form s.now }
+// The kind that the word names.
+fn kind_of(w: &[u8]) -> Option<u64>
+    ensures value { result ≡ kind_of w.now }
+    ensures bound { IfSome result (λ k. k ≤ 8) }
 {
-    (s.len() <= 120) & (occurrences(s, b' ') == 5)
-}
-
-// The number where the two are the same, and the other one where not.
-fn if_same(a: &[u8], b: &[u8], number: u64, other: u64) -> u64
-    ensures { result ≡ cond (same_as a.now b.now) number other }
-{
-    if same(a, b) { number } else { other }
-}
-
-// The kind that the word names, or 0.
-fn kind_of(w: &[u8]) -> u64
-    ensures { result ≡ kind_of w.now }
-{
-    let k = if_same(w, b"week", 8, 0);
-    let k = if_same(w, b"span", 7, k);
-    let k = if_same(w, b"stampyear", 6, k);
-    let k = if_same(w, b"stampmonth", 5, k);
-    let k = if_same(w, b"stamp", 4, k);
-    let k = if_same(w, b"year", 3, k);
-    let k = if_same(w, b"month", 2, k);
-    if_same(w, b"date", 1, k)
-}
-
-// The kind that the field at the front of s names, or 0.
-fn read_kind(s: &[u8]) -> u64
-    ensures { result ≡ kind_of (field_of s.now) }
-{
-    let k = text_read::until(s, b' ');
-    kind_of(&s[..k])
-}
-
-// The part after the first space, or an empty part.
-fn rest_of(s: &[u8]) -> &[u8]
-    ensures { result.now ≡ rest_of s.now }
-{
-    let k = text_read::until(s, b' ');
-    if k == s.len() {
-        return &s[k..];
-    }
-    let at = k + 1;
-    &s[at..]
+    named(&KINDS, w)
 }
 
 // A day and a nanosecond of it. A date that is not real gets 0 and 0, which is no value of a kind that is asked for it.
@@ -131,12 +74,12 @@ fn on_day(d: Day, nano: u64) -> Value
         month: d.month as i64,
         day: d.day as i64,
     };
-    let DayAnswer::Answered(n) = calendar::number_of(t) else {
-        return Value { head: 0, tail: 0 };
-    };
-    Value {
-        head: n as i64,
-        tail: nano as i64,
+    match calendar::number_of(t) {
+        Ok(n) => Value {
+            head: n as i64,
+            tail: nano as i64,
+        },
+        Err(_) => UNREAL,
     }
 }
 
@@ -152,11 +95,10 @@ fn stamp_value(m: Moment) -> Value
     ensures { result ≡ stamp_value m }
 {
     if !is_time(m) {
-        return Value { head: 0, tail: 0 };
+        return UNREAL;
     }
-    let d = m.date;
     on_day(
-        d,
+        m.date,
         ((m.hour * 60 + m.minute) * 60 + m.second) * 1000000000 + m.nano,
     )
 }
@@ -192,80 +134,39 @@ fn span_value(p: Duration) -> Value
 }
 
 // A start or an end of the kind, from the field's start.
-fn read_value(kind: u64, s: &[u8]) -> ValueField
+fn read_value(kind: u64, s: &[u8]) -> Option<Value>
     ensures { result ≡ read_value kind s.now }
 {
     if (4 <= kind) & (kind <= 6) {
-        let StampField::Read(m) = text_read::stamp(s) else {
-            return ValueField::Unread;
-        };
-        return ValueField::Read(stamp_value(m));
+        return Some(stamp_value(text_read::stamp(s)?));
     }
     if (7 <= kind) & (kind <= 7) {
-        let SpanField::Read(p) = text_read::span(s) else {
-            return ValueField::Unread;
-        };
-        return ValueField::Read(span_value(p));
+        return Some(span_value(text_read::span(s)?));
     }
-    let DateField::Read(d) = text_read::date(s) else {
-        return ValueField::Unread;
-    };
-    ValueField::Read(on_day(d, 0))
+    Some(on_day(text_read::date(s)?, 0))
 }
 
 // The request, if every field has its form.
-fn together(
-    kind: u64,
-    start: ValueField,
-    end: ValueField,
-    hint: NumberField,
-    low: NumberField,
-    high: NumberField,
-) -> Line
-    requires { kind ≤ 8 }
-    ensures { result ≡ request_of kind start end hint low high }
-{
-    let ValueField::Read(a) = start else {
-        return Line::Unread;
-    };
-    let ValueField::Read(b) = end else {
-        return Line::Unread;
-    };
-    let NumberField::Read(n) = hint else {
-        return Line::Unread;
-    };
-    let NumberField::Read(l) = low else {
-        return Line::Unread;
-    };
-    let NumberField::Read(h) = high else {
-        return Line::Unread;
-    };
-    Line::Read(Request {
-        axis: axis::axis_of(kind as i64, a.head, a.tail, b.head, b.tail, 0),
-        hint: BoldPoints { n: n },
-        limits: Limits { low: l, high: h },
-    })
-}
-
-pub fn read_line(s: &[u8]) -> Line
+pub fn read_line(s: &[u8]) -> Option<Request>
     ensures { result ≡ read_line s.now }
 {
-    if !in_form(s) {
-        return Line::Unread;
+    if !text_read::in_form(s, 5) {
+        return None;
     }
-    let k = read_kind(s);
-    if k == 0 {
-        return Line::Unread;
-    }
-    let a = rest_of(s);
-    let b = rest_of(a);
-    let c = rest_of(b);
-    let d = rest_of(c);
-    let e = rest_of(d);
-    let start = read_value(k, a);
-    let end = read_value(k, b);
-    let hint = text_read::number(c);
-    let low = text_read::number(d);
-    let high = text_read::number(e);
-    together(k, start, end, hint, low, high)
+    let kind = kind_of(text_read::field(s))?;
+    let a = text_read::rest_of(s);
+    let b = text_read::rest_of(a);
+    let c = text_read::rest_of(b);
+    let d = text_read::rest_of(c);
+    let e = text_read::rest_of(d);
+    let start = read_value(kind, a)?;
+    let end = read_value(kind, b)?;
+    let n = text_read::number(c)?;
+    let low = text_read::number(d)?;
+    let high = text_read::number(e)?;
+    Some(Request {
+        axis: axis::axis_of(kind as i64, start.head, start.tail, end.head, end.tail, 0),
+        hint: BoldPoints { n },
+        limits: Limits { low, high },
+    })
 }

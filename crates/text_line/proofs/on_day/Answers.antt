@@ -9,7 +9,7 @@ use Rattle.calendar.specs.Questions.{last_day, number_of}
 use Rattle.calendar.proofs.Questions.{number_range}
 use Rattle.text_line.specs.Line.{on_day}
 use Rattle.text_line.proofs.on_day.Goals as goal
-use Rattle.text_line.proofs.on_day.Goals.{After-number_of, In-Answered}
+use Rattle.text_line.proofs.on_day.Goals.{After-number_of, In-Ok}
 
 said : (c : After-number_of) → let d = c.args.d in
     c.number_of.result ≡ number_of (record { year = pos d.year; month = pos d.month; day = pos d.day })
@@ -19,24 +19,24 @@ said c = let d = c.args.d in
     let k : d.day < 2 ^ 63 = omega arith in
     rw (read_count d.year y, read_count d.month m, read_count d.day k) at c.number_of.ensures
 
-pub returns-in_default : goal.returns-in_default
+pub returns-in-Err : goal.returns-in-Err
 unfolding on_day
-returns-in_default c = rw (← said (goal.at.returns-in_default c).After-number_of, c.in_default.is)
+returns-in-Err c = rw (← said (goal.at.returns-in-Err c).After-number_of, c.in-Err.is)
 
 -- the answer's number is a day's
-day_most : (c : In-Answered) → c.in-Answered.n ≤ last_day
-day_most c = number_range _ c.in-Answered.n (sym (said (goal.at.In-Answered c).After-number_of) ∙ c.in-Answered.is)
+day_most : (c : In-Ok) → c.in-Ok.n ≤ last_day
+day_most c = number_range _ c.in-Ok.n (sym (said (goal.at.In-Ok c).After-number_of) ∙ c.in-Ok.is)
 
-pub returns : goal.returns
+pub returns-in-Ok : goal.returns-in-Ok
 unfolding on_day
-returns c = let nano = c.args.nano in
+returns-in-Ok c = let nano = c.args.nano in
     let short : nano < 2 ^ 63 = omega arith in
     rw (
-      read_count c.in-Answered.n (omega (arith, day_most (goal.at.returns c).In-Answered)),
+      read_count c.in-Ok.n (omega (arith, day_most (goal.at.returns-in-Ok c).In-Ok)),
       read_count nano short,
-      ← said (goal.at.returns c).After-number_of,
-      c.in-Answered.is,
+      ← said (goal.at.returns-in-Ok c).After-number_of,
+      c.in-Ok.is,
     )
 
 pub overflow_cast-result : goal.overflow_cast-result
-overflow_cast-result c = count_fits _ (omega (arith, day_most (goal.at.overflow_cast-result c).In-Answered))
+overflow_cast-result c = count_fits _ (omega (arith, day_most (goal.at.overflow_cast-result c).In-Ok))

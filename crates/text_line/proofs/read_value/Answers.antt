@@ -1,44 +1,33 @@
 -- `text_line::read_value` meets its contract: the kind decides the form, and the field's reader the value. Assumes nothing.
-use mathlib.Core.Path.{◌≡◌}
-use Rattle.text_read.specs.declared.DateField.{DateField}
-use Rattle.text_read.specs.declared.StampField.{StampField}
-use Rattle.text_read.specs.declared.SpanField.{SpanField}
-use Rattle.text_line.specs.Line.{of_date, of_stamp, of_span, read_value}
+use Rattle.text_line.specs.Line.{read_value}
 use Rattle.text_line.proofs.read_value.Goals as goal
-use Rattle.text_line.proofs.read_value.Goals.{After-date, After-span, After-stamp}
 
 -- ---- date-times
-stamped : (c : After-stamp) (v : StampField) → c.stamp.result ≡ v → let x = c.args in
-    of_stamp v ≡ read_value x.kind x.s.now
+pub returns-in_err-stamp : goal.returns-in_err-stamp
 unfolding read_value
-stamped c v e = rw (← e, c.stamp.ensures.value, c.if-kind.true)
+returns-in_err-stamp c = rw (c.from_residual.ensures, c.if-kind.true, ← c.stamp.ensures.value, c.in_err-stamp.was)
 
 pub returns-then-kind : goal.returns-then-kind
-returns-then-kind c = rw c.stamp_value.ensures (stamped (goal.at.returns-then-kind c).After-stamp _ c.in-Read.is)
+unfolding read_value
+returns-then-kind c = rw (c.stamp_value.ensures, c.if-kind.true, ← c.stamp.ensures.value, c.in_ok-stamp.was)
 
 -- ---- spans
-spanned : (c : After-span) (v : SpanField) → c.span.result ≡ v → let x = c.args in
-    of_span v ≡ read_value x.kind x.s.now
+pub returns-in_err-span : goal.returns-in_err-span
 unfolding read_value
-spanned c v e = rw (← e, c.span.ensures.value, c.if-kind.false, c.if-kind-2.true)
+returns-in_err-span c =
+    rw (c.from_residual-in_err-span.ensures, c.if-kind.false, c.if-kind-2.true, ← c.span.ensures.value, c.in_err-span.was)
 
 pub returns-then-kind-2 : goal.returns-then-kind-2
-returns-then-kind-2 c = rw c.span_value.ensures (spanned (goal.at.returns-then-kind-2 c).After-span _ c.in-Read-span.is)
+unfolding read_value
+returns-then-kind-2 c =
+    rw (c.span_value.ensures, c.if-kind.false, c.if-kind-2.true, ← c.span.ensures.value, c.in_ok-span.was)
 
 -- ---- dates
-dated : (c : After-date) (v : DateField) → c.date.result ≡ v → let x = c.args in
-    of_date v ≡ read_value x.kind x.s.now
+pub returns-in_err-date : goal.returns-in_err-date
 unfolding read_value
-dated c v e = rw (← e, c.date.ensures.value, c.if-kind.false, c.if-kind-2.false)
+returns-in_err-date c =
+    rw (c.from_residual-in_err-date.ensures, c.if-kind.false, c.if-kind-2.false, ← c.date.ensures.value, c.in_err-date.was)
 
 pub returns : goal.returns
-returns c = rw c.on_day.ensures (dated (goal.at.returns c).After-date _ c.in-Read-date.is)
-
-pub returns-in_default : goal.returns-in_default
-returns-in_default c = stamped (goal.at.returns-in_default c).After-stamp _ c.in_default.is
-
-pub returns-in_default-span : goal.returns-in_default-span
-returns-in_default-span c = spanned (goal.at.returns-in_default-span c).After-span _ c.in_default-span.is
-
-pub returns-in_default-date : goal.returns-in_default-date
-returns-in_default-date c = dated (goal.at.returns-in_default-date c).After-date _ c.in_default-date.is
+unfolding read_value
+returns c = rw (c.on_day.ensures, c.if-kind.false, c.if-kind-2.false, ← c.date.ensures.value, c.in_ok-date.was)

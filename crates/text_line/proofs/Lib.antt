@@ -1,2 +1,0 @@
--- Laws of the lines' definitions.
-pub mod Lines
