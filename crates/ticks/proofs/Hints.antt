@@ -11,8 +11,9 @@ use mir.Syntax.{w64}
 use mir.Val.{SFits}
 use borrow.Author.Tests.{le-leb, lt-leb}
 use Rattle.laws.specs.Numbers.{within, pos_part, neg_part}
-use Rattle.laws.specs.Asking.{ask, first_no}
-use Rattle.laws.proofs.Asked.{told, fewer, more}
+use Rattle.asking.specs.declared.Refusal.TheVariants as refusal
+use Rattle.asking.specs.Asking.{ask, passes}
+use Rattle.asking.proofs.Asked.{told, fewer, passes_append}
 use Rattle.laws.proofs.Signed.{same, count_fits}
 use Rattle.laws.proofs.Tests.{both_true, and_false}
 use Rattle.values.specs.declared.Value.{Value}
@@ -137,23 +138,23 @@ module _ (a : Axis) (b : ℕ) where
   goes_finer e h = rw (e, le-leb (size_of a) (2 * b) h)
 
 -- ---- what no refusal says
--- of an axis and of question 6, where N is n
-row_accepted : (a : Axis) (has hint : Bool) (n : ℤ) → first_no (axis_questions has a ++ (ask 6 hint ∷ [])) ≡ 0 →
+-- of an axis and of its hint, where N is n
+row_accepted : (a : Axis) (has hint : Bool) (n : ℤ) → passes (axis_questions has a ++ (ask refusal.Hint hint ∷ [])) ≡ true →
     (hint ≡ true → asks.Hint a n) → Accepted a (pos_part n)
 row_accepted a has hint n e f =
-    let row = axis_questions has a ++ (ask 6 hint ∷ []) in
-    let r = f (told 6 row tt e) in
+    let row = axis_questions has a ++ (ask refusal.Hint hint ∷ []) in
+    let r = f (told 6 row e) in
     record {
-      kind = told 1 row tt e;
-      real = told 3 row tt e;
-      order = told 4 row tt e;
-      near = told 5 row tt e;
+      kind = told 1 row e;
+      real = told 3 row e;
+      order = told 4 row e;
+      near = told 5 row e;
       most = r.most;
       some = r.some;
     }
 
 module _ (a : Axis) where
-  pub accepted : (h : Hint) → first_no (tick_questions a h) ≡ 0 → Accepted a (limit h)
+  pub accepted : (h : Hint) → passes (tick_questions a h) ≡ true → Accepted a (limit h)
   accepted (Bold h) e = row_accepted a true (hint_on a (Bold h)) h.n e (bold_range a h)
   accepted (Light h) e = row_accepted a true (hint_on a (Light h)) h.n e (λ y. (light_range a h y).0)
 
@@ -163,21 +164,22 @@ module _ (a : Axis) where
   same_hint (Bold h) = rw (same_kind a)
   same_hint (Light h) = rw (same_kind a)
 
-  pub closed_passed : (h : Hint) → first_no (tick_questions a h) ≡ 0 → first_no (tick_questions (closed a) h) ≡ 0
+  pub closed_passed : (h : Hint) → passes (tick_questions a h) ≡ true → passes (tick_questions (closed a) h) ≡ true
   closed_passed h z =
-      let (q, y) = fewer (axis_questions true a) (ask 6 (hint_on a h)) (omega arith) z in
-      more (axis_questions true (closed a)) (ask 6 (hint_on (closed a) h)) ∙ rw (axis_passed a true q, same_hint h, y)
+      let (q, y) = fewer (axis_questions true a) (ask refusal.Hint (hint_on a h)) z in
+      passes_append (axis_questions true (closed a)) (ask refusal.Hint (hint_on (closed a) h) ∷ [])
+      ∙ rw (axis_passed a true q, same_hint h, y)
 
   -- the hint's numbers
-  pub bold_count : (h : BoldPoints) → first_no (tick_questions a (Bold h)) ≡ 0 → neg_part h.n ≡ 0
-  bold_count h e = (bold_range a h (told 6 (tick_questions a (Bold h)) tt e)).none_below
+  pub bold_count : (h : BoldPoints) → passes (tick_questions a (Bold h)) ≡ true → neg_part h.n ≡ 0
+  bold_count h e = (bold_range a h (told 6 (tick_questions a (Bold h)) e)).none_below
 
-  pub light_counts : (h : LightPoints) → first_no (tick_questions a (Light h)) ≡ 0 →
+  pub light_counts : (h : LightPoints) → passes (tick_questions a (Light h)) ≡ true →
       (neg_part h.n ≡ 0) × (neg_part h.bold ≡ 0) × (pos_part h.bold ≤ 4096)
-  light_counts h e = let (r, z, m) = light_range a h (told 6 (tick_questions a (Light h)) tt e) in (r.none_below, z, m)
+  light_counts h e = let (r, z, m) = light_range a h (told 6 (tick_questions a (Light h)) e) in (r.none_below, z, m)
 
   -- the axis that lists
-  pub listing_accepted : (h : Hint) → first_no (tick_questions a h) ≡ 0 → Accepted (axis_for a h) (limit h)
+  pub listing_accepted : (h : Hint) → passes (tick_questions a h) ≡ true → Accepted (axis_for a h) (limit h)
   listing_accepted (Bold h) e = accepted (Bold h) e
   listing_accepted (Light h) e =
       let b = pos_part h.bold in
@@ -206,9 +208,9 @@ module _ (a : Axis) where
         | inr x ↦ of_kind a (λ (k : ℤ). within (pos 4) k (pos 7) ≡ true) 7 x refl
       ]
 
-  pub period_accepted : (h : BoldPoints) → first_no (period_questions a h) ≡ 0 →
+  pub period_accepted : (h : BoldPoints) → passes (period_questions a h) ≡ true →
       Accepted a (pos_part h.n) × (1 ≤ pos_part h.n) × (neg_part h.n ≡ 0)
   period_accepted h e =
       let row = period_questions a h in
       let q = row_accepted a (has_period a) (hint_on a (Bold h)) h.n e (bold_range a h) in
-      (q, q.some (many (told 2 row tt e)), (bold_range a h (told 6 row tt e)).none_below)
+      (q, q.some (many (told 2 row e)), (bold_range a h (told 6 row e)).none_below)

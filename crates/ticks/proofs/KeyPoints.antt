@@ -3,14 +3,16 @@ use mathlib.Core.Path.{◌≡◌, refl, sym, ap, ◌∙◌}
 use mathlib.Core.Bool.{Bool, true, false, cond, not, ◌||◌}
 use mathlib.Core.List.{List}
 use mathlib.Core.Logic.{inl, inr}
-use Prim.Native.Nat.{ℕ, zero, suc, ◌*◌, ◌≤◌, ◌<◌}
+use Prim.Native.Nat.{ℕ, ◌*◌, ◌≤◌, ◌<◌}
 use native.Mathlib.Decide.{dec_le}
 use native.Mathlib.Omega.{arith}
 use lib.Dec.{leb}
 use borrow.Author.Tests.{le-leb, lt-leb}
-use Rattle.laws.specs.Asking.{first_no}
+use Rattle.std.specs.Prelude.{⊤, Ok, Err}
+use Rattle.asking.specs.declared.Refusal.{Refusal}
+use Rattle.asking.specs.Asking.{asked, passes}
+use Rattle.asking.proofs.Asked.{passed, refused}
 use Rattle.laws.specs.Numbers.{pos_part}
-use Rattle.laws.proofs.Asked.{passed_by}
 use Rattle.values.specs.declared.Value.{Value}
 use Rattle.values.specs.Values.{is_duration}
 use Rattle.values.proofs.Numbers.{either_true}
@@ -27,10 +29,8 @@ use Rattle.keypoints.specs.Times.{period_on}
 use Rattle.keypoints.specs.KeyPoints.{key_points}
 use Rattle.keypoints.specs.Hints.{limit, finer, monthly_light, yearly_light, light_key_points, key_points_in, turns_for}
 use Rattle.keypoints.specs.Hints.{key_points_for}
-use Rattle.keypoints.proofs.Periods.{optional}
 use Rattle.keypoints.proofs.KeyPoints.{period_on_law, key_points_same}
-use Rattle.ticks.specs.declared.PeriodAnswer.TheVariants as period
-use Rattle.ticks.specs.Answers.{tick_questions, ticks_of, period_questions, a_period, period_answer}
+use Rattle.ticks.specs.Answers.{tick_questions, ticks_of, period_questions, period_answer}
 use Rattle.ticks.specs.Plans.{refined, axis_for, plan_for}
 use Rattle.ticks.proofs.Hints.{kind_is, stays_fine, stays_coarse, goes_finer, listing_accepted, closed_passed}
 use Rattle.ticks.proofs.Hints.{period_accepted}
@@ -102,48 +102,39 @@ lists turns a (Bold h) = refl
 lists turns a (Light h) = light_lists turns (pos_part h.bold) (pos_part h.n) a
 
 -- ---- the laws, of what the questions accept: for any number of turns from N + 30 on
-pub plan_in : (turns : ℕ) (a : Axis) (h : Hint) → first_no (tick_questions a h) ≡ 0 → turns_for (limit h) ≤ turns →
+pub plan_in : (turns : ℕ) (a : Axis) (h : Hint) → passes (tick_questions a h) ≡ true → turns_for (limit h) ≤ turns →
     key_points_in turns a h ≡ ticks (plan_for a h)
 plan_in turns a h z t = lists turns a h ∙ key_points_same turns (limit h) (axis_for a h) (listing_accepted a h z) t
 
 -- the bound on the turns is never reached: more of them give the same list
-pub turns_enough : (turns : ℕ) (a : Axis) (h : Hint) → first_no (tick_questions a h) ≡ 0 → turns_for (limit h) ≤ turns →
+pub turns_enough : (turns : ℕ) (a : Axis) (h : Hint) → passes (tick_questions a h) ≡ true → turns_for (limit h) ≤ turns →
     key_points_in turns a h ≡ key_points_for a h
 unfolding key_points_for
 turns_enough turns a h z t = plan_in turns a h z t ∙ sym (plan_in (turns_for (limit h)) a h z (omega arith))
 
-pub plan_same : (a : Axis) (h : Hint) → first_no (tick_questions a h) ≡ 0 → key_points_for a h ≡ ticks (plan_for a h)
+pub plan_same : (a : Axis) (h : Hint) → passes (tick_questions a h) ≡ true → key_points_for a h ≡ ticks (plan_for a h)
 unfolding key_points_for
 plan_same a h z = plan_in (turns_for (limit h)) a h z (omega arith)
 
 -- the list of the plan that the code makes
-pub ticks_same : (a : Axis) (h : Hint) → first_no (tick_questions a h) ≡ 0 → ticks_of a h ≡ ticks (plan_for (closed a) h)
+pub ticks_same : (a : Axis) (h : Hint) → passes (tick_questions a h) ≡ true → ticks_of a h ≡ ticks (plan_for (closed a) h)
 unfolding ticks_of
 ticks_same a h z = plan_same (closed a) h (closed_passed a h z)
 
-pub period_is : (a : Axis) (h : BoldPoints) → first_no (period_questions a h) ≡ 0 →
+pub period_is : (a : Axis) (h : BoldPoints) → passes (period_questions a h) ≡ true →
     period_on (turns_for (pos_part h.n)) a (pos_part h.n) (not (is_duration a.kind))
-    ≡ optional (period_in a (pos_part h.n))
+    ≡ period_in a (pos_part h.n)
 period_is a h z =
     let (q, some, _) = period_accepted a h z in
     period_on_law (turns_for (pos_part h.n)) (pos_part h.n) a q (omega arith) some
 
 -- ---- the period that is answered
-some_is : (k : ℕ) → 0 < k → a_period (optional k) ≡ period.Is k
-some_is zero h = absurd (let z : ⊥ = omega arith in z)
-some_is (suc k) h = refl
+pub period_answered : (a : Axis) (h : BoldPoints) → passes (period_questions a h) ≡ true →
+    Ok (period_in a (pos_part h.n)) ≡ period_answer a h
+unfolding period_answer
+period_answered a h z = ap Ok (sym (period_is a h z)) ∙ passed (period_questions a h) _ z
 
-none_is : (k : ℕ) → k ≤ 0 → a_period (optional k) ≡ period.None
-none_is zero h = refl
-none_is (suc k) h = absurd (let z : ⊥ = omega arith in z)
-
-module _ (a : Axis) (h : BoldPoints) (z : first_no (period_questions a h) ≡ 0) where
-  answered_by : period_answer a h ≡ a_period (optional (period_in a (pos_part h.n)))
-  unfolding period_answer
-  answered_by = sym (passed_by period.Refused _ (period_questions a h) z) ∙ ap a_period (period_is a h z)
-
-  pub period_some : 0 < period_in a (pos_part h.n) → period_answer a h ≡ period.Is (period_in a (pos_part h.n))
-  period_some l = answered_by ∙ some_is (period_in a (pos_part h.n)) l
-
-  pub period_none : period_in a (pos_part h.n) ≤ 0 → period_answer a h ≡ period.None
-  period_none l = answered_by ∙ none_is (period_in a (pos_part h.n)) l
+pub period_refused : (a : Axis) (h : BoldPoints) (u : ⊤) (q : Refusal) → Err q ≡ asked (period_questions a h) (Ok u) →
+    Err q ≡ period_answer a h
+unfolding period_answer
+period_refused a h u q e = refused (period_questions a h) u _ q (sym e)

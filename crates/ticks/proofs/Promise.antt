@@ -1,22 +1,24 @@
 -- Demand 3 of every list of every kind and both hints, over what the exports cite: `promises` makes it one claim.
 -- Assumes nothing.
-use mathlib.Core.Path.{◌≡◌, refl, subst}
-use mathlib.Core.List.{List, []}
-use Prim.Native.Nat.{ℕ, zero, suc, ◌*◌}
-use native.Mathlib.Omega.{arith}
+use mathlib.Core.Path.{◌≡◌, subst}
+use mathlib.Core.Bool.{true}
+use mathlib.Core.List.{List}
+use Prim.Native.Nat.{ℕ, ◌*◌}
 use lib.IntN.{ℤ}
 use lib.ListN.{length, take}
-use Rattle.laws.specs.Asking.{first_no, unless}
+use Rattle.std.specs.Prelude.{Ok}
+use Rattle.asking.specs.Asking.{passes}
+use Rattle.asking.proofs.Asked.{answered_ok}
 use Rattle.values.specs.declared.Value.{Value}
 use Rattle.axis.specs.declared.Axis.{Axis}
 use Rattle.axis.specs.declared.Hint.{Hint}
 use Rattle.axis.specs.Axes.{start, end, closed, last}
 use Rattle.axis.proofs.ClosedAxes.{same_start}
-use Rattle.steps.specs.declared.Listed.TheVariants.{Refused, Ticks}
 use Rattle.steps.specs.Progression.{ticks, Sound}
-use Rattle.steps.specs.Listing.{numbers, listed_of, lent_after, front}
+use Rattle.steps.specs.Listing.{numbers, listed_of}
 use Rattle.steps.specs.Promise.{Fine}
 use Rattle.steps.proofs.Demand.{none_fine, front_fine, read_fine}
+use Rattle.plans.proofs.Cases.{choose}
 use Rattle.plans.proofs.Promise.{Good, plan_good}
 use Rattle.keypoints.specs.Hints.{limit, key_points_for}
 use Rattle.ticks.specs.Answers.{tick_questions, ticks_of, ticks_answer, ticks_written, ticks_handed}
@@ -24,7 +26,7 @@ use Rattle.ticks.specs.Plans.{axis_for, plan_for}
 use Rattle.ticks.proofs.Hints.{listing_accepted, listing_ends, closed_passed}
 use Rattle.ticks.proofs.KeyPoints.{plan_same}
 
-module _ (a : Axis) (h : Hint) (z : first_no (tick_questions a h) ≡ 0) where
+module _ (a : Axis) (h : Hint) (z : passes (tick_questions a h) ≡ true) where
   good : Good (axis_for a h) (limit h) (plan_for a h)
   good = plan_good (axis_for a h) (limit h) (listing_accepted a h z)
 
@@ -41,7 +43,7 @@ module _ (a : Axis) (h : Hint) (z : first_no (tick_questions a h) ≡ 0) where
       (subst (λ (v : Value). Fine (limit h) (start (axis_for a h)) v l) e good.fine))
 
 -- the same of an axis whose end may be excluded: none after the last value that belongs to it
-pub ticks_fine : (a : Axis) (h : Hint) → first_no (tick_questions a h) ≡ 0 →
+pub ticks_fine : (a : Axis) (h : Hint) → passes (tick_questions a h) ≡ true →
     Fine (limit h) (start a) (last a) (numbers (ticks_of a h))
 unfolding ticks_of
 ticks_fine a h z =
@@ -49,23 +51,16 @@ ticks_fine a h z =
     (key_points_fine (closed a) h (closed_passed a h z))
 
 -- the ticks that are read from the lent numbers after an accepted call
-pub list_fine : (a : Axis) (h : Hint) (d : List ℤ) (c : ℕ) → ticks_answer a h (length d) ≡ Ticks c →
+pub list_fine : (a : Axis) (h : Hint) (d : List ℤ) (c : ℕ) → ticks_answer a h (length d) ≡ Ok c →
     Fine (limit h) (start a) (last a) (take (2 * c) (ticks_written a h d))
 unfolding ticks_answer ticks_written
-list_fine a h d c = go (first_no (tick_questions a h)) (ticks_fine a h)
-  where
-    go : (q : ℕ) → (q ≡ 0 → Fine (limit h) (start a) (last a) (numbers (ticks_of a h))) →
-        unless q Refused (listed_of (ticks_of a h) (length d)) ≡ Ticks c → Fine (limit h) (start a) (last a)
-        (take (2 * c) (unless q (λ n. d) (lent_after (ticks_of a h) d)))
-    go zero f e = read_fine (ticks_of a h) d (limit h) c (start a) (last a) (f refl) e
-    go (suc q) f e = let w : ◌≡◌ {A = ℕ} 0 1 = cc in absurd (let x : ⊥ = omega arith in x)
+list_fine a h d c e =
+    let (z, f) = answered_ok (tick_questions a h) (listed_of (ticks_of a h) (length d)) c e in
+    rw z (read_fine (ticks_of a h) d (limit h) c (start a) (last a) (ticks_fine a h z) f)
 
 -- the part that is handed back, which is empty after a refused call
 pub handed_fine : (a : Axis) (h : Hint) (k : ℕ) → Fine (limit h) (start a) (last a) (ticks_handed a h k)
 unfolding ticks_handed
-handed_fine a h k = go (first_no (tick_questions a h)) (ticks_fine a h)
-  where
-    go : (q : ℕ) → (q ≡ 0 → Fine (limit h) (start a) (last a) (numbers (ticks_of a h))) →
-        Fine (limit h) (start a) (last a) (unless q (λ n. []) (front (ticks_of a h) k))
-    go zero f = front_fine (ticks_of a h) k (limit h) (start a) (last a) (f refl)
-    go (suc q) f = none_fine (limit h) (start a) (last a)
+handed_fine a h k = choose (λ (l : List ℤ). Fine (limit h) (start a) (last a) l) (passes (tick_questions a h))
+    (λ z. front_fine (ticks_of a h) k (limit h) (start a) (last a) (ticks_fine a h z))
+    (λ _. none_fine (limit h) (start a) (last a))

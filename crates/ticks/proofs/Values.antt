@@ -5,7 +5,7 @@ use mathlib.Core.Bool.{true, false}
 use Prim.Native.Nat.{ℕ, ◌*◌, ◌<◌}
 use lib.IntN.{ℤ, pos}
 use lib.ListN.{length}
-use Rattle.laws.specs.Asking.{first_no}
+use Rattle.asking.specs.Asking.{passes}
 use Rattle.laws.specs.Numbers.{pos_part}
 use Rattle.values.specs.Values.{is_value}
 use Rattle.axis.specs.declared.Axis.{Axis}
@@ -26,7 +26,7 @@ use Rattle.ticks.proofs.Hints.{accepted, listing_accepted, listing_value, closed
 use Rattle.ticks.proofs.KeyPoints.{ticks_same}
 
 -- each tick is what question 3 asks of the ends
-pub tick_value : (a : Axis) (h : Hint) → first_no (tick_questions a h) ≡ 0 → (i : ℕ) → 2 * i < length (numbers (ticks_of a h)) →
+pub tick_value : (a : Axis) (h : Hint) → passes (tick_questions a h) ≡ true → (i : ℕ) → 2 * i < length (numbers (ticks_of a h)) →
     is_value a.kind (nth (numbers (ticks_of a h)) i) ≡ true
 tick_value a h z = rw (ticks_same a h z) (λ i l.
     let v = nth (numbers (ticks (plan_for (closed a) h))) i in
@@ -35,7 +35,7 @@ tick_value a h z = rw (ticks_same a h z) (λ i l.
     ∙ plan.is_value_law (axis_for (closed a) h) (limit h) (listing_accepted (closed a) h (closed_passed a h z)) i l)
 
 -- only kinds 4 and 7 list times: elsewhere no tick has a tail
-pub no_tail : (a : Axis) (h : BoldPoints) → first_no (tick_questions a (Bold h)) ≡ 0 → has_period a ≡ false → (i : ℕ) →
+pub no_tail : (a : Axis) (h : BoldPoints) → passes (tick_questions a (Bold h)) ≡ true → has_period a ≡ false → (i : ℕ) →
     2 * i < length (numbers (ticks_of a (Bold h))) → (nth (numbers (ticks_of a (Bold h))) i).tail ≡ pos 0
 unfolding has_period
 no_tail a h z e = rw (ticks_same a (Bold h) z)

@@ -1,10 +1,11 @@
 -- `ticks::axis_for` meets its contract. Assumes nothing.
 use borrow.Author.Rules.{rules}
 use mathlib.Core.Path.{◌≡◌, ◌∙◌, ap}
+use mathlib.Core.Bool.{true}
 use mir.Syntax.{w64}
 use mir.Val.{SFits}
 use mir.Facts.{to_z-of_z}
-use Rattle.laws.specs.Asking.{first_no}
+use Rattle.asking.specs.Asking.{passes}
 use Rattle.laws.specs.Numbers.{pos_part}
 use Rattle.axis.specs.declared.Hint.TheVariants.{Light}
 use Rattle.counting.proofs.Counting.{no_less}
@@ -15,7 +16,7 @@ use Rattle.ticks.proofs.axis_for.Goals as goal
 use Rattle.ticks.proofs.axis_for.Goals.{After-as_count-bold, After-refined-once, In-Light}
 
 -- ---- a light hint
-light : (c : In-Light) → first_no (tick_questions c.args.a (Light c.in-Light.l)) ≡ 0
+light : (c : In-Light) → passes (tick_questions c.args.a (Light c.in-Light.l)) ≡ true
 light c = rw c.in-Light.is at c.requires
 
 count_fits : (c : In-Light) → SFits w64 c.in-Light.l.bold

@@ -1,56 +1,45 @@
 -- `ticks::period_per_point` meets its contract. Assumes nothing.
 use borrow.Author.Rules.{rules}
 use mathlib.Core.Path.{◌≡◌, sym, ◌∙◌, ap}
-use native.Mathlib.Omega.{arith}
+use mathlib.Core.Bool.{true}
 use mir.Syntax.{w64}
 use mir.Val.{SFits}
 use mir.Facts.{to_z-of_z}
-use Rattle.laws.specs.Asking.{first_no}
+use Rattle.std.specs.Prelude.{Ok}
+use Rattle.asking.specs.Asking.{passes}
+use Rattle.asking.proofs.Asked.{all_pass}
 use Rattle.laws.specs.Numbers.{pos_part}
-use Rattle.laws.proofs.Asked.{refused_by}
 use Rattle.counting.proofs.Counting.{no_less}
 use Rattle.plans.specs.Times.{period_in}
-use Rattle.ticks.specs.declared.PeriodAnswer.TheVariants.{Refused, Is}
-use Rattle.ticks.specs.Answers.{period_questions, period_answer}
+use Rattle.ticks.specs.Answers.{period_questions}
 use Rattle.ticks.proofs.Hints.{period_accepted}
-use Rattle.ticks.proofs.KeyPoints.{period_some, period_none}
+use Rattle.ticks.proofs.KeyPoints.{period_answered, period_refused}
 use Rattle.ticks.proofs.period_per_point.Goals as goal
-use Rattle.ticks.proofs.period_per_point.Goals.{After-as_count, After-period_in-k, Else-q-ne0, Start}
+use Rattle.ticks.proofs.period_per_point.Goals.{After-as_count, In_ok-ask_period, Start}
 
 limit_fits : (c : Start) → SFits w64 c.args.h.n
 limit_fits c = search rules
 
-none : (c : Else-q-ne0) → first_no (period_questions c.args.a c.args.h) ≡ 0
-none c = sym c.period_refusal-q.ensures ∙ c.if-q-ne0.false
+none : (c : In_ok-ask_period) → passes (period_questions c.args.a c.args.h) ≡ true
+none c = all_pass (period_questions c.args.a c.args.h) tt (sym c.in_ok-ask_period.ensures)
 
 counted : (c : After-as_count) → c.as_count.result ≡ pos_part c.args.h.n
 counted c = c.as_count.ensures ∙ ap pos_part (to_z-of_z (limit_fits (goal.at.After-as_count c).Start))
 
-period : (c : After-period_in-k) → c.period_in-k.result ≡ period_in c.args.a
-    (pos_part c.args.h.n)
-period c = c.period_in-k.ensures ∙ ap (period_in c.args.a) (counted (goal.at.After-period_in-k c).After-as_count)
-
-pub returns-then-q-ne0 : goal.returns-then-q-ne0
-unfolding period_answer
-returns-then-q-ne0 c = let x = c.args in
-    refused_by Refused _ (period_questions x.a x.h) c.period_refusal-q.result c.period_refusal-q.ensures c.if-q-ne0.true
+pub returns-in_err-ask_period : goal.returns-in_err-ask_period
+returns-in_err-ask_period c = search (rules, period_refused c.args.a c.args.h tt _ c.in_err-ask_period.ensures)
 
 pub as_count-requires : goal.as_count-requires
 as_count-requires c =
     rw (to_z-of_z (limit_fits (goal.at.as_count-requires c).Start))
-    (no_less c.args.h.n (period_accepted c.args.a c.args.h (none (goal.at.as_count-requires c).Else-q-ne0)).2)
+    (no_less c.args.h.n (period_accepted c.args.a c.args.h (none (goal.at.as_count-requires c).In_ok-ask_period)).2)
 
-pub period_in-k-requires : goal.period_in-k-requires
-period_in-k-requires c = let x = c.args in
-    let (q, k, d) = period_accepted x.a x.h (none (goal.at.period_in-k-requires c).Else-q-ne0) in
-    rw (counted (goal.at.period_in-k-requires c).After-as_count) (q, k)
-
-pub returns-then-k-gt0 : goal.returns-then-k-gt0
-returns-then-k-gt0 c = let x = c.args in
-    ap Is (period (goal.at.returns-then-k-gt0 c).After-period_in-k) ∙ sym
-    (period_some x.a x.h (none (goal.at.returns-then-k-gt0 c).Else-q-ne0)
-    (rw (period (goal.at.returns-then-k-gt0 c).After-period_in-k) at c.if-k-gt0.true))
+pub period_in-requires : goal.period_in-requires
+period_in-requires c = let x = c.args in
+    let (q, k, d) = period_accepted x.a x.h (none (goal.at.period_in-requires c).In_ok-ask_period) in
+    rw (counted (goal.at.period_in-requires c).After-as_count) (q, k)
 
 pub returns : goal.returns
 returns c = let x = c.args in
-    sym (period_none x.a x.h (none (goal.at.returns c).Else-q-ne0) (omega (arith, period (goal.at.returns c).After-period_in-k)))
+    ap Ok (c.period_in.ensures ∙ ap (period_in x.a) (counted (goal.at.returns c).After-as_count))
+    ∙ period_answered x.a x.h (none (goal.at.returns c).In_ok-ask_period)

@@ -1,10 +1,11 @@
 -- `ticks::plan_for` meets its contract. Assumes nothing.
 use borrow.Author.Rules.{rules}
 use mathlib.Core.Path.{◌≡◌, ◌∙◌, ap}
+use mathlib.Core.Bool.{true}
 use mir.Syntax.{w64}
 use mir.Val.{SFits}
 use mir.Facts.{to_z-of_z}
-use Rattle.laws.specs.Asking.{first_no}
+use Rattle.asking.specs.Asking.{passes}
 use Rattle.laws.specs.Numbers.{pos_part}
 use Rattle.axis.specs.declared.Hint.TheVariants.{Bold, Light}
 use Rattle.counting.proofs.Counting.{no_less}
@@ -15,7 +16,7 @@ use Rattle.ticks.proofs.plan_for.Goals as goal
 use Rattle.ticks.proofs.plan_for.Goals.{After-as_count, After-as_count-in-Light, In-Bold, In-Light}
 
 -- ---- a bold hint
-bold : (c : In-Bold) → first_no (tick_questions c.args.a (Bold c.in-Bold.b)) ≡ 0
+bold : (c : In-Bold) → passes (tick_questions c.args.a (Bold c.in-Bold.b)) ≡ true
 bold c = rw c.in-Bold.is at c.requires
 
 bold_axis : (c : In-Bold) → c.axis_for-f.result ≡ axis_for c.args.a
@@ -38,7 +39,7 @@ plan_of-requires c = rw (bold_axis (goal.at.plan_of-requires c).In-Bold, bold_li
     (listing_accepted c.args.a (Bold c.in-Bold.b) (bold (goal.at.plan_of-requires c).In-Bold))
 
 -- ---- a light hint
-light : (c : In-Light) → first_no (tick_questions c.args.a (Light c.in-Light.l)) ≡ 0
+light : (c : In-Light) → passes (tick_questions c.args.a (Light c.in-Light.l)) ≡ true
 light c = rw c.in-Light.is at c.requires
 
 light_axis : (c : In-Light) → c.axis_for-f.result ≡ axis_for c.args.a
