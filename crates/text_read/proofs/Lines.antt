@@ -1,20 +1,19 @@
--- How bytes are counted, what stands after a field, and the lines of a text one byte at a time.
+-- How bytes are counted, and the lines of a text one byte at a time.
 -- Assumes nothing.
-use mathlib.Core.Path.{◌≡◌, refl, sym, ◌∙◌, ap}
+use mathlib.Core.Path.{◌≡◌, refl, ap}
 use mathlib.Core.Bool.{Bool, true, false, cond}
 use mathlib.Core.List.{List, [], ◌∷◌}
-use Prim.Native.Nat.{ℕ, suc, ◌+◌, ◌-◌, ◌<◌}
+use Prim.Native.Nat.{ℕ, suc, ◌+◌, ◌<◌}
 use native.Mathlib.Numerals.{add-one}
 use native.Mathlib.Omega.{arith}
 use lib.Dec.{eqb}
-use lib.ListN.{length, take, drop, drop_of_length-le}
+use lib.ListN.{length, take, drop}
 use Rattle.std.specs.List.{count_by}
 use Rattle.std.proofs.lemmas.List.Recursion.{is_count_by}
-use Rattle.laws.proofs.Parts.{to_end}
 use Rattle.laws.proofs.Tests.{and_false}
-use Rattle.text_read.specs.Bytes.{line_feed, space_byte}
+use Rattle.text_read.specs.Bytes.{line_feed}
 use Rattle.text_read.specs.Fields.{until_of}
-use Rattle.text_read.specs.Lines.{Lines, byte_before, lines_of, same_as, occurrences, rest_of}
+use Rattle.text_read.specs.Lines.{Lines, byte_before, lines_of, same_as, occurrences}
 
 -- ---- bytes
 -- the bytes that are c, as std counts them
@@ -28,13 +27,6 @@ same_length_not [] [] e = absurd (e refl)
 same_length_not [] (b ∷ t) e = refl
 same_length_not (a ∷ s) [] e = refl
 same_length_not (a ∷ s) (b ∷ t) e = rw (same_length_not s t (λ q. e (ap suc q))) (and_false (eqb a b))
-
--- ---- fields
-pub rest_none : (s : List ℕ) → until_of space_byte s ≡ length s → [] ≡ rest_of s
-rest_none s h = sym (drop_of_length-le s (omega arith))
-
-pub rest_some : (s : List ℕ) (k : ℕ) → k ≡ until_of space_byte s → take (length s - (k + 1)) (drop (k + 1) s) ≡ rest_of s
-rest_some s k e = to_end s (k + 1) ∙ rw e
 
 -- ---- lines
 -- a text without a LF has no line

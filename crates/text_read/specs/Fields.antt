@@ -1,6 +1,6 @@
 -- The forms of a line's fields, over the bytes from a field's start: numbers, dates, date-times, spans. Definitions only.
 -- A field is what stands before the next space, or all to the line's end.
-use Rattle.std.specs.Prelude.{Bool, true, false, ◌&&◌, cond, List, [], ◌∷◌, ℕ, suc, ◌+◌, ◌*◌, ◌-◌, ◌^◌, ◌<◌, leb, ltb, eqb, pos}
+use Rattle.std.specs.Prelude.{◌≡◌, Bool, true, false, ◌&&◌, cond, List, [], ◌∷◌, ℕ, suc, ◌+◌, ◌*◌, ◌-◌, ◌^◌, ◌<◌, leb, ltb, eqb, pos}
 use Rattle.std.specs.Prelude.{ℤ, ◌-ℤ◌, length, take, drop, get_or, Option, None, Some}
 use Rattle.laws.specs.Units.{per_second}
 use Rattle.text_read.specs.Bytes.{space_byte, minus_byte, point_byte, zero_byte, nine_byte, colon_byte, t_byte}
@@ -12,6 +12,12 @@ use Rattle.text_read.specs.declared.Duration.{Duration}
 unfoldable pub until_of : ℕ → List ℕ → ℕ
 until_of c [] = 0
 until_of c (b ∷ s) = cond (eqb b c) 0 (suc (until_of c s))
+
+-- the first c of s stands between the two
+pub record SplitAt (c : ℕ) (s before behind : List ℕ) : Type 0 where
+  pub inside : until_of c s < length s
+  pub front : before ≡ take (until_of c s) s
+  pub rest : behind ≡ drop (until_of c s + 1) s
 
 -- the bytes of the field at the front of s
 abbrev pub field_of : List ℕ → List ℕ

@@ -2,11 +2,11 @@
 // where the field has not the form. A field ends before the next space, or where the line ends.
 #![tactic(auto)]
 
-ghost use Rattle.std.specs.Prelude.{◌≡◌, ◌+◌, ◌≤◌, ◌==◌, length, take, position};
+ghost use Rattle.std.specs.Prelude.{◌≡◌, ◌+◌, ◌≤◌, ◌==◌, length, take, position, MatchOption};
 ghost use Rattle.text_read.specs.Lines.{occurrences, in_form, rest_of};
 ghost use Rattle.text_read.specs.Fields.{until_of, field_of, digits_of, read_number, triple_of, read_date};
 ghost use Rattle.text_read.specs.Fields.{nanos_of, fraction_of, read_stamp, seconds_of, read_span};
-ghost use Rattle.text_read.specs.Fields.{Digits, TypedThree, TypedDate, TypedStamp, TypedSpan};
+ghost use Rattle.text_read.specs.Fields.{SplitAt, Digits, TypedThree, TypedDate, TypedStamp, TypedSpan};
 
 // A date as it is typed, real or not.
 #[derive(Clone, Copy)]
@@ -50,6 +50,14 @@ pub fn until(s: &[u8], c: u8) -> usize
     place(s, c).unwrap_or(s.len())
 }
 
+// What stands before the first c, and what stands behind it.
+pub fn split_once(s: &[u8], c: u8) -> Option<(&[u8], &[u8])>
+    ensures { MatchOption result (until_of c s.now ≡ length s.now) (λ p. SplitAt c s.now p.0.now p.1.now) }
+{
+    let k = place(s, c)?;
+    Some((&s[..k], &s[k + 1..]))
+}
+
 // How often c stands in s.
 fn occurrences(s: &[u8], c: u8) -> usize
     ensures { result ≡ occurrences c s.now }
@@ -75,8 +83,8 @@ pub fn field(s: &[u8]) -> &[u8]
 pub fn rest_of(s: &[u8]) -> &[u8]
     ensures { result.now ≡ rest_of s.now }
 {
-    match place(s, b' ') {
-        Some(k) => &s[k + 1..],
+    match split_once(s, b' ') {
+        Some((_, rest)) => rest,
         None => &[],
     }
 }
