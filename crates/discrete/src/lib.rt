@@ -185,7 +185,8 @@ fn next_day(a: Axis, v: Value) -> Result<Option<Value>, Refusal>
     Ok(Some(at_midnight(at + 1)?))
 }
 
-// The value of the next index, where that is below the size.
+// The value of the next index, where that is below the size. One way for all kinds, by position_of, size_of and value_at, was
+// tried: it takes 21 to 52 instructions more a call.
 pub fn next_in(a: Axis, v: Value) -> Result<Option<Value>, Refusal>
     requires { Dated a × (value_on a v ≡ true) }
     ensures { result ≡ checked_if (next_in a v) }
