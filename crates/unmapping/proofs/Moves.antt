@@ -1,189 +1,305 @@
--- Unmapping by nanoseconds on sizes: the sign of the move, the Rust's test of the product, and that all sums fit.
--- Assumes nothing.
+-- Moves of a date-time: the Rust's test of the product, that all sums fit, and the carry of a day. Assumes nothing.
 use mathlib.Core.Path.{◌≡◌, refl, sym, ◌∙◌, ap}
-use mathlib.Core.Bool.{Bool, true, false, cond, not, ◌&&◌, ◌||◌}
-use Prim.Native.Nat.{ℕ, zero, suc, ◌+◌, ◌*◌, ◌/◌, ◌%◌, ◌≤◌, ◌<◌}
-use native.Mathlib.Nat.{zero-div, mul-zero, le_trans, le_of_lt, div-mul-le_self, mul-le-mul_right, mod-lt}
-use native.Mathlib.Nat.{le-div_iff_mul-le, div-le_self, div-le_of_le-mul}
+use mathlib.Core.Logic.{◌⊎◌, inl, inr}
+use mathlib.Core.Bool.{Bool, true, false, cond, ◌&&◌, ◌||◌}
+use Prim.Native.Nat.{ℕ, zero, suc, ◌+◌, ◌*◌, ◌/◌, ◌%◌, ◌≤◌, ◌<◌, min}
+use native.Mathlib.Nat.{zero-mul, zero-div, le_of_lt, mul-le-mul, mul-le-mul_right, mod-lt, le-div_iff_mul-le, div-le_self, div-le_of_le-mul}
 use native.Mathlib.Omega.{arith}
-use lib.Dec.{eqb, ltb, leb}
+use lib.Dec.{leb}
 use lib.IntN.{ℤ, pos, negsuc, neg_ℤ, nat_abs, ◌+ℤ◌, ◌*ℤ◌}
 use lib.Signed.{lt_z, le_z, quot_z, rem_z}
-use lib.Ieee.{unlike}
-use borrow.Author.Tests.{eqb-true, eqb-false, ltb-true, leb-true, ne_eqb, le-leb, lt-leb}
-use Rattle.laws.specs.Numbers.{is_number, pos_part, neg_part}
-use Rattle.laws.proofs.Signed.{add, mul_up, mul_dn, neg_up, neg_dn, same, is_ge}
-use Rattle.laws.proofs.Tests.{both_true, and_false}
-use Rattle.floats.specs.Rounding.{with_sign}
+use mir.Syntax.{w64}
+use mir.Val.{SFits, to_z, of_z}
+use mir.Facts.{to_z-of_z}
+use borrow.Author.Tests.{leb-true, leb-false}
+use Rattle.std.specs.Int.{int_div_euclid, int_rem_euclid, saturate_signed}
+use Rattle.std.proofs.lemmas.Int.{unsigned_abs-mul, fits_signed_from_abs}
+use Rattle.laws.specs.Numbers.{within, is_number, pos_part, neg_part}
+use Rattle.laws.proofs.Signed.{add, mul_up, mul_dn, abs, same, fits, up_fits, dn_fits, lt_true, le_true, quot_fits, rem_fits}
+use Rattle.laws.proofs.Tests.{both_true}
+use Rattle.calendar.specs.Questions.{is_day}
+use Rattle.calendar.proofs.Questions.{day_beyond}
 use Rattle.values.specs.declared.Value.{Value}
-use Rattle.values.specs.Values.{is_duration}
+use Rattle.values.specs.Values.{is_duration, is_value, a_date_time}
 use Rattle.values.specs.Differences.{nanoseconds, fits_i64, whole_days}
-use Rattle.values.proofs.Numbers.{or_false}
-use Rattle.values.proofs.Values.{DayValue}
-use Rattle.values.proofs.Fits.{fits_yes}
-use Rattle.unmapping.proofs.DateTimes.{instant}
+use Rattle.values.proofs.Numbers.{is_le, within_true, not_below, bounded, either_true}
+use Rattle.values.proofs.Values.{DayValue, day_range, day_value}
+use Rattle.values.proofs.Joining.{joint}
 use Rattle.unmapping.specs.Unmapping.{product_fits, by_nanoseconds, by_days, moved_by}
-use Rattle.unmapping.specs.Sizes.{sizes_fit, size_moved}
+use Rattle.unmapping.specs.Moves.{since_zero, date_time_answer}
+use Rattle.unmapping.proofs.DateTimes.{answer_none}
 
--- ---- quotients and sums below 0
-quot_neg : (x w : ℕ) → quot_z (neg_ℤ (pos x)) (pos w) ≡ neg_ℤ (pos (x / w))
-quot_neg zero w = ap pos (zero-div w) ∙ sym (ap (λ (n : ℕ). neg_ℤ (pos n)) (zero-div w))
-quot_neg (suc x) w = refl
+-- ---- sizes
+abs_neg : (z : ℤ) → nat_abs (neg_ℤ z) ≡ nat_abs z
+abs_neg (pos zero) = refl
+abs_neg (pos (suc n)) = refl
+abs_neg (negsuc n) = refl
 
-quot_both : (x w : ℕ) → quot_z (neg_ℤ (pos x)) (negsuc w) ≡ pos (x / suc w)
-quot_both zero w = ap (λ (n : ℕ). neg_ℤ (pos n)) (zero-div (suc w)) ∙ sym (ap pos (zero-div (suc w)))
-quot_both (suc x) w = refl
+abs_quot : (x w : ℤ) → nat_abs (quot_z x w) ≡ nat_abs x / nat_abs w
+abs_quot (pos a) (pos b) = refl
+abs_quot (pos a) (negsuc b) = abs_neg (pos (a / suc b))
+abs_quot (negsuc a) (pos b) = abs_neg (pos (suc a / b))
+abs_quot (negsuc a) (negsuc b) = refl
 
-sum_neg : (a b : ℕ) → neg_ℤ (pos a) +ℤ neg_ℤ (pos b) ≡ neg_ℤ (pos (a + b))
-sum_neg a b =
-    same (neg_ℤ (pos a) +ℤ neg_ℤ (pos b)) (neg_ℤ (pos (a + b)))
-    (omega (
-      arith,
-      add (neg_ℤ (pos a)) (neg_ℤ (pos b)),
-      neg_up (pos a),
-      neg_dn (pos a),
-      neg_up (pos b),
-      neg_dn (pos b),
-      neg_up (pos (a + b)),
-      neg_dn (pos (a + b)),
-    ))
+abs_rem : (x w : ℤ) → nat_abs (rem_z x w) ≡ nat_abs x % nat_abs w
+abs_rem (pos a) (pos b) = refl
+abs_rem (pos a) (negsuc b) = refl
+abs_rem (negsuc a) (pos b) = abs_neg (pos (suc a % b))
+abs_rem (negsuc a) (negsuc b) = abs_neg (pos (suc a % suc b))
 
--- ---- the test of the product, on sizes
-zero_test : (n : ℕ) → is_number (pos n) 0 ≡ eqb n 0
-zero_test n = go (eqb n 0) refl
+abs_sum : (x y : ℤ) → nat_abs (x +ℤ y) ≤ nat_abs x + nat_abs y
+abs_sum x y = go (x +ℤ y) (add x y)
   where
-    go : (b : Bool) → eqb n 0 ≡ b → is_number (pos n) 0 ≡ b
-    go true e = let z = eqb-true n 0 e in rw (le-leb 0 n (omega arith), le-leb n 0 (omega arith))
-    go false e = let z = eqb-false n 0 e in rw (le-leb 0 n (omega arith), lt-leb n 0 (omega arith))
+    go : (z : ℤ) → pos_part z + (neg_part x + neg_part y) ≡ (pos_part x + pos_part y) + neg_part z → nat_abs z ≤ nat_abs x + nat_abs y
+    go (pos n) e = omega (arith, abs x, abs y)
+    go (negsuc n) e = omega (arith, abs x, abs y)
 
--- a factor below 0 passes only as 0
-down_test : (a F : ℕ) (r : Bool) → F ≤ 9223372036854775807
-    → is_number (neg_ℤ (pos F)) 0 || (lt_z (pos a) (quot_z (pos 9223372036854775807) (neg_ℤ (pos F)))
-    || (r && le_z (pos a) (quot_z (pos 9223372036854775807) (neg_ℤ (pos F))))) ≡ eqb F 0
-down_test a zero r h = refl
-down_test a (suc f) r h = go (9223372036854775807 / suc f) (at_least_one (omega arith))
-    ∙ sym (ne_eqb (suc f) 0 (λ z. omega arith))
+-- ---- the product that passes the Rust's test fits, and the rest of the division adds at most one for each pixel
+abbrev Passed : ℕ → ℤ → ℤ → Type 0
+Passed size q r = (nat_abs q ≡ 0) ⊎ ((suc size * nat_abs q ≤ 9223372036854775807)
+    ⊎ ((nat_abs r ≡ 0) × (size * nat_abs q ≤ 9223372036854775807)))
+
+zero_size : (z : ℤ) → is_number z 0 ≡ true → nat_abs z ≡ 0
+zero_size z e = let (l, h) = within_true (pos 0) z (pos 0) e in omega (arith, abs z, not_below z (omega arith))
+
+passed : (o q r : ℤ) → product_fits o q r ≡ true → Passed (nat_abs o) q r
+passed o (pos zero) r e = inl refl
+passed o (pos (suc f)) r e = elim (either_true (is_number (pos (suc f)) 0) _ e) [
+  | inl x ↦ absurd (let z : ⊥ = omega (arith, zero_size (pos (suc f)) x) in z)
+  | inr x ↦ elim (either_true (lt_z (pos (nat_abs o)) (pos (9223372036854775807 / suc f))) _ x) [
+    | inl y ↦ (let l = lt_true (pos (nat_abs o)) (pos (9223372036854775807 / suc f)) y in
+        inr (inl ((le-div_iff_mul-le {k = suc f} {x = suc (nat_abs o)} {y = 9223372036854775807} (omega arith)).0 (omega arith))))
+    | inr y ↦ (let (z, l) = both_true (is_number r 0) (le_z (pos (nat_abs o)) (pos (9223372036854775807 / suc f))) y in
+        let h = le_true (pos (nat_abs o)) (pos (9223372036854775807 / suc f)) l in
+        inr (inr (
+          zero_size r z,
+          (le-div_iff_mul-le {k = suc f} {x = nat_abs o} {y = 9223372036854775807} (omega arith)).0 (omega arith),
+        )))
+  ]
+]
+passed o (negsuc f) r e = go (9223372036854775807 / suc f) e
   where
-    at_least_one : 1 * suc f ≤ 9223372036854775807 → 1 ≤ 9223372036854775807 / suc f
-    at_least_one m = (le-div_iff_mul-le {k = suc f} {x = 1} {y = 9223372036854775807} (omega arith)).1 m
+    go : (k : ℕ) → is_number (negsuc f) 0 || (lt_z (pos (nat_abs o)) (neg_ℤ (pos k))
+        || (is_number r 0 && le_z (pos (nat_abs o)) (neg_ℤ (pos k)))) ≡ true → Passed (nat_abs o) (negsuc f) r
+    go zero p = elim (either_true (lt_z (pos (nat_abs o)) (pos 0)) _ p) [
+      | inl y ↦ absurd (let z : ⊥ = omega (arith, lt_true (pos (nat_abs o)) (pos 0) y) in z)
+      | inr y ↦ (let (z, l) = both_true (is_number r 0) (le_z (pos (nat_abs o)) (pos 0)) y in
+          let s : nat_abs o ≡ 0 = omega (arith, le_true (pos (nat_abs o)) (pos 0) l) in
+          inr (inr (zero_size r z, rw s (omega arith))))
+    ]
+    go (suc k) p = elim (either_true (lt_z (pos (nat_abs o)) (negsuc k)) _ p) [
+      | inl y ↦ absurd (let z : ⊥ = omega (arith, lt_true (pos (nat_abs o)) (negsuc k) y) in z)
+      | inr y ↦ (let (z, l) = both_true (is_number r 0) (le_z (pos (nat_abs o)) (negsuc k)) y in
+          absurd (let w : ⊥ = omega (arith, le_true (pos (nat_abs o)) (negsuc k) l) in w))
+    ]
 
-    go : (k : ℕ) → 1 ≤ k → lt_z (pos a) (neg_ℤ (pos k)) || (r && le_z (pos a) (neg_ℤ (pos k))) ≡ false
-    go zero l = absurd (let w : ⊥ = omega arith in w)
-    go (suc k) l = and_false r
+rest_most : (size rest w : ℕ) → rest < w → rest * size / w ≤ size
+rest_most size rest w h = div-le_of_le-mul w (mul-le-mul_right size (le_of_lt h))
 
-pub product_fits_law : (s : ℕ) (w o : ℤ) → s ≤ 9223372036854775807 → 0 < nat_abs w
-    → product_fits o (quot_z (pos s) w) (rem_z (pos s) w) ≡ sizes_fit (lt_z w (pos 0)) (nat_abs o) (s / nat_abs w) (s % nat_abs w)
-product_fits_law s (pos w) o h l =
-    rw (zero_test (s / w), zero_test (s % w), is_ge (pos w) (pos 0) (omega arith))
-product_fits_law s (negsuc w) o h l = down_test (nat_abs o) (s / suc w) (is_number (pos (s % suc w)) 0)
-    (omega (arith, div-le_self s (suc w))) ∙ sym (or_false (eqb (s / suc w) 0))
-
--- ---- where it passes, the product fits
-pub product_most : (down : Bool) (size factor rest : ℕ) → sizes_fit down size factor rest ≡ true →
-    size * factor ≤ 9223372036854775807
-product_most down size factor rest e = go (eqb factor 0) (eqb-true factor 0) e
+sum_most : (size : ℕ) (q r : ℤ) (w : ℕ) → size ≤ 65534 → nat_abs r < w → Passed size q r →
+    size * nat_abs q + nat_abs r * size / w ≤ 9223372036854775807
+sum_most size q r w l h (inl z) = rw z (omega (arith, rest_most size (nat_abs r) w h))
+sum_most size q r w l h (inr (inr (z, p))) = omega (arith, p, ap (λ (n : ℕ). n * size / w) z ∙ (ap (λ (n : ℕ). n / w) (zero-mul size) ∙ zero-div w))
+sum_most size q r w l h (inr (inl p)) = go (leb size (nat_abs q)) refl
   where
-    small : size ≤ 9223372036854775807 / factor → size * factor ≤ 9223372036854775807
-    small h = le_trans (mul-le-mul_right factor h) (div-mul-le_self 9223372036854775807 factor)
+    k : nat_abs r * size / w ≤ size
+    k = rest_most size (nat_abs r) w h
 
-    late : (d p q r : Bool) → (p ≡ true → size < 9223372036854775807 / factor) →
-        (r ≡ true → size ≤ 9223372036854775807 / factor) → not d && (p || (q && r)) ≡ true → size ≤ 9223372036854775807 / factor
-    late false true q r u v e = le_of_lt (u refl)
-    late false false q r u v e = v (both_true q r e).1
-    late true p q r u v e = let z : ◌≡◌ {A = ℕ} 0 1 = cc in absurd (let w : ⊥ = omega arith in w)
+    go : (b : Bool) → leb size (nat_abs q) ≡ b → size * nat_abs q + nat_abs r * size / w ≤ 9223372036854775807
+    go true e = omega (arith, k, p, leb-true size (nat_abs q) e)
+    go false e = let m : size * nat_abs q ≤ 65534 * 65534 = mul-le-mul {n₁ = size} {m₁ = nat_abs q} {n₂ = 65534} {m₂ = 65534} l (omega (arith, leb-false size (nat_abs q) e)) in
+        omega (arith, k, m)
 
-    go : (z : Bool) → (z ≡ true → factor ≡ 0) →
-        z || (not down && (ltb size (9223372036854775807 / factor)
-        || (eqb rest 0 && leb size (9223372036854775807 / factor)))) ≡ true → size * factor ≤ 9223372036854775807
-    go true u e = let z = u refl in rw (z, mul-zero size) (omega arith)
-    go false u e = small (late down (ltb size (9223372036854775807 / factor)) (eqb rest 0)
-        (leb size (9223372036854775807 / factor)) (ltb-true size _) (leb-true size _) e)
+-- ---- all of by_nanoseconds fits
+module _ (s w o : ℤ) (small : nat_abs o ≤ 65534) (few : nat_abs w ≤ 65534) (some : 0 < nat_abs w)
+    (e : product_fits o (quot_z s w) (rem_z s w) ≡ true) where
+  abbrev q : ℤ
+  q = quot_z s w
 
--- the rest of the division adds at most one for each pixel
-pub rest_most : (s w size : ℕ) → 0 < w → s % w * size / w ≤ size
-rest_most s w size h = div-le_of_le-mul w (mul-le-mul_right size (le_of_lt (mod-lt s h)))
+  abbrev r : ℤ
+  r = rem_z s w
 
--- ---- the move, as a sign and a size; a width below 0 passes only with the factor 0
-no_factor : (f : ℕ) → eqb f 0 || false ≡ true → f ≡ 0
-no_factor f e = eqb-true f 0 (sym (or_false (eqb f 0)) ∙ e)
+  abbrev y : ℤ
+  y = quot_z (r *ℤ o) w
 
-down_pos : (o f x : ℕ) → f ≡ 0 → pos o *ℤ neg_ℤ (pos f) +ℤ neg_ℤ (pos x) ≡ neg_ℤ (pos (o * f + x))
-down_pos o zero x e =
-    same (pos (o * 0) +ℤ neg_ℤ (pos x)) (neg_ℤ (pos (o * 0 + x)))
-    (omega (
-      arith,
-      mul-zero o,
-      add (pos (o * 0)) (neg_ℤ (pos x)),
-      neg_up (pos x),
-      neg_dn (pos x),
-      neg_up (pos (o * 0 + x)),
-      neg_dn (pos (o * 0 + x)),
-    ))
-down_pos o (suc f) x e = absurd (let w : ⊥ = omega arith in w)
+  rest_less : nat_abs r < nat_abs w
+  rest_less = rw (abs_rem s w) (mod-lt (nat_abs s) some)
 
-down_neg : (o f x : ℕ) → f ≡ 0 → negsuc o *ℤ neg_ℤ (pos f) +ℤ pos x ≡ pos (suc o * f + x)
-down_neg o zero x e =
-    same (neg_ℤ (pos (suc o * 0)) +ℤ pos x) (pos (suc o * 0 + x))
-    (omega (arith, mul-zero (suc o), add (neg_ℤ (pos (suc o * 0))) (pos x), neg_up (pos (suc o * 0)), neg_dn (pos (suc o * 0))))
-down_neg o (suc f) x e = absurd (let w : ⊥ = omega arith in w)
+  y_size : nat_abs y ≡ nat_abs r * nat_abs o / nat_abs w
+  y_size = abs_quot (r *ℤ o) w ∙ ap (λ (n : ℕ). n / nat_abs w) (unsigned_abs-mul r o)
 
-pub moved_is : (s : ℕ) (w o : ℤ) → 0 < nat_abs w → sizes_fit (lt_z w (pos 0)) (nat_abs o) (s / nat_abs w) (s % nat_abs w) ≡ true
-    → by_nanoseconds (pos s) w o ≡ with_sign (unlike (lt_z o (pos 0)) (lt_z w (pos 0))) (size_moved s (nat_abs w) (nat_abs o))
-moved_is s (pos w) (pos o) h e = rw (is_ge (pos w) (pos 0) (omega arith), is_ge (pos o) (pos 0) (omega arith))
-moved_is s (pos w) (negsuc o) h e =
-    rw (is_ge (pos w) (pos 0) (omega arith))
-    (ap (λ (z : ℤ). neg_ℤ (pos (suc o * (s / w))) +ℤ z) (quot_neg (s % w * suc o) w) ∙ sum_neg (suc o * (s / w))
-    (s % w * suc o / w))
-moved_is s (negsuc w) (pos o) h e =
-    rw (is_ge (pos o) (pos 0) (omega arith)) (down_pos o (s / suc w) (s % suc w * o / suc w) (no_factor (s / suc w) e))
-moved_is s (negsuc w) (negsuc o) h e =
-    ap (λ (z : ℤ). negsuc o *ℤ neg_ℤ (pos (s / suc w)) +ℤ z) (quot_both (s % suc w * suc o) w)
-    ∙ down_neg o (s / suc w) (s % suc w * suc o / suc w) (no_factor (s / suc w) e)
+  most : nat_abs o * nat_abs q + nat_abs y ≤ 9223372036854775807
+  most = rw y_size (sum_most (nat_abs o) q r (nat_abs w) small rest_less (passed o q r e))
 
--- ---- a signed number of days
-pub days_is : (n : ℤ) (k : ℕ) → with_sign (lt_z n (pos 0)) (nat_abs n * k) ≡ n *ℤ pos k
-days_is (pos n) k = rw (is_ge (pos n) (pos 0) (omega arith))
-days_is (negsuc n) k = refl
+  pub product_fits_law : SFits w64 (o *ℤ q)
+  product_fits_law = fits_signed_from_abs w64 (o *ℤ q) (omega (arith, unsigned_abs-mul o q, most))
+
+  pub rest_product_fits : SFits w64 (r *ℤ o)
+  rest_product_fits =
+      let m : nat_abs r * nat_abs o ≤ 65534 * 65534 =
+      mul-le-mul {n₁ = nat_abs r} {m₁ = nat_abs o} {n₂ = 65534} {m₂ = 65534} (omega (arith, rest_less, few)) small in
+      fits_signed_from_abs w64 (r *ℤ o) (omega (arith, unsigned_abs-mul r o, m))
+
+  pub quotient_fits : SFits w64 y
+  quotient_fits = fits_signed_from_abs w64 y (omega (arith, most))
+
+  pub sum_fits : SFits w64 (o *ℤ q +ℤ y)
+  sum_fits = fits_signed_from_abs w64 (o *ℤ q +ℤ y) (omega (arith, abs_sum (o *ℤ q) y, unsigned_abs-mul o q, most))
+
+-- a sum, as the code has it
+pub read_sum : (a x b : ℤ) → SFits w64 a → SFits w64 x → x ≡ b → SFits w64 (a +ℤ b) →
+    to_z w64 (of_z w64 (to_z w64 (of_z w64 a) +ℤ to_z w64 (of_z w64 x))) ≡ a +ℤ b
+read_sum a x b f g e h = rw (to_z-of_z f, to_z-of_z g, e) (to_z-of_z h)
+
+-- a number that is not below 0, divided
+from_0 : (z : ℤ) → neg_part z ≡ 0 → (quot_z z (pos 86400000000000) ≡ pos (pos_part z / 86400000000000))
+    × (rem_z z (pos 86400000000000) ≡ pos (pos_part z % 86400000000000))
+from_0 (pos n) e = (refl, refl)
+from_0 (negsuc n) e = absurd (let w : ⊥ = omega arith in w)
+
+-- ---- a number of nanoseconds in days and nanoseconds, rounded down
+record Euclid (n q r : ℤ) : Type 0 where
+  sum : pos_part q * 86400000000000 + pos_part r + neg_part n ≡ pos_part n + neg_part q * 86400000000000
+  rest_dn : neg_part r ≡ 0
+  rest_most : pos_part r < 86400000000000
+
+euclid : (n : ℤ) → Euclid n (int_div_euclid n (pos 86400000000000)) (int_rem_euclid n (pos 86400000000000))
+euclid (pos n) = record { sum = omega arith; rest_dn = refl; rest_most = omega arith }
+euclid (negsuc n) = record { sum = omega arith; rest_dn = refl; rest_most = omega arith }
+
+abbrev pub days : ℤ → ℤ
+days n = int_div_euclid n (pos 86400000000000)
+
+abbrev pub rest : ℤ → ℤ
+rest n = int_rem_euclid n (pos 86400000000000)
+
+module _ (v : Value) (n : ℤ) (t : a_date_time v ≡ true) (f : SFits w64 n) where
+  parts : DayValue v
+  parts = day_range v 86399999999999 (omega arith) t
+
+  few : (neg_part (days n) ≤ 106752) × (pos_part (days n) ≤ 106752)
+  few = let c = euclid n in
+      bounded (days n) 106752 106752 (omega (arith, c.sum, c.rest_most, dn_fits n f)) (omega (arith, c.sum, c.rest_most, up_fits n f))
+
+  pub day_fits : SFits w64 (v.head +ℤ days n)
+  day_fits = fits (v.head +ℤ days n) (pos_part v.head + pos_part (days n)) (neg_part (days n))
+      (omega (arith, add v.head (days n), parts.head_dn)) (omega (arith, few, parts.head_most)) (omega (arith, few))
+
+  nano_dn : neg_part (v.tail +ℤ rest n) ≡ 0
+  nano_dn = not_below (v.tail +ℤ rest n) (omega (arith, add v.tail (rest n), parts.tail_dn, (euclid n).rest_dn))
+
+  nano_up : pos_part (v.tail +ℤ rest n) ≡ pos_part v.tail + pos_part (rest n)
+  nano_up = omega (arith, add v.tail (rest n), parts.tail_dn, (euclid n).rest_dn, nano_dn)
+
+  pub nano_fits : SFits w64 (v.tail +ℤ rest n)
+  nano_fits = fits (v.tail +ℤ rest n) (pos_part v.tail + pos_part (rest n)) 0 (omega (arith, nano_up, nano_dn))
+      (omega (arith, parts.tail_most, (euclid n).rest_most)) (omega arith)
+
+  abbrev nano : ℤ
+  nano = v.tail +ℤ rest n
+
+  carry_is : quot_z nano (pos 86400000000000) ≡ pos (pos_part nano / 86400000000000)
+  carry_is = (from_0 nano nano_dn).0
+
+  left_is : rem_z nano (pos 86400000000000) ≡ pos (pos_part nano % 86400000000000)
+  left_is = (from_0 nano nano_dn).1
+
+  pub carry_fits : SFits w64 (quot_z nano (pos 86400000000000))
+  carry_fits = quot_fits nano (pos 86400000000000) nano_fits refl
+
+  pub left_fits : SFits w64 (rem_z nano (pos 86400000000000))
+  left_fits = rem_fits nano (pos 86400000000000) nano_fits
+
+  pub next_fits : SFits w64 (v.head +ℤ days n +ℤ quot_z nano (pos 86400000000000))
+  next_fits = let c = pos_part nano / 86400000000000 in
+      rw carry_is (fits (v.head +ℤ days n +ℤ pos c) (pos_part v.head + pos_part (days n) + c) (neg_part (days n))
+      (omega (arith, add (v.head +ℤ days n) (pos c), add v.head (days n), parts.head_dn))
+      (omega (arith, few, parts.head_most, nano_up, parts.tail_most, (euclid n).rest_most)) (omega (arith, few)))
+
+  pub in_day : within (pos 0) (rem_z nano (pos 86400000000000)) (pos 86399999999999) ≡ true
+  in_day = let r = pos_part nano % 86400000000000 in
+      rw (left_is, is_le (pos 0) (pos r) (omega arith), is_le (pos r) (pos 86399999999999) (omega arith))
+
+  pub moved : (v.head +ℤ days n +ℤ quot_z nano (pos 86400000000000)) *ℤ pos 86400000000000 +ℤ rem_z nano (pos 86400000000000)
+      ≡ since_zero v +ℤ n
+  moved = let c = pos_part nano / 86400000000000 in
+      let r = pos_part nano % 86400000000000 in
+      rw (carry_is, left_is) (same _ (since_zero v +ℤ n) (omega (
+        arith,
+        joint (v.head +ℤ days n +ℤ pos c) (pos r) 86400000000000,
+        add (v.head +ℤ days n) (pos c),
+        add v.head (days n),
+        nano_up,
+        add (since_zero v) n,
+        joint v.head v.tail 86400000000000,
+        (euclid n).sum,
+        (euclid n).rest_dn,
+        parts.tail_dn,
+      )))
+
+-- ---- a number of days: a sum that does not fit is no day
+abbrev pub at : ℤ → ℤ → ℤ
+at nano d = d *ℤ pos 86400000000000 +ℤ nano
+
+module _ (nano : ℤ) (t : within (pos 0) nano (pos 86399999999999) ≡ true) where
+  both_out : (d e : ℤ) → is_day d ≡ false → is_day e ≡ false → date_time_answer (at nano d) ≡ date_time_answer (at nano e)
+  both_out d e p q = sym (answer_none d nano t p) ∙ answer_none e nano t q
+
+  pub saturated : (d : ℤ) → date_time_answer (at nano (saturate_signed w64 d)) ≡ date_time_answer (at nano d)
+  saturated (negsuc k) = both_out (saturate_signed w64 (negsuc k)) (negsuc k) refl refl
+  saturated (pos k) = go (leb k 9223372036854775807) refl
+    where
+      go : (b : Bool) → leb k 9223372036854775807 ≡ b → date_time_answer (at nano (saturate_signed w64 (pos k)))
+          ≡ date_time_answer (at nano (pos k))
+      go true e = let s : min k 9223372036854775807 ≡ k = omega (arith, leb-true k 9223372036854775807 e) in
+          ap (λ (m : ℕ). date_time_answer (at nano (pos m))) s
+      go false e = let h = leb-false k 9223372036854775807 e in
+          both_out (pos (min k 9223372036854775807)) (pos k) (day_beyond (min k 9223372036854775807) (omega arith))
+          (day_beyond k (omega arith))
+
+pub days_sum : (v : Value) (n : ℤ) → at v.tail (v.head +ℤ n) ≡ since_zero v +ℤ n *ℤ pos 86400000000000
+days_sum v n = same _ (since_zero v +ℤ n *ℤ pos 86400000000000) (omega (
+  arith,
+  joint (v.head +ℤ n) v.tail 86400000000000,
+  add v.head n,
+  add (since_zero v) (n *ℤ pos 86400000000000),
+  joint v.head v.tail 86400000000000,
+  mul_up n 86400000000000,
+  mul_dn n 86400000000000,
+))
+
+-- ---- a start that is no duration is a date-time
+pub start_value : (k : ℤ) (v : Value) → is_value k v ≡ true → is_duration k ≡ false → a_date_time v ≡ true
+start_value k v e d = let x = day_value k v e d in
+    rw (
+      is_le (pos 1) v.head (omega (arith, x.head_least, x.head_dn)),
+      is_le v.head (pos 3652059) (omega (arith, x.head_most)),
+      is_le (pos 0) v.tail (omega (arith, x.tail_dn)),
+      is_le v.tail (pos 86399999999999) (omega (arith, x.tail_most)),
+    )
+
+-- from midnight of the day 0, by its kind
+pub start_is : (k : ℤ) (v : Value) → is_duration k ≡ false → since_zero v ≡ nanoseconds k v
+unfolding nanoseconds
+start_is k v e = rw e
 
 -- ---- the branches of unmapping
-pub moved_long : (d w o : ℤ) → fits_i64 d ≡ false → by_days (whole_days d) w o *ℤ pos 86400000000000 ≡ moved_by d w o
-unfolding moved_by
-moved_long d w o e = sym (ap (λ (b : Bool). cond (b && product_fits o (quot_z d w) (rem_z d w)) (by_nanoseconds d w o)
-    (by_days (whole_days d) w o *ℤ pos 86400000000000)) e)
-
-module _ (s : ℕ) (w o : ℤ) (h : s ≤ 9223372036854775807) (l : 0 < nat_abs w) where
-  tested : fits_i64 (pos s) && product_fits o (quot_z (pos s) w) (rem_z (pos s) w) ≡ sizes_fit (lt_z w (pos 0)) (nat_abs o)
-      (s / nat_abs w) (s % nat_abs w)
-  tested = ap (λ (b : Bool). b && product_fits o (quot_z (pos s) w) (rem_z (pos s) w)) (fits_yes (pos s) h (omega arith))
-      ∙ product_fits_law s w o h l
-
-  pub branch : (b : Bool) → sizes_fit (lt_z w (pos 0)) (nat_abs o) (s / nat_abs w) (s % nat_abs w) ≡ b
-      → moved_by (pos s) w o ≡ cond b (by_nanoseconds (pos s) w o) (by_days (whole_days (pos s)) w o *ℤ pos 86400000000000)
+module _ (d w o : ℤ) where
+  pub moved_long : fits_i64 d ≡ false → by_days (whole_days d) w o *ℤ pos 86400000000000 ≡ moved_by d w o
   unfolding moved_by
-  branch b e = ap (λ (t : Bool). cond t (by_nanoseconds (pos s) w o) (by_days (whole_days (pos s)) w o *ℤ pos 86400000000000))
-      (tested ∙ e)
+  moved_long e = rw e
 
--- ---- the start of an axis, as parts
-pub size_up : (z : ℤ) → neg_part z ≡ 0 → nat_abs z ≡ pos_part z
-size_up (pos n) e = refl
-size_up (negsuc n) e = absurd (let w : ⊥ = omega arith in w)
+  pub branch : (b : Bool) → fits_i64 d ≡ true → product_fits o (quot_z d w) (rem_z d w) ≡ b →
+      cond b (by_nanoseconds d w o) (by_days (whole_days d) w o *ℤ pos 86400000000000) ≡ moved_by d w o
+  unfolding moved_by
+  branch b f e = rw (f, e)
 
-pub whole : (z : ℤ) → neg_part z ≡ 0 → pos (nat_abs z) ≡ z
-whole (pos n) e = refl
-whole (negsuc n) e = absurd (let w : ⊥ = omega arith in w)
+-- ---- a quotient of a number that is not below 0 is no further from it
+pub quot_abs_fits : (s w : ℤ) → SFits w64 s → neg_part s ≡ 0 → SFits w64 (quot_z s w)
+quot_abs_fits s w f e = fits_signed_from_abs w64 (quot_z s w)
+    (omega (arith, abs_quot s w, div-le_self (nat_abs s) (nat_abs w), abs s, up_fits s f))
 
-pub start_is : (k : ℤ) (v : Value) → is_duration k ≡ false → DayValue v → pos (instant (nat_abs v.head) (nat_abs v.tail))
-    ≡ nanoseconds k v
-unfolding nanoseconds
-start_is k v e d =
-    rw e (same (pos (instant (nat_abs v.head) (nat_abs v.tail))) (v.head *ℤ pos 86400000000000 +ℤ v.tail)
-    (omega (
-      arith,
-      add (v.head *ℤ pos 86400000000000) v.tail,
-      mul_up v.head 86400000000000,
-      mul_dn v.head 86400000000000,
-      size_up v.head d.head_dn,
-      size_up v.tail d.tail_dn,
-      d.head_dn,
-      d.tail_dn,
-    )))
+-- a width that is not 0 is a divisor
+pub divisor : (w : ℤ) → SFits w64 w → 0 < nat_abs w → 0 < of_z w64 w
+divisor (pos n) f h = h
+divisor (negsuc n) f h = omega (arith, dn_fits (negsuc n) f)

@@ -1,3 +1,3 @@
 -- What the crate's contracts cite.
 pub mod Unmapping
-pub mod Sizes
+pub mod Moves

@@ -138,7 +138,7 @@ pub record DurationValue (v : Value) : Type 0 where
   pub tail_dn : neg_part v.tail ≡ 0
   pub tail_most : pos_part v.tail ≤ 999999999
 
-day_range : (v : Value) (m : ℕ) → m ≤ 86399999999999 → is_day v.head && within (pos 0) v.tail (pos m) ≡ true → DayValue v
+pub day_range : (v : Value) (m : ℕ) → m ≤ 86399999999999 → is_day v.head && within (pos 0) v.tail (pos m) ≡ true → DayValue v
 day_range v m l e =
     let (x, y) = both_true (is_day v.head) (within (pos 0) v.tail (pos m)) e in
     let h = within_true (pos 1) v.head (pos 3652059) x in

@@ -1,60 +1,90 @@
--- `unmapping::by_nanoseconds` meets its contract: the move is a sign and a size. Assumes nothing.
-use mathlib.Core.Path.{◌≡◌, sym, ◌∙◌, ap, subst}
-use Prim.Native.Nat.{ℕ, ◌/◌, ◌%◌}
-use lib.IntN.{ℤ, pos, nat_abs, ◌+ℤ◌}
-use lib.Signed.{lt_z}
-use lib.Ieee.{unlike}
+-- `unmapping::by_nanoseconds` meets its contract. Assumes nothing.
+use borrow.Author.Rules.{rules}
+use mathlib.Core.Path.{◌≡◌}
+use lib.IntN.{ℤ, ◌+ℤ◌, ◌*ℤ◌}
+use lib.Signed.{quot_z, rem_z}
 use mir.Syntax.{w64}
 use mir.Val.{SFits, to_z, of_z}
 use mir.Facts.{to_z-of_z}
-use Rattle.floats.specs.Rounding.{with_sign}
-use Rattle.unmapping.specs.Sizes.{size_moved, Moves, date_time_answer}
-use Rattle.unmapping.proofs.DateTimes.{instant}
-use Rattle.unmapping.proofs.Moves.{product_most, moved_is}
-use borrow.Author.Rules.{rules}
+use Rattle.laws.proofs.Signed.{rem_fits}
+use Rattle.unmapping.proofs.Moves.{quot_abs_fits, product_fits_law, rest_product_fits, quotient_fits, sum_fits, divisor}
 use Rattle.unmapping.proofs.by_nanoseconds.Goals as goal
-use Rattle.unmapping.proofs.by_nanoseconds.Goals.{After-unsigned_abs-2, Start}
+use Rattle.unmapping.proofs.by_nanoseconds.Goals.{Start}
 
-pixels_fit : (c : Start) → SFits w64 c.args.o.pixels
-pixels_fit c = search rules
+module _ (c : Start) where
+  abbrev s : ℤ
+  s = c.args.s
 
-width_fits : (c : Start) → SFits w64 c.args.o.width
-width_fits c = search rules
+  abbrev w : ℤ
+  w = c.args.o.width
 
--- the sizes, as the code has them
-wide : (c : After-unsigned_abs-2) → c.unsigned_abs.result
-    ≡ nat_abs c.args.o.width
-wide c = c.unsigned_abs.ensures ∙ ap nat_abs (to_z-of_z (width_fits (goal.at.After-unsigned_abs-2 c).Start))
+  abbrev o : ℤ
+  o = c.args.o.pixels
 
-far : (c : After-unsigned_abs-2) → c.unsigned_abs-2.result ≡ nat_abs c.args.o.pixels
-far c = c.unsigned_abs-2.ensures ∙ ap nat_abs (to_z-of_z (pixels_fit (goal.at.After-unsigned_abs-2 c).Start))
+  -- what the code has read
+  pixels_is : to_z w64 (of_z w64 o) ≡ o
+  pixels_is = to_z-of_z {w = w64} {z = o} (search rules)
 
-pub size_moved-n-requires : goal.size_moved-n-requires
-size_moved-n-requires c = let x = c.args in
-    let o = c.requires.1 in
-    let m : Moves x.s (nat_abs x.o.width) (nat_abs x.o.pixels) = record {
-      width_some = o.width_some;
-      width_most = o.width_most;
-      size_most = o.pixels_most;
-      product_fits_law = product_most (lt_z x.o.width (pos 0)) (nat_abs x.o.pixels) (x.s / nat_abs x.o.width)
-          (x.s % nat_abs x.o.width) c.requires.3;
-    } in
-    subst (λ (w : ℕ). Moves x.s w c.unsigned_abs-2.result) (sym (wide (goal.at.size_moved-n-requires c).After-unsigned_abs-2))
-    (subst (λ (n : ℕ). Moves x.s (nat_abs x.o.width) n) (sym (far (goal.at.size_moved-n-requires c).After-unsigned_abs-2)) m)
+  width_fits : SFits w64 w
+  width_fits = search rules
+
+  width_is : to_z w64 (of_z w64 w) ≡ w
+  width_is = to_z-of_z width_fits
+
+  span_is : to_z w64 (of_z w64 s) ≡ s
+  span_is = to_z-of_z c.ranges.s
+
+  factor_is : to_z w64 (of_z w64 (quot_z s w)) ≡ quot_z s w
+  factor_is = to_z-of_z (quot_abs_fits s w c.ranges.s c.requires.2)
+
+  rest_is : to_z w64 (of_z w64 (rem_z s w)) ≡ rem_z s w
+  rest_is = to_z-of_z (rem_fits s w c.ranges.s)
+
+  product_fits : SFits w64 (o *ℤ quot_z s w)
+  product_fits = product_fits_law s w o c.requires.1.pixels_most c.requires.1.width_most c.requires.1.width_some c.requires.3
+
+  rest_fits : SFits w64 (rem_z s w *ℤ o)
+  rest_fits = rest_product_fits s w o c.requires.1.pixels_most c.requires.1.width_most c.requires.1.width_some c.requires.3
+
+  more_fits : SFits w64 (quot_z (rem_z s w *ℤ o) w)
+  more_fits = quotient_fits s w o c.requires.1.pixels_most c.requires.1.width_most c.requires.1.width_some c.requires.3
+
+  all_fits : SFits w64 (o *ℤ quot_z s w +ℤ quot_z (rem_z s w *ℤ o) w)
+  all_fits = sum_fits s w o c.requires.1.pixels_most c.requires.1.width_most c.requires.1.width_some c.requires.3
+
+pub overflow_mul-o : goal.overflow_mul-o
+overflow_mul-o c = let p = (goal.at.overflow_mul-o c).Start in
+    rw (pixels_is p, span_is p, width_is p, factor_is p) (product_fits p)
+
+pub nonzero_div-s-2 : goal.nonzero_div-s-2
+nonzero_div-s-2 c = let p = (goal.at.nonzero_div-s-2 c).Start in (
+  divisor (w p) (width_fits p) c.requires.1.width_some,
+  rw (pixels_is p, span_is p, width_is p, rest_is p, to_z-of_z (rest_fits p)) (more_fits p),
+)
+
+pub overflow_add-o : goal.overflow_add-o
+overflow_add-o c = let p = (goal.at.overflow_add-o c).Start in
+    rw (
+      pixels_is p,
+      span_is p,
+      width_is p,
+      factor_is p,
+      rest_is p,
+      to_z-of_z (rest_fits p),
+      to_z-of_z (product_fits p),
+      to_z-of_z (more_fits p),
+    ) (all_fits p)
 
 pub returns : goal.returns
-returns c = let x = c.args in
-    let at = instant x.day x.nano in
-    let back : unlike (lt_z (to_z w64 (of_z w64 x.o.pixels)) (pos 0)) (lt_z (to_z w64 (of_z w64 x.o.width)) (pos 0))
-    ≡ unlike (lt_z x.o.pixels (pos 0)) (lt_z x.o.width (pos 0)) =
-    (λ i. unlike (lt_z (to_z-of_z (pixels_fit (goal.at.returns c).Start) i) (pos 0))
-    (lt_z (to_z-of_z (width_fits (goal.at.returns c).Start) i) (pos 0))) in
-    let sizes : size_moved x.s c.unsigned_abs.result c.unsigned_abs-2.result ≡ size_moved x.s
-    (nat_abs x.o.width) (nat_abs x.o.pixels) =
-    (λ i. size_moved x.s (wide (goal.at.returns c).After-unsigned_abs-2 i) (far (goal.at.returns c).After-unsigned_abs-2 i))
-    in
-    let size = c.size_moved-n.ensures ∙ sizes in
-    c.nanoseconds_away.ensures
-    ∙ ((λ i. date_time_answer (pos at +ℤ with_sign (back i) (size i)))
-    ∙ ap (λ (y : ℤ). date_time_answer (pos at +ℤ y))
-    (sym (moved_is x.s x.o.width x.o.pixels c.requires.1.width_some c.requires.3)))
+returns c = let p = (goal.at.returns c).Start in
+    rw (
+      pixels_is p,
+      span_is p,
+      width_is p,
+      factor_is p,
+      rest_is p,
+      to_z-of_z (rest_fits p),
+      to_z-of_z (product_fits p),
+      to_z-of_z (more_fits p),
+      to_z-of_z (all_fits p),
+    ) at c.nanoseconds_away.ensures

@@ -1,153 +1,107 @@
 -- `unmapping::date_time_at` meets its contract: each branch is one of the definition's. Assumes nothing.
+use borrow.Author.Rules.{rules}
 use mathlib.Core.Path.{◌≡◌, sym, ◌∙◌, ap}
-use mathlib.Core.Bool.{true, false}
-use Prim.Native.Nat.{◌≤◌}
-use native.Mathlib.Omega.{arith}
-use lib.IntN.{ℤ, pos, nat_abs, ◌+ℤ◌, ◌*ℤ◌}
+use mathlib.Core.Bool.{Bool, true, false}
+use lib.IntN.{ℤ, pos, ◌+ℤ◌, ◌*ℤ◌}
+use lib.Signed.{quot_z, rem_z}
 use mir.Syntax.{w64}
-use mir.Val.{SFits}
+use mir.Val.{to_z, of_z}
 use mir.Facts.{to_z-of_z}
-use Rattle.laws.specs.Numbers.{pos_part, neg_part}
-use Rattle.laws.proofs.Signed.{up_fits}
-use Rattle.values.specs.Differences.{nanoseconds, fits_i64, whole_days}
-use Rattle.values.proofs.Values.{DayValue, day_value}
+use Rattle.laws.specs.Numbers.{neg_part}
+use Rattle.values.specs.Values.{a_date_time}
+use Rattle.values.specs.Differences.{nanoseconds, fits_i64}
+use Rattle.values.proofs.Fits.{answer_none, answer_some}
 use Rattle.axis.specs.declared.Axis.{Axis}
 use Rattle.axis.specs.Axes.{start, span_of}
 use Rattle.axis.proofs.Axes.{both_ends, span_from_0}
-use Rattle.unmapping.specs.Unmapping.{by_days, moved_by}
-use Rattle.unmapping.specs.Sizes.{InDay, date_time_answer}
-use Rattle.values.proofs.Fits.{answer_none, answer_some}
-use Rattle.unmapping.proofs.DateTimes.{instant}
-use Rattle.unmapping.proofs.Moves.{moved_long, branch, size_up, whole, start_is}
-use borrow.Author.Rules.{rules}
+use Rattle.unmapping.specs.declared.Offset.{Offset}
+use Rattle.unmapping.specs.Unmapping.{product_fits, by_nanoseconds, by_days}
+use Rattle.unmapping.specs.Moves.{since_zero, date_time_answer}
+use Rattle.unmapping.proofs.Moves.{start_value, start_is, moved_long, branch}
 use Rattle.unmapping.proofs.date_time_at.Goals as goal
-use Rattle.unmapping.proofs.date_time_at.Goals.{In-Some, After-unsigned_abs-day, After-unsigned_abs-nano}
-use Rattle.unmapping.proofs.date_time_at.Goals.{After-unsigned_abs-s, Start}
+use Rattle.unmapping.proofs.date_time_at.Goals.{After-start-v, In-Some}
 
-head_fits : (c : Start) → SFits w64 c.args.a.start_head
-head_fits c = search rules
+module _ (c : After-start-v) where
+  abbrev a : Axis
+  a = c.args.a
 
-tail_fits : (c : Start) → SFits w64 c.args.a.start_tail
-tail_fits c = search rules
+  -- the start's nanoseconds, as the code has them
+  at : since_zero c.start-v.result ≡ nanoseconds a.kind (start a)
+  at = ap since_zero c.start-v.ensures ∙ start_is a.kind (start a) c.requires.0
 
--- the start's parts, as the code has them
-first : (c : Start) → DayValue (start c.args.a)
-first c = day_value c.args.a.kind (start c.args.a) (both_ends c.args.a c.requires.1).first c.requires.0
+  start_at : a_date_time c.start-v.result ≡ true
+  start_at = rw c.start-v.ensures (start_value a.kind (start a) (both_ends a c.requires.1).first c.requires.0)
 
-day_is : (c : After-unsigned_abs-day) → c.unsigned_abs-day.result ≡ nat_abs c.args.a.start_head
-day_is c = c.unsigned_abs-day.ensures ∙ ap nat_abs (to_z-of_z (head_fits (goal.at.After-unsigned_abs-day c).Start))
+-- a span that fits
+module _ (c : In-Some) where
+  abbrev span : ℤ
+  span = span_of c.args.a
 
-nano_is : (c : After-unsigned_abs-nano) → c.unsigned_abs-nano.result
-    ≡ nat_abs c.args.a.start_tail
-nano_is c = c.unsigned_abs-nano.ensures ∙ ap nat_abs (to_z-of_z (tail_fits (goal.at.After-unsigned_abs-nano c).Start))
+  abbrev o : Offset
+  o = c.args.o
 
-in_day : (c : After-unsigned_abs-nano) → InDay c.unsigned_abs-day.result c.unsigned_abs-nano.result
-in_day c = let v = first (goal.at.After-unsigned_abs-nano c).Start in
-    record {
-      day_most =
-          omega (
-            arith,
-            day_is (goal.at.After-unsigned_abs-nano c).After-unsigned_abs-day,
-            size_up c.args.a.start_head v.head_dn,
-            v.head_most,
-          );
-      nano_most = omega (arith, nano_is c, size_up c.args.a.start_tail v.tail_dn, v.tail_most);
-    }
+  fits : fits_i64 span ≡ true
+  fits = (answer_some span c.span.result c.span.ensures c.in-Some.s c.in-Some.is).0
 
-at : (c : After-unsigned_abs-nano) → let a = c.args.a in
-    pos (instant c.unsigned_abs-day.result c.unsigned_abs-nano.result) ≡ nanoseconds a.kind (start a)
-at c =
-    (λ i. pos (instant (day_is (goal.at.After-unsigned_abs-nano c).After-unsigned_abs-day i) (nano_is c i))) ∙ start_is
-    c.args.a.kind (start c.args.a)
-    c.requires.0 (first (goal.at.After-unsigned_abs-nano c).Start)
+  -- as the code has it
+  abbrev read : ℤ
+  read = to_z w64 (of_z w64 c.in-Some.s)
+
+  span_is : read ≡ span
+  span_is = to_z-of_z {w = w64} {z = c.in-Some.s} (search rules)
+      ∙ (answer_some span c.span.result c.span.ensures c.in-Some.s c.in-Some.is).1
+
+  none_below : neg_part read ≡ 0
+  none_below = ap neg_part span_is ∙ span_from_0 c.args.a c.requires.1 c.requires.2
+
+  tested : (b : Bool) → b ≡ product_fits o.pixels (quot_z read o.width) (rem_z read o.width) →
+      product_fits o.pixels (quot_z span o.width) (rem_z span o.width) ≡ b
+  tested b e = sym (e ∙ ap (λ (z : ℤ). product_fits o.pixels (quot_z z o.width) (rem_z z o.width)) span_is)
 
 pub by_days-requires : goal.by_days-requires
-by_days-requires c = in_day (goal.at.by_days-requires c).After-unsigned_abs-nano
+by_days-requires c = start_at (goal.at.by_days-requires c).After-start-v
 
 pub returns-in_default : goal.returns-in_default
 returns-in_default c = let x = c.args in
+    let s = span_of x.a in
     let days = to_z-of_z {w = w64} {z = c.span_days.result} (search rules) ∙ c.span_days.ensures in
-    let long : fits_i64 (span_of x.a) ≡ false = answer_none (span_of x.a) c.span.result c.span.ensures c.in_default.is in
+    let long : fits_i64 s ≡ false = answer_none s c.span.result c.span.ensures c.in_default.is in
     c.by_days.ensures
-    ∙ ((λ i. date_time_answer (at (goal.at.returns-in_default c).After-unsigned_abs-nano i +ℤ by_days (days i) x.o.width
-    x.o.pixels *ℤ pos 86400000000000))
-    ∙ ap (λ (y : ℤ). date_time_answer (nanoseconds x.a.kind (start x.a) +ℤ y)) (moved_long (span_of x.a) x.o.width
-    x.o.pixels long))
+    ∙ ((λ i. date_time_answer (at (goal.at.returns-in_default c).After-start-v i
+    +ℤ by_days (days i) x.o.width x.o.pixels *ℤ pos 86400000000000))
+    ∙ ap (λ (y : ℤ). date_time_answer (nanoseconds x.a.kind (start x.a) +ℤ y)) (moved_long s x.o.width x.o.pixels long))
 
--- a span that fits is its size
-module _ (c : After-unsigned_abs-s) where
-  abbrev before_span : After-unsigned_abs-nano
-  before_span = (goal.at.After-unsigned_abs-s c).After-unsigned_abs-nano
-
-  abbrev a : Axis
-  a = before_span.args.a
-
-  abbrev span_at : In-Some
-  span_at = (goal.at.After-unsigned_abs-s c).In-Some
-
-  value_fits : SFits w64 span_at.in-Some.span
-  value_fits = search rules
-
-  span_value : span_at.in-Some.span ≡ span_of a
-  span_value = (answer_some (span_of a) span_at.span.result span_at.span.ensures span_at.in-Some.span span_at.in-Some.is).1
-
-  none_below : neg_part (span_of a) ≡ 0
-  none_below = span_from_0 a before_span.requires.1 before_span.requires.2
-
-  size_is : c.unsigned_abs-s.result ≡ nat_abs (span_of a)
-  size_is = c.unsigned_abs-s.ensures ∙ ap nat_abs (to_z-of_z value_fits ∙ span_value)
-
-  span_is : pos c.unsigned_abs-s.result ≡ span_of a
-  span_is = ap pos size_is ∙ whole (span_of a) none_below
-
-  span_most : c.unsigned_abs-s.result ≤ 9223372036854775807
-  span_most = omega (
-    arith,
-    up_fits span_at.in-Some.span value_fits,
-    ap pos_part span_value,
-    size_is,
-    size_up (span_of a)
-        none_below,
-  )
+pub product_fits-requires : goal.product_fits-requires
+product_fits-requires c = (c.requires.3, none_below (goal.at.product_fits-requires c).In-Some)
 
 pub by_nanoseconds-requires : goal.by_nanoseconds-requires
 by_nanoseconds-requires c = (
-  in_day (before_span (goal.at.by_nanoseconds-requires c).After-unsigned_abs-s),
-  (before_span (goal.at.by_nanoseconds-requires c).After-unsigned_abs-s).before.before.before.before.requires.3,
-  omega (arith, span_most (goal.at.by_nanoseconds-requires c).After-unsigned_abs-s),
+  start_at (goal.at.by_nanoseconds-requires c).After-start-v,
+  c.requires.3,
+  none_below (goal.at.by_nanoseconds-requires c).In-Some,
   sym c.product_fits.ensures ∙ c.if-product_fits.true,
 )
 
 pub returns-then-product_fits : goal.returns-then-product_fits
-returns-then-product_fits c = let s =
-    (before_span (goal.at.returns-then-product_fits c).After-unsigned_abs-s).before.before.before.before in
-    let x = s.args in
-    let n = c.unsigned_abs-s.result in
-    let yes =
-    branch n x.o.width x.o.pixels (span_most (goal.at.returns-then-product_fits c).After-unsigned_abs-s)
-    s.requires.3.width_some true (sym c.product_fits.ensures
-    ∙ c.if-product_fits.true) in
+returns-then-product_fits c = let x = c.args in
+    let p = (goal.at.returns-then-product_fits c).In-Some in
+    let e = tested p true (sym c.if-product_fits.true ∙ c.product_fits.ensures) in
     c.by_nanoseconds.ensures
-    ∙ ((λ i. date_time_answer (at (before_span (goal.at.returns-then-product_fits c).After-unsigned_abs-s) i +ℤ sym yes i))
-    ∙ ap (λ (y : ℤ). date_time_answer (nanoseconds x.a.kind (start x.a) +ℤ moved_by y x.o.width x.o.pixels))
-    (span_is (goal.at.returns-then-product_fits c).After-unsigned_abs-s))
+    ∙ ((λ i. date_time_answer (at (goal.at.returns-then-product_fits c).After-start-v i
+    +ℤ by_nanoseconds (span_is p i) x.o.width x.o.pixels))
+    ∙ ap (λ (y : ℤ). date_time_answer (nanoseconds x.a.kind (start x.a) +ℤ y))
+    (branch (span_of x.a) x.o.width x.o.pixels true (fits p) e))
 
 pub by_days-requires-2 : goal.by_days-requires-2
-by_days-requires-2 c = in_day (before_span (goal.at.by_days-requires-2 c).After-unsigned_abs-s)
+by_days-requires-2 c = start_at (goal.at.by_days-requires-2 c).After-start-v
 
 pub returns : goal.returns
-returns c = let s = (before_span (goal.at.returns c).After-unsigned_abs-s).before.before.before.before in
-    let x = s.args in
-    let n = c.unsigned_abs-s.result in
-    let no =
-    branch n x.o.width x.o.pixels (span_most (goal.at.returns c).After-unsigned_abs-s) s.requires.3.width_some false
-    (sym c.product_fits.ensures
-    ∙ c.if-product_fits.false) in
-    let days = (to_z-of_z {w = w64} {z = c.span_days-2.result} (search rules) ∙ c.span_days-2.ensures)
-    ∙ ap whole_days (sym (span_is (goal.at.returns c).After-unsigned_abs-s)) in
+returns c = let x = c.args in
+    let p = (goal.at.returns c).In-Some in
+    let e = tested p false (sym c.if-product_fits.false ∙ c.product_fits.ensures) in
+    let days = to_z-of_z {w = w64} {z = c.span_days-2.result} (search rules) ∙ c.span_days-2.ensures in
     c.by_days-2.ensures
-    ∙ ((λ i. date_time_answer (at (before_span (goal.at.returns c).After-unsigned_abs-s) i +ℤ by_days (days i) x.o.width
-    x.o.pixels *ℤ pos 86400000000000))
-    ∙ ((λ i. date_time_answer (nanoseconds x.a.kind (start x.a) +ℤ sym no i))
-    ∙ ap (λ (y : ℤ). date_time_answer (nanoseconds x.a.kind (start x.a) +ℤ moved_by y x.o.width x.o.pixels))
-    (span_is (goal.at.returns c).After-unsigned_abs-s)))
+    ∙ ((λ i. date_time_answer (at (goal.at.returns c).After-start-v i
+    +ℤ by_days (days i) x.o.width x.o.pixels *ℤ pos 86400000000000))
+    ∙ ap (λ (y : ℤ). date_time_answer (nanoseconds x.a.kind (start x.a) +ℤ y))
+    (branch (span_of x.a) x.o.width x.o.pixels false (fits p) e))

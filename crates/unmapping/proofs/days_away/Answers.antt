@@ -1,23 +1,32 @@
 -- `unmapping::days_away` meets its contract. Assumes nothing.
-use mathlib.Core.Path.{◌≡◌}
-use mathlib.Core.Bool.{Bool, true, false}
-use Prim.Native.Nat.{ℕ, ◌+◌, ◌*◌, ◌<◌}
-use native.Mathlib.Omega.{arith}
-use lib.IntN.{pos, ◌+ℤ◌, ◌-ℤ◌}
-use Rattle.floats.specs.Rounding.{with_sign}
-use Rattle.asking.specs.declared.Refusal.TheVariants as refusal
-use Rattle.std.specs.Prelude.{Err}
-use Rattle.unmapping.specs.Sizes.{date_time_answer}
-use Rattle.unmapping.proofs.DateTimes.{instant, answer_low, answer_high, less_up}
+use borrow.Author.Rules.{rules}
+use mathlib.Core.Path.{◌≡◌, ◌∙◌, ap}
+use mathlib.Core.Bool.{true}
+use lib.IntN.{ℤ, pos, ◌+ℤ◌}
+use mir.Syntax.{w64}
+use mir.Facts.{to_z-of_z}
+use Rattle.std.specs.Int.{saturate_signed}
+use Rattle.laws.specs.Numbers.{within}
+use Rattle.laws.proofs.Tests.{both_true}
+use Rattle.calendar.specs.Questions.{is_day}
+use Rattle.values.proofs.Values.{InRange}
+use Rattle.unmapping.specs.Moves.{date_time_answer}
+use Rattle.unmapping.proofs.Moves.{at, saturated, days_sum}
 use Rattle.unmapping.proofs.days_away.Goals as goal
+use Rattle.unmapping.proofs.days_away.Goals.{Start}
 
--- so many days lead out of the calendar
-far : (b : Bool) (day nano n : ℕ) → 3652059 < n → instant day nano < 315537984000000000000 →
-    Err refusal.Range ≡ date_time_answer (pos (instant day nano) +ℤ with_sign b (n * 86400000000000))
-far true day nano n h l =
-    let u = less_up (instant day nano) (n * 86400000000000) in
-    answer_low (pos (instant day nano) -ℤ pos (n * 86400000000000)) (omega arith)
-far false day nano n h l = answer_high (pos (instant day nano + n * 86400000000000)) (omega arith)
+in_range_law : (c : Start) → InRange c.args.v
+in_range_law c = search rules
 
-pub returns-then-n : goal.returns-then-n
-returns-then-n c = let x = c.args in far x.back x.day x.nano x.n c.if-n.true (omega arith)
+pub returns : goal.returns
+returns c = let v = c.args.v in
+    let r = in_range_law (goal.at.returns c).Start in
+    let t : within (pos 0) v.tail (pos 86399999999999) ≡ true = (both_true (is_day v.head) (within (pos 0) v.tail (pos 86399999999999)) c.requires).1 in
+    let s : c.saturating_add.result ≡ saturate_signed w64 (v.head +ℤ c.args.n) =
+    rw (to_z-of_z r.head, to_z-of_z c.ranges.n) at c.saturating_add.ensures in
+    let e : c.on_calendar.result ≡ date_time_answer (at v.tail c.saturating_add.result) =
+    rw (to_z-of_z r.tail, to_z-of_z {w = w64} {z = c.saturating_add.result} (search rules)) at c.on_calendar.ensures in
+    e
+    ∙ (ap (λ (d : ℤ). date_time_answer (at v.tail d)) s
+    ∙ (saturated v.tail t (v.head +ℤ c.args.n)
+    ∙ ap date_time_answer (days_sum v c.args.n)))

@@ -13,7 +13,7 @@ use Rattle.axis.specs.Questions.{is_pixel, differ}
 use Rattle.axis.proofs.Questions.{unmap_parts}
 use Rattle.unmapping.specs.declared.Offset.{Offset}
 use Rattle.unmapping.specs.Unmapping.{moved_by, unmap_coord}
-use Rattle.unmapping.specs.Sizes.{OnWidth, date_time_answer}
+use Rattle.unmapping.specs.Moves.{OnWidth, date_time_answer}
 use Rattle.axis.proofs.PixelRanges.{limits_are, between_fits, between_few, width_some}
 use Rattle.unmapping.proofs.unmap_coord.Goals as goal
 use Rattle.unmapping.proofs.unmap_coord.Goals.{Start}
