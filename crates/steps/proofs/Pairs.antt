@@ -1,6 +1,6 @@
 -- The numbers of a list of ticks: their length, the tick that is read at each place, and how a lent slice comes to hold
 -- them, two stores for each tick. Assumes nothing.
-use mathlib.Core.Path.{◌≡◌, refl, sym, ap, ◌∙◌}
+use mathlib.Core.Path.{◌≡◌, refl, ap, ◌∙◌}
 use mathlib.Core.Logic.{inl, inr}
 use mathlib.Core.List.{List, [], ◌∷◌, ◌++◌}
 use Prim.Native.Nat.{ℕ, zero, suc, ◌+◌, ◌*◌, ◌≤◌, ◌<◌}
@@ -88,31 +88,29 @@ length_numbers [] = refl
 length_numbers (t ∷ l) = omega (arith, length_numbers l)
 
 -- ---- d with the ticks before place i written at its front
-pub record Written (s : Steps) (d l : List ℤ) (i at : ℕ) : Type 0 where
+pub record Written (s : Steps) (d l : List ℤ) (i : ℕ) : Type 0 where
   pub turns : i ≤ s.count
-  pub at_is : at ≡ 2 * i
   pub length_is : length l ≡ length d
-  list_is : l ≡ pairs (tick_of s) i ++ drop at d
+  list_is : l ≡ pairs (tick_of s) i ++ drop (2 * i) d
 
-pub none_written : (s : Steps) (d : List ℤ) → Written s d d 0 0
-none_written s d = record { turns = omega arith; at_is = refl; length_is = refl; list_is = refl }
+pub none_written : (s : Steps) (d : List ℤ) → Written s d d 0
+none_written s d = record { turns = omega arith; length_is = refl; list_is = refl }
 
-module _ {s : Steps} {d l : List ℤ} {i at : ℕ} (w : Written s d l i at) where
+module _ {s : Steps} {d l : List ℤ} {i : ℕ} (w : Written s d l i) where
   -- two stores are one tick more
   pub one_more : {v : Value} → i < s.count → 2 * s.count ≤ length d → v ≡ tick_of s i
-      → Written s d (set (set l at v.head) (at + 1) v.tail) (i + 1) (at + 2)
+      → Written s d (set (set l (2 * i) v.head) (2 * i + 1) v.tail) (i + 1)
   one_more {v} h room e =
-      let next : at + 1 < length d = omega (arith, w.at_is) in
+      let next : 2 * i + 1 < length d = omega arith in
+      let two : 2 * (i + 1) ≡ 2 * i + 2 = omega arith in
       record {
         turns = omega arith;
-        at_is = omega (arith, w.at_is);
         length_is = simp length-set w.length_is;
-        list_is = rw (add-one i, e) (push_two l (pairs (tick_of s) i) d at (tick_of s i).head (tick_of s i).tail w.list_is
-            (length_pairs (tick_of s) i ∙ sym w.at_is) next);
+        list_is = rw (two, add-one i, e) (push_two l (pairs (tick_of s) i) d (2 * i) (tick_of s i).head (tick_of s i).tail
+            w.list_is (length_pairs (tick_of s) i) next);
       }
 
   pub all_written : s.count ≤ i → l ≡ numbers (ticks s) ++ drop (2 * s.count) d
   all_written h =
       let i≡ : i ≡ s.count = omega (arith, w.turns) in
-      let at≡ : at ≡ 2 * s.count = omega (arith, w.at_is) in
-      rw (pairs_are (tick_of s) s.count, ← at≡, ← i≡) w.list_is
+      rw (pairs_are (tick_of s) s.count, ← i≡) w.list_is

@@ -86,21 +86,16 @@ pub fn count(s: Steps, k: u64) -> Result<u64, Refusal>
     Ok(s.count)
 }
 
-// A day number for each tick; months have no common length.
+// A day number for each tick; months have no common length. Both loops write by index: std says nothing of what a slice holds
+// after `chunks_exact_mut`.
 fn list_months(s: Steps, lent: &mut [i64])
     requires { (Sound s × (s.by_month ≡ true)) × (2 * s.count ≤ length lent.old) }
     ensures { lent.new ≡ numbers (ticks s) ++ drop (2 * s.count) lent.old }
 {
-    let months = s.count;
-    let mut i: u64 = 0;
-    let mut at: usize = 0;
-    while i < months {
-        let day = first_day(s.first + i * s.step) as i64;
-        let next = at + 1;
-        lent[at] = day;
-        lent[next] = 0;
-        at += 2;
-        i += 1;
+    for i in 0..s.count as usize {
+        let day = first_day(s.first + i as u64 * s.step) as i64;
+        lent[2 * i] = day;
+        lent[2 * i + 1] = 0;
     }
 }
 
@@ -109,26 +104,19 @@ fn list_even(s: Steps, lent: &mut [i64])
     requires { (Sound s × (s.by_month ≡ false)) × (2 * s.count ≤ length lent.old) }
     ensures { lent.new ≡ numbers (ticks s) ++ drop (2 * s.count) lent.old }
 {
-    let n = s.count;
-    let per = s.per;
-    let heads = s.step / per;
-    let rest = s.step % per;
-    let mut whole = s.first / per;
-    let mut part = s.first % per;
-    let mut i: u64 = 0;
-    let mut at: usize = 0;
-    while i < n {
+    let heads = s.step / s.per;
+    let rest = s.step % s.per;
+    let mut whole = s.first / s.per;
+    let mut part = s.first % s.per;
+    let count = s.count as usize;
+    for i in 0..count {
         let head = s.base + whole as i64;
-        let tail = part as i64;
-        let next = at + 1;
-        lent[at] = head;
-        lent[next] = tail;
-        at += 2;
-        i += 1;
+        lent[2 * i] = head;
+        lent[2 * i + 1] = part as i64;
         whole += heads;
         part += rest;
-        if part >= per {
-            part -= per;
+        if part >= s.per {
+            part -= s.per;
             whole += 1;
         }
     }

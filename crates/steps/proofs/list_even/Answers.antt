@@ -17,7 +17,7 @@ use Rattle.steps.specs.Progression.{number_at, tick_of, Sound}
 use Rattle.steps.proofs.Places.{next_kept, next_carried, head_small, rest_small, head_fits}
 use Rattle.steps.proofs.Pairs.{none_written, one_more, all_written}
 use Rattle.steps.proofs.list_even.Goals as goal
-use Rattle.steps.proofs.list_even.Goals.{In-loop-i, Start}
+use Rattle.steps.proofs.list_even.Goals.{In-loop-i, Start, then-part-s, else-part-s}
 
 -- ---- a turn: what is known where it begins, and the pair that it writes
 record Turn (s : Steps) (i whole part : ℕ) : Type 0 where
@@ -75,20 +75,16 @@ loop-i-init c = let s = c.args.s in
 pub overflow_add-head : goal.overflow_add-head
 overflow_add-head c = sum_fits _ _ _ _ (turn (goal.at.overflow_add-head c).In-loop-i)
 
-pub loop-i-preserved-then-part-per : goal.loop-i-preserved-then-part-per
-loop-i-preserved-then-part-per c = let l = c.loop-i in
-    let t = turn (goal.at.loop-i-preserved-then-part-per c).In-loop-i in (
-      one_more l.invariant.0 t.going c.requires.1 (tick_is _ _ _ _ t),
-      next_carried c.args.s l.i l.whole l.part
-          t.sound.divides t.whole_is t.part_is (omega arith),
-    )
-
 pub loop-i-preserved : goal.loop-i-preserved
 loop-i-preserved c = let l = c.loop-i in
     let t = turn (goal.at.loop-i-preserved c).In-loop-i in (
       one_more l.invariant.0 t.going c.requires.1 (tick_is _ _ _ _ t),
-      next_kept c.args.s l.i l.whole l.part
-          t.sound.divides t.whole_is t.part_is (omega arith),
+      elim c.if-part-s.branch [
+        | then-part-s w ↦ rw (w.whole-is, w.part-is) (next_carried c.args.s l.i l.whole l.part
+            t.sound.divides t.whole_is t.part_is (omega arith))
+        | else-part-s w ↦ rw (w.whole-is, w.part-is) (next_kept c.args.s l.i l.whole l.part
+            t.sound.divides t.whole_is t.part_is (omega arith))
+      ],
     )
 
 pub returns : goal.returns

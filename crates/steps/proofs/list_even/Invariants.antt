@@ -1,15 +1,12 @@
 -- `steps::list_even` meets its contract: after i turns lent is i pairs and then what it had, and whole and part are the
 -- heads and the rest of the place i. Assumes nothing.
 use mathlib.Core.Path.{◌≡◌}
-use Prim.Native.Nat.{◌/◌, ◌%◌, ◌-◌}
+use Prim.Native.Nat.{◌/◌, ◌%◌}
 use Rattle.steps.specs.Progression.{number_at}
 use Rattle.steps.proofs.Pairs.{Written}
 use Rattle.steps.proofs.list_even.Given as goal
 
 abbrev pub invariant-loop-i : goal.invariant-loop-i
 invariant-loop-i l =
-    Written l.s l.initial.lent l.lent l.i l.at × ((l.whole ≡ number_at l.s l.i / l.s.per) ×
+    Written l.s l.initial.lent l.lent l.i × ((l.whole ≡ number_at l.s l.i / l.s.per) ×
     (l.part ≡ number_at l.s l.i % l.s.per))
-
-abbrev pub decreases-loop-i : goal.decreases-loop-i
-decreases-loop-i l = l.n - l.i
