@@ -21,7 +21,8 @@ returns-in_err-m c = let x = c.args in
 ready : (c : In_ok-m) → let x = c.args in
     (passes (scale_questions x.a x.l) ≡ true) × (c.in_ok-m.field-0 ≡ scale_of x.a x.l)
 ready c = let x = c.args in
-    let (none, is) = answered_ok (scale_questions x.a x.l) (Ok (scale_of x.a x.l)) c.in_ok-m.field-0 (sym c.requires ∙ c.in_ok-m.was) in
+    let s = scale_of x.a x.l in
+    let (none, is) = answered_ok (scale_questions x.a x.l) (Ok s) c.in_ok-m.field-0 (sym c.requires ∙ c.in_ok-m.was) in
     let z : scale_of x.a x.l ≡ c.in_ok-m.field-0 = cc in
     (none, sym z)
 
