@@ -22,7 +22,7 @@ use Rattle.axis.proofs.PixelRanges.{limits_are, between_few}
 use Rattle.mapping.specs.declared.Scale.{Scale}
 use Rattle.mapping.specs.Mapping.{scale_of, ScaleFor}
 use Rattle.mapping.proofs.Ranges.{scale_for}
-use Rattle.segmented.specs.Segments.{Some, margin_of, inner}
+use Rattle.segmented.specs.Segments.{SomeSize, margin_of, inner}
 
 -- no further than W, and to its side
 no_further : (W : ℤ) (n : ℕ) → n ≤ nat_abs W → (pos_part (with_sign (below_zero W) n) ≤ pos_part W)
@@ -45,7 +45,7 @@ module _ (low high m : ℤ) (p : is_pixel low ≡ true) (q : is_pixel high ≡ t
         | inr z ↦ (omega (arith, sub high m, sub high low), omega (arith, sub high m, sub high low))
       ]
 
-module _ (size : ℕ) (l : Limits) (s : Some size) (p : pixels l ≡ true) where
+module _ (size : ℕ) (l : Limits) (s : SomeSize size) (p : pixels l ≡ true) where
   abbrev width : ℤ
   width = l.high -ℤ l.low
 
@@ -86,6 +86,6 @@ module _ (size : ℕ) (l : Limits) (s : Some size) (p : pixels l ≡ true) where
       rw (x, e)
 
 -- the scale of a segmented axis, as the code has it
-pub inner_for : (a : Axis) (size : ℕ) (l : Limits) (s : Scale) → Some size → pixels l ≡ true → s ≡ scale_of a (inner size l) →
+pub inner_for : (a : Axis) (size : ℕ) (l : Limits) (s : Scale) → SomeSize size → pixels l ≡ true → s ≡ scale_of a (inner size l) →
     ScaleFor a s
 inner_for a size l s some p e = scale_for a (inner size l) s e (inner_pixels size l some p)

@@ -1,33 +1,28 @@
 -- Question 10 of pixels and of their sums. Assumes nothing.
 use mathlib.Core.Path.{◌≡◌, refl}
-use mathlib.Core.Bool.{Bool, true, false, cond, ◌&&◌}
+use mathlib.Core.List.{[], ◌∷◌}
+use mathlib.Core.Bool.{Bool, true, false, ◌&&◌}
 use Prim.Native.Nat.{◌+◌, ◌^◌, ◌≤◌}
 use native.Mathlib.Omega.{arith}
-use lib.Dec.{ltb}
 use lib.IntN.{ℤ, ◌+ℤ◌}
 use mir.Syntax.{w64}
 use mir.Val.{SFits}
-use Rattle.laws.specs.Asking.{unless}
+use Rattle.std.specs.Prelude.{⊤, Option, Some, None, Result, Ok, Err}
+use Rattle.asking.specs.Asking.{ask, asked}
+use Rattle.asking.specs.declared.Refusal.{Refusal}
+use Rattle.asking.specs.declared.Refusal.TheVariants as refusal
 use Rattle.laws.specs.Numbers.{pos_part, neg_part}
 use Rattle.laws.proofs.Signed.{add, fits, quot_up, quot_dn, up_fits, dn_fits}
 use Rattle.laws.proofs.Tests.{and_false}
-use Rattle.calendar.specs.Questions.{is_day}
 use Rattle.values.specs.declared.Value.{Value}
 use Rattle.axis.specs.declared.Axis.{Axis}
 use Rattle.axis.specs.declared.Limits.{Limits}
-use Rattle.axis.specs.declared.ValueAnswer.{ValueAnswer}
-use Rattle.axis.specs.declared.ValueAnswer.TheVariants as value
-use Rattle.axis.specs.Axes.{closed}
-use Rattle.axis.specs.Questions.{fits_i32, checked}
+use Rattle.axis.specs.Questions.{fits_i32, in_calendar, checked_if}
 use Rattle.axis.proofs.Questions.{i32_range}
 use Rattle.mapping.specs.declared.Hairline.{Hairline}
-use Rattle.mapping.specs.declared.Pixel.{Pixel}
-use Rattle.mapping.specs.declared.Pixel.TheVariants as pixel
 use Rattle.mapping.specs.Mapping.{hairline}
-use Rattle.counting.specs.Counting.{size_of}
-use Rattle.discrete.specs.Indices.{is_indexed, index_of, value_at}
-use Rattle.discrete.specs.Answers.{next_in}
-use Rattle.segmented.specs.Segments.{segments, half, margin_of, inner, alone, between, beside, centred, pixel_checked}
+use Rattle.segmented.specs.Segments.{segments, half, margin_of, inner, Worked, worked}
+use Rattle.segmented.specs.Segments.{alone, between, beside, centred, pixel_checked}
 
 -- two numbers that fit i32, and one with a half: the sum fits
 pub sum_fits : (x y : ℤ) → fits_i32 x ≡ true → fits_i32 y ≡ true → SFits w64 (x +ℤ y)
@@ -46,52 +41,56 @@ half_sum_fits x z p f =
     fits (x +ℤ half z) (pos_part x + pos_part (half z)) (neg_part x + neg_part (half z)) (omega (arith, add x (half z)))
     (omega arith) (omega arith)
 
+-- ---- one question, as the code asks it
+pub asked_yes : (q : Refusal) (b : Bool) (u v : ⊤) → Ok v ≡ asked (ask q b ∷ []) (Ok u) → b ≡ true
+asked_yes q true u v e = refl
+asked_yes q false u v e = absurd (let z : ⊥ = cc in z)
+
+pub asked_no : (q p : Refusal) (b : Bool) (u : ⊤) → Err p ≡ asked (ask q b ∷ []) (Ok u) → (b ≡ false) × (p ≡ q)
+asked_no q p true u e = absurd (let z : ⊥ = cc in z)
+asked_no q p false u e = let z : p ≡ q = cc in (refl, z)
+
 module _ (left right : Hairline) where
   abbrev sum : ℤ
   sum = left.pixel +ℤ right.pixel
 
-  pub between_left : fits_i32 left.pixel ≡ false → pixel.Refused 10 ≡ pixel_checked (between left right)
-  between_left e = rw e
+  pub between_left : fits_i32 left.pixel ≡ false → Err refusal.Range ≡ pixel_checked (between left right)
+  between_left e = rw e refl
 
-  pub between_right : fits_i32 right.pixel ≡ false → pixel.Refused 10 ≡ pixel_checked (between left right)
-  between_right e = rw (e, and_false (fits_i32 left.pixel))
+  pub between_right : fits_i32 right.pixel ≡ false → Err refusal.Range ≡ pixel_checked (between left right)
+  between_right e = rw (e, and_false (fits_i32 left.pixel)) refl
 
-  pub between_sum : fits_i32 sum ≡ false → pixel.Refused 10 ≡ pixel_checked (between left right)
-  between_sum e = rw (e, and_false (fits_i32 right.pixel), and_false (fits_i32 left.pixel))
+  pub between_sum : fits_i32 sum ≡ false → Err refusal.Range ≡ pixel_checked (between left right)
+  between_sum e = rw (e, and_false (fits_i32 right.pixel), and_false (fits_i32 left.pixel)) refl
 
   pub between_is : fits_i32 left.pixel ≡ true → fits_i32 right.pixel ≡ true → fits_i32 sum ≡ true →
-      pixel.At (between left right).hairline ≡ pixel_checked (between left right)
-  between_is e f g = rw (e, f, g)
+      Ok (between left right).hairline ≡ pixel_checked (between left right)
+  between_is e f g = rw (e, f, g) refl
 
 module _ (left : Hairline) (margin : ℤ) where
-  pub beside_left : fits_i32 left.pixel ≡ false → pixel.Refused 10 ≡ pixel_checked (beside left margin)
-  beside_left e = rw e
+  pub beside_left : fits_i32 left.pixel ≡ false → Err refusal.Range ≡ pixel_checked (beside left margin)
+  beside_left e = rw e refl
 
   pub beside_is : fits_i32 left.pixel ≡ true →
       pixel_checked (alone (beside left margin).hairline) ≡ pixel_checked (beside left margin)
-  beside_is e = rw e
+  beside_is e = rw e refl
 
 -- ---- the centre, by what the code learns of the next value
 module _ (a : Axis) (l : Limits) (left : Hairline) where
-  abbrev pub onward : ValueAnswer → Pixel
-  onward (value.Refused q) = pixel.Refused q
-  onward value.None = pixel_checked (beside left (margin_of (segments a) l))
-  onward (value.At w) = pixel_checked (between left (hairline a (inner (segments a) l) w))
+  abbrev pub onward : Result (Option Value) Refusal → Result Hairline Refusal
+  onward (Err q) = Err q
+  onward (Ok None) = pixel_checked (beside left (margin_of (segments a) l))
+  onward (Ok (Some w)) = pixel_checked (between left (hairline a (inner (segments a) l) w))
 
-  -- question 10 of the next value's date
-  dated : (w : Value) (b : Bool) → is_day w.head ≡ b →
-      onward (unless (cond b 0 10) value.Refused (value.At w)) ≡ pixel_checked (centred a l left (value.At w))
-  dated w true e = rw e
-  dated w false e = rw e
+  pub onward_is : (n : Option Value) → onward (checked_if n) ≡ pixel_checked (centred a l left n)
+  unfolding checked_if
+  onward_is None = refl
+  onward_is (Some w) = dated (in_calendar w)
+    where
+      c : Worked
+      c = between left (hairline a (inner (segments a) l) w)
 
-  by_next : (b : Bool) (w : Value) → onward (checked (cond b (value.At w) value.None))
-      ≡ pixel_checked (centred a l left (cond b (value.At w) value.None))
-  unfolding checked
-  by_next true w = dated w (is_day w.head) refl
-  by_next false w = refl
-
-  pub centre_is : (v : Value) → let b = closed a in
-      onward (checked (next_in b v)) ≡ pixel_checked (centred a l left (next_in b v))
-  unfolding next_in
-  centre_is v = let b = closed a in
-      by_next (is_indexed b v && ltb (index_of b v + 1) (size_of b)) (value_at b (index_of b v + 1))
+      dated : (b : Bool) →
+          onward (asked (ask refusal.Range b ∷ []) (Ok (Some w))) ≡ pixel_checked (worked c.hairline (b && c.fits))
+      dated true = refl
+      dated false = refl

@@ -3,10 +3,13 @@
 -- An excluded end has no segment: the limits part the size without it, and the next value is one before it. But a value is
 -- mapped to the end as written, so that a part stays blank before the last end.
 use Rattle.std.specs.Prelude.{◌≡◌, Bool, true, false, cond, ◌&&◌, ◌||◌, [], ◌∷◌, ℕ, ◌≤◌, ◌<◌, ltb, ℤ, pos, ◌+ℤ◌, ◌-ℤ◌}
+use Rattle.std.specs.Prelude.{Option, Some, None, Result, Ok}
 use Rattle.std.specs.Int.Signed.{quot_z, rem_z}
 use Rattle.std.specs.Float.{binary32}
 use Rattle.std.specs.Float.Ieee.{of_int, div, to_signed}
-use Rattle.laws.specs.Asking.{ask, asked}
+use Rattle.asking.specs.declared.Refusal.{Refusal}
+use Rattle.asking.specs.declared.Refusal.TheVariants as refusal
+use Rattle.asking.specs.Asking.{ask, asked}
 use Rattle.laws.specs.Numbers.{within, is_number}
 use Rattle.calendar.specs.Questions.{last_day, is_day}
 use Rattle.floats.specs.Rounding.{round_f}
@@ -16,11 +19,7 @@ use Rattle.axis.specs.declared.Limits.{Limits}
 use Rattle.axis.specs.Axes.{closed}
 use Rattle.axis.specs.Questions.{ends, value_on, mappable, fits_i32}
 use Rattle.mapping.specs.declared.Hairline.{Hairline}
-use Rattle.mapping.specs.declared.Pixel.{Pixel}
-use Rattle.mapping.specs.declared.Pixel.TheVariants as pixel
 use Rattle.mapping.specs.Mapping.{hairline}
-use Rattle.axis.specs.declared.ValueAnswer.{ValueAnswer}
-use Rattle.axis.specs.declared.ValueAnswer.TheVariants as value
 use Rattle.counting.specs.Counting.{Dated, size_of}
 use Rattle.discrete.specs.Answers.{next_in}
 use Rattle.segmented.specs.declared.Segment.{Segment}
@@ -64,7 +63,7 @@ pub record Countable (a : Axis) : Type 0 where
   pub counted : Dated (closed a)
 
 -- a size that has room for a segment
-pub record Some (size : ℕ) : Type 0 where
+pub record SomeSize (size : ℕ) : Type 0 where
   pub least : 0 < size
   pub most : size ≤ last_day
 
@@ -112,11 +111,10 @@ beside left margin =
     worked (record { pixel = p; exact = left.exact && even margin; lost = left.lost }) (fits_i32 left.pixel && fits_i32 p)
 
 -- the centre of a segment that begins at a hairline, by the next value
-abbrev pub centred : Axis → Limits → Hairline → ValueAnswer → Worked
-centred a l left (value.At w) =
+abbrev pub centred : Axis → Limits → Hairline → Option Value → Worked
+centred a l left (Some w) =
     let c = between left (hairline a (inner (segments a) l) w) in worked c.hairline (is_day w.head && c.fits)
-centred a l left value.None = beside left (margin_of (segments a) l)
-centred a l left (value.Refused q) = beside left (margin_of (segments a) l)
+centred a l left None = beside left (margin_of (segments a) l)
 
 -- the pixel of a segment value
 unfoldable pub segment_worked : Axis → Limits → SegmentValue → Worked
@@ -125,5 +123,5 @@ segment_worked a l (CenterOf v) = centred a l (hairline a (inner (segments a) l)
 segment_worked a l Last = worked (record { pixel = l.high; exact = true; lost = false }) true
 
 -- question 10 alone, as the code asks it
-abbrev pub pixel_checked : Worked → Pixel
-pixel_checked w = asked (ask 10 w.fits ∷ []) pixel.Refused (pixel.At w.hairline)
+abbrev pub pixel_checked : Worked → Result Hairline Refusal
+pixel_checked w = asked (ask refusal.Range w.fits ∷ []) (Ok w.hairline)

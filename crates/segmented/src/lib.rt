@@ -2,24 +2,23 @@
 // an exact value, of a centre and of the last end; sizes, indices and ticks.
 #![tactic(auto)]
 
-ghost use Rattle.std.specs.Prelude.{◌≡◌, true, ◌≤◌, length};
-ghost use Rattle.laws.specs.Asking.{first_no};
+ghost use Rattle.std.specs.Prelude.{◌≡◌, true, cond, ◌≤◌, length, Ok, Some, None};
+ghost use Rattle.asking.specs.Asking.{asked};
 ghost use Rattle.calendar.specs.Questions.{last_day};
 ghost use Rattle.axis.specs.Questions.{ends, pixels, value_on};
 ghost use Rattle.mapping.specs.Mapping.{scale_of};
 ghost use Rattle.counting.specs.Counting.{Dated};
-ghost use Rattle.segmented.specs.Segments.{segment_on, SegmentOn, segment_of, segments, segment_mappable, Some};
+ghost use Rattle.segmented.specs.Segments.{segment_on, SegmentOn, segment_of, segments, segment_mappable, SomeSize};
 ghost use Rattle.segmented.specs.Segments.{Countable, margin_of, inner, half, even};
 ghost use Rattle.segmented.specs.Segments.{alone, between, beside, segment_worked, pixel_checked};
 ghost use Rattle.segmented.specs.Answers.{segment_questions, segment_value_questions, segment_kind_questions};
 ghost use Rattle.segmented.specs.Answers.{segment_map_answer, segment_size_answer, segment_index_in, segment_index_answer};
-ghost use Rattle.segmented.specs.Answers.{exactly, segment_at, segment_checked, segment_from_answer};
+ghost use Rattle.segmented.specs.Answers.{segment_at, segment_checked, segment_from_answer};
 ghost use Rattle.segmented.specs.Answers.{segment_ticks_answer, segment_ticks_written};
 
-use axis::{Axis, Hint, Limits, ValueAnswer};
-use discrete::NumberAnswer;
-use mapping::{Hairline, Pixel, Scale};
-use steps::Listed;
+use asking::{Refusal, ask};
+use axis::{Axis, Hint, Limits};
+use mapping::{Hairline, Scale};
 use values::Value;
 
 // The three numbers of a segment value: case 1 exact, 2 centre, 3 last.
@@ -37,45 +36,26 @@ pub enum SegmentValue {
     Last,
 }
 
-#[derive(Clone, Copy)]
-pub enum SegmentAnswer {
-    Refused(u8),
-    None,
-    At(SegmentValue),
-}
-
-fn head_tail(s: Segment) -> Value
-    ensures { result ≡ record { head = s.head; tail = s.tail } }
+// The segment value of three numbers; none where they are of no case, or their value none of the kind. The numbers beside the
+// last are not read.
+fn segment_of(a: Axis, s: Segment) -> Option<SegmentValue>
+    ensures { result ≡ cond (segment_on a s) (Some (segment_of s)) None }
 {
-    Value {
+    let v = Value {
         head: s.head,
         tail: s.tail,
+    };
+    match s.case {
+        1 => axis::value_on(a, v).then_some(SegmentValue::Exact(v)),
+        2 => axis::value_on(a, v).then_some(SegmentValue::CenterOf(v)),
+        3 => Some(SegmentValue::Last),
+        _ => None,
     }
-}
-
-// Question 8. The numbers beside the last are not read.
-fn segment_on(a: Axis, s: Segment) -> bool
-    ensures { result ≡ segment_on a s }
-{
-    ((3 <= s.case) & (s.case <= 3))
-        | (((1 <= s.case) & (s.case <= 2)) & axis::value_on(a, head_tail(s)))
-}
-
-fn segment_of(s: Segment) -> SegmentValue
-    ensures { result ≡ segment_of s }
-{
-    if (1 <= s.case) & (s.case <= 1) {
-        return SegmentValue::Exact(head_tail(s));
-    }
-    if (2 <= s.case) & (s.case <= 2) {
-        return SegmentValue::CenterOf(head_tail(s));
-    }
-    SegmentValue::Last
 }
 
 // (width as f32 / size as f32).round() as i32.
 fn margin_of(size: u64, l: Limits) -> i64
-    requires { Some size × (pixels l ≡ true) }
+    requires { SomeSize size × (pixels l ≡ true) }
     ensures { result ≡ margin_of size l }
 {
     let width = l.high - l.low;
@@ -84,7 +64,7 @@ fn margin_of(size: u64, l: Limits) -> i64
 
 // Values are mapped between the low limit and the high one less a segment.
 fn inner(size: u64, l: Limits) -> Limits
-    requires { Some size × (pixels l ≡ true) }
+    requires { SomeSize size × (pixels l ≡ true) }
     ensures { result ≡ inner size l }
 {
     Limits {
@@ -104,85 +84,61 @@ fn half(z: i64) -> i64
 fn even(z: i64) -> bool
     ensures { result ≡ even z }
 {
-    let left = z % 2;
-    (0 <= left) & (left <= 0)
+    z % 2 == 0
 }
 
-fn segment_refusal(a: Axis, s: Segment) -> u8
-    ensures { result ≡ first_no (segment_questions a s) }
+// The segment value of any numbers, and question 8 of them.
+fn ask_segment(a: Axis, s: Segment) -> Result<SegmentValue, Refusal>
+    ensures { result ≡ asked (segment_questions a s) (Ok (segment_of s)) }
 {
-    let q = discrete::size_refusal(a);
-    axis::then_ask(q, 8, segment_on(a, s))
+    discrete::ask_size(a)?;
+    segment_of(a, s).ok_or(Refusal::Value)
 }
 
 // One more than the axis has: the last end.
-pub fn size(a: Axis) -> NumberAnswer
+pub fn size(a: Axis) -> Result<u64, Refusal>
     ensures { result ≡ segment_size_answer a }
 {
-    let q = discrete::size_refusal(a);
-    if q != 0 {
-        return NumberAnswer::Refused(q);
-    }
-    NumberAnswer::Is(counting::size_of(axis::closed(a)) + 1)
+    Ok(discrete::size(a)? + 1)
 }
 
-fn index_in(a: Axis, v: SegmentValue) -> NumberAnswer
+fn index_in(a: Axis, v: SegmentValue) -> Option<u64>
     requires { Dated a × SegmentOn a v }
     ensures { result ≡ segment_index_in a v }
 {
     match v {
-        SegmentValue::Exact(w) => discrete::index_in(a, w),
-        SegmentValue::CenterOf(w) => discrete::index_in(a, w),
-        SegmentValue::Last => NumberAnswer::Is(counting::size_of(a)),
+        SegmentValue::Exact(w) | SegmentValue::CenterOf(w) => discrete::index_in(a, w),
+        SegmentValue::Last => Some(counting::size_of(a)),
     }
 }
 
 // The index of any numbers.
-pub fn index_of(a: Axis, s: Segment) -> NumberAnswer
+pub fn index_of(a: Axis, s: Segment) -> Result<Option<u64>, Refusal>
     ensures { result ≡ segment_index_answer a s }
 {
-    let q = segment_refusal(a, s);
-    if q != 0 {
-        return NumberAnswer::Refused(q);
-    }
-    index_in(axis::closed(a), segment_of(s))
-}
-
-// A value of the axis as a segment's exact one.
-fn exactly(v: ValueAnswer) -> SegmentAnswer
-    ensures { result ≡ exactly v }
-{
-    match v {
-        ValueAnswer::Refused(q) => SegmentAnswer::Refused(q),
-        ValueAnswer::None => SegmentAnswer::None,
-        ValueAnswer::At(w) => SegmentAnswer::At(SegmentValue::Exact(w)),
-    }
+    let v = ask_segment(a, s)?;
+    Ok(index_in(axis::closed(a), v))
 }
 
 // Below the size a value, at the size the last end, beyond it none.
-fn segment_at(a: Axis, i: u64) -> SegmentAnswer
+fn segment_at(a: Axis, i: u64) -> Result<Option<SegmentValue>, Refusal>
     requires { Dated a × (i ≤ last_day) }
     ensures { result ≡ segment_checked (segment_at a i) }
 {
     let size = counting::size_of(a);
     if i < size {
-        return exactly(discrete::value_at(a, i));
+        let v = discrete::value_at(a, i)?;
+        return Ok(Some(SegmentValue::Exact(v)));
     }
-    if i <= size {
-        return SegmentAnswer::At(SegmentValue::Last);
-    }
-    SegmentAnswer::None
+    Ok((i == size).then_some(SegmentValue::Last))
 }
 
 // The segment value of any index.
-pub fn from_index(a: Axis, i: i64) -> SegmentAnswer
+pub fn from_index(a: Axis, i: i64) -> Result<Option<SegmentValue>, Refusal>
     ensures { result ≡ segment_from_answer a i }
 {
-    let k = discrete::asked_index(a, i);
-    if k.refusal != 0 {
-        return SegmentAnswer::Refused(k.refusal);
-    }
-    segment_at(axis::closed(a), k.index)
+    let k = discrete::ask_index(a, i)?;
+    segment_at(axis::closed(a), k)
 }
 
 // Question 9: the size, and then the question of mapping; the last is asked only for the size.
@@ -192,37 +148,28 @@ fn segment_mappable(a: Axis, size: u64, v: SegmentValue) -> bool
 {
     let some = 0 < size;
     match v {
-        SegmentValue::Exact(w) => some & axis::mappable(a, w),
-        SegmentValue::CenterOf(w) => some & axis::mappable(a, w),
+        SegmentValue::Exact(w) | SegmentValue::CenterOf(w) => some & axis::mappable(a, w),
         SegmentValue::Last => some,
     }
 }
 
 // Question 10 of one mapping.
-fn alone(h: Hairline) -> Pixel
+fn alone(h: Hairline) -> Result<Hairline, Refusal>
     ensures { result ≡ pixel_checked (alone h) }
 {
-    if !axis::fits_i32(h.pixel) {
-        return Pixel::Refused(10);
-    }
-    Pixel::At(h)
+    ask(Refusal::Range, axis::fits_i32(h.pixel))?;
+    Ok(h)
 }
 
 // Midway to the next value.
-fn between(left: Hairline, right: Hairline) -> Pixel
+fn between(left: Hairline, right: Hairline) -> Result<Hairline, Refusal>
     ensures { result ≡ pixel_checked (between left right) }
 {
-    if !axis::fits_i32(left.pixel) {
-        return Pixel::Refused(10);
-    }
-    if !axis::fits_i32(right.pixel) {
-        return Pixel::Refused(10);
-    }
+    ask(Refusal::Range, axis::fits_i32(left.pixel))?;
+    ask(Refusal::Range, axis::fits_i32(right.pixel))?;
     let sum = left.pixel + right.pixel;
-    if !axis::fits_i32(sum) {
-        return Pixel::Refused(10);
-    }
-    Pixel::At(Hairline {
+    ask(Refusal::Range, axis::fits_i32(sum))?;
+    Ok(Hairline {
         pixel: half(sum),
         exact: left.exact & right.exact & even(sum),
         lost: left.lost | right.lost,
@@ -230,12 +177,10 @@ fn between(left: Hairline, right: Hairline) -> Pixel
 }
 
 // Half a segment on.
-fn beside(left: Hairline, margin: i64) -> Pixel
+fn beside(left: Hairline, margin: i64) -> Result<Hairline, Refusal>
     ensures { result ≡ pixel_checked (beside left margin) }
 {
-    if !axis::fits_i32(left.pixel) {
-        return Pixel::Refused(10);
-    }
+    ask(Refusal::Range, axis::fits_i32(left.pixel))?;
     alone(Hairline {
         pixel: left.pixel + half(margin),
         exact: left.exact & even(margin),
@@ -245,7 +190,7 @@ fn beside(left: Hairline, margin: i64) -> Pixel
 
 // The scale of all values of a segmented axis.
 fn inner_scale(a: Axis, size: u64, l: Limits) -> Scale
-    requires { (ends a ≡ true) × (pixels l ≡ true) × Some size }
+    requires { (ends a ≡ true) × (pixels l ≡ true) × SomeSize size }
     ensures { result ≡ scale_of a (inner size l) }
 {
     mapping::scale_of(a, inner(size, l))
@@ -253,27 +198,26 @@ fn inner_scale(a: Axis, size: u64, l: Limits) -> Scale
 
 // The centre of a value's segment, which ends where the next value stands. Both are mapped with one scale, to the end as
 // written.
-fn centre(a: Axis, size: u64, l: Limits, v: Value) -> Pixel
-    requires { Countable a × (pixels l ≡ true) × Some size × (value_on a v ≡ true) × (size ≡ segments a) }
+fn centre(a: Axis, size: u64, l: Limits, v: Value) -> Result<Hairline, Refusal>
+    requires { Countable a × (pixels l ≡ true) × SomeSize size × (value_on a v ≡ true) × (size ≡ segments a) }
     ensures { result ≡ pixel_checked (segment_worked a l (SegmentValue.CenterOf v)) }
 {
     let s = inner_scale(a, size, l);
     let left = mapping::pixel_by(s, a, v);
-    match discrete::next_in(axis::closed(a), v) {
-        ValueAnswer::Refused(q) => Pixel::Refused(q),
-        ValueAnswer::None => beside(left, margin_of(size, l)),
-        ValueAnswer::At(w) => between(left, mapping::pixel_by(s, a, w)),
+    match discrete::next_in(axis::closed(a), v)? {
+        Some(w) => between(left, mapping::pixel_by(s, a, w)),
+        None => beside(left, margin_of(size, l)),
     }
 }
 
-fn segment_pixel(a: Axis, size: u64, l: Limits, v: SegmentValue) -> Pixel
-    requires { Countable a × (pixels l ≡ true) × Some size × SegmentOn a v × (size ≡ segments a) }
+fn segment_pixel(a: Axis, size: u64, l: Limits, v: SegmentValue) -> Result<Hairline, Refusal>
+    requires { Countable a × (pixels l ≡ true) × SomeSize size × SegmentOn a v × (size ≡ segments a) }
     ensures { result ≡ pixel_checked (segment_worked a l v) }
 {
     match v {
         SegmentValue::Exact(w) => alone(mapping::pixel_by(inner_scale(a, size, l), a, w)),
         SegmentValue::CenterOf(w) => centre(a, size, l, w),
-        SegmentValue::Last => Pixel::At(Hairline {
+        SegmentValue::Last => Ok(Hairline {
             pixel: l.high,
             exact: true,
             lost: false,
@@ -281,45 +225,37 @@ fn segment_pixel(a: Axis, size: u64, l: Limits, v: SegmentValue) -> Pixel
     }
 }
 
-fn map_refusal(a: Axis, l: Limits, s: Segment) -> u8
-    ensures { result ≡ first_no (segment_value_questions a l s) }
+// The questions before the size is asked for, which is done only of real values.
+fn ask_between(a: Axis, l: Limits, s: Segment) -> Result<SegmentValue, Refusal>
+    ensures { result ≡ asked (segment_value_questions a l s) (Ok (segment_of s)) }
 {
-    let q = discrete::size_refusal(a);
-    let q = axis::then_ask(q, 7, axis::pixels(l));
-    axis::then_ask(q, 8, segment_on(a, s))
+    discrete::ask_size(a)?;
+    ask(Refusal::Limits, axis::pixels(l))?;
+    segment_of(a, s).ok_or(Refusal::Value)
 }
 
-// The pixel of any numbers. The size is asked for only of real values.
-pub fn map(a: Axis, l: Limits, s: Segment) -> Pixel
+// The pixel of any numbers.
+pub fn map(a: Axis, l: Limits, s: Segment) -> Result<Hairline, Refusal>
     ensures { result ≡ segment_map_answer a l s }
 {
-    let q = map_refusal(a, l, s);
-    if q != 0 {
-        return Pixel::Refused(q);
-    }
-    let v = segment_of(s);
+    let v = ask_between(a, l, s)?;
     let size = counting::size_of(axis::closed(a));
-    if !segment_mappable(a, size, v) {
-        return Pixel::Refused(9);
-    }
+    ask(Refusal::Length, segment_mappable(a, size, v))?;
     segment_pixel(a, size, l, v)
 }
 
-fn kind_refusal(a: Axis) -> u8
-    ensures { result ≡ first_no (segment_kind_questions a) }
+fn ask_kind(a: Axis) -> Result<(), Refusal>
+    ensures { result ≡ asked (segment_kind_questions a) (Ok tt) }
 {
-    let q = axis::then_ask(0, 1, axis::known(a));
-    axis::then_ask(q, 2, axis::has_index(a))
+    ask(Refusal::Kind, axis::known(a))?;
+    ask(Refusal::Operation, axis::has_index(a))
 }
 
 // The ticks at the front of the lent numbers, and how many; each is the centre of its segment.
-pub fn list(a: Axis, h: Hint, lent: &mut [i64]) -> Listed
+pub fn list(a: Axis, h: Hint, lent: &mut [i64]) -> Result<u64, Refusal>
     ensures value { result ≡ segment_ticks_answer a h (length lent.old) }
     ensures after_call { lent.new ≡ segment_ticks_written a h lent.old }
 {
-    let q = kind_refusal(a);
-    if q != 0 {
-        return Listed::Refused(q);
-    }
-    ticks::list_plan(ticks::plan(a, h), lent)
+    ask_kind(a)?;
+    ticks::list(a, h, lent)
 }

@@ -4,11 +4,14 @@ use mathlib.Core.Path.{◌≡◌, sym, ◌∙◌, ap}
 use Prim.Native.Nat.{ℕ}
 use mir.Syntax.{w64}
 use mir.Facts.{to_z-of_z}
+use Rattle.std.specs.Prelude.{Option, Result, Ok}
+use Rattle.std.proofs.lemmas.Result.{err_from_is_err_and}
+use Rattle.asking.specs.declared.Refusal.{Refusal}
+use Rattle.values.specs.declared.Value.{Value}
 use Rattle.axis.specs.declared.Axis.{Axis}
 use Rattle.axis.specs.declared.Limits.{Limits}
-use Rattle.axis.specs.declared.ValueAnswer.{ValueAnswer}
 use Rattle.axis.specs.Axes.{closed}
-use Rattle.axis.specs.Questions.{checked}
+use Rattle.axis.specs.Questions.{checked_if}
 use Rattle.mapping.specs.declared.Hairline.{Hairline}
 use Rattle.mapping.specs.Mapping.{limits_of, ScaleFor, hairline}
 use Rattle.mapping.proofs.Ranges.{limits_of_law}
@@ -18,7 +21,7 @@ use Rattle.discrete.proofs.Laws.{next_on}
 use Rattle.segmented.specs.declared.SegmentValue.TheVariants.{CenterOf}
 use Rattle.segmented.specs.Segments.{segments, margin_of, inner, beside, between, segment_worked, pixel_checked}
 use Rattle.segmented.proofs.Margins.{inner_for}
-use Rattle.segmented.proofs.Pixels.{onward, centre_is}
+use Rattle.segmented.proofs.Pixels.{onward, onward_is}
 use Rattle.segmented.proofs.centre.Goals as goal
 use Rattle.segmented.proofs.centre.Goals.{After-inner_scale-s, After-next_in, After-pixel_by-left, Start}
 
@@ -47,41 +50,45 @@ pub next_in-requires : goal.next_in-requires
 next_in-requires c = rw c.closed.ensures (c.requires.0.counted, value_on_law c.args.a c.args.v ∙ c.requires.3)
 
 next_is : (c : After-next_in) → let x = c.args in
-    c.next_in.result ≡ checked (next_in (closed x.a) x.v)
+    c.next_in.result ≡ checked_if (next_in (closed x.a) x.v)
 next_is c = let x = c.args in
-    c.next_in.ensures ∙ ap (λ (b : Axis). checked (next_in b x.v)) c.closed.ensures
+    c.next_in.ensures ∙ ap (λ (b : Axis). checked_if (next_in b x.v)) c.closed.ensures
 
 pub pixel_by-requires : goal.pixel_by-requires
-pixel_by-requires c = let w = c.in-At.w in (
-  scaled (goal.at.pixel_by-requires c).After-inner_scale-s,
-  c.requires.0.real,
-  sym (value_on_law c.args.a w)
-      ∙ next_on (closed c.args.a) c.args.v w c.requires.0.counted
-      (sym (next_is (goal.at.pixel_by-requires c).After-next_in) ∙ c.in-At.is),
-)
+pixel_by-requires c = let w = c.in-Some.w in
+    let p = goal.at.pixel_by-requires c in (
+      scaled p.After-inner_scale-s,
+      c.requires.0.real,
+      sym (value_on_law c.args.a w)
+          ∙ next_on (closed c.args.a) c.args.v w c.requires.0.counted
+          (sym (next_is p.After-next_in) ∙ c.in_ok-w.was ∙ ap Ok c.in-Some.is),
+    )
 
 -- the answer, by what the code learnt of the next value
-by : (c : After-next_in) (n : ValueAnswer) → c.next_in.result ≡ n → onward c.args.a c.args.l
+by : (c : After-next_in) (n : Result (Option Value) Refusal) → c.next_in.result ≡ n → onward c.args.a c.args.l
     (left (goal.at.After-next_in c).Start) n ≡ pixel_checked (segment_worked c.args.a c.args.l (CenterOf c.args.v))
 unfolding segment_worked
-by c n e = ap (onward c.args.a c.args.l (left (goal.at.After-next_in c).Start)) (sym e ∙ next_is c)
-    ∙ centre_is c.args.a c.args.l (left (goal.at.After-next_in c).Start) c.args.v
+by c n e = let x = c.args in
+    let h = left (goal.at.After-next_in c).Start in
+    ap (onward x.a x.l h) (sym e ∙ next_is c) ∙ onward_is x.a x.l h (next_in (closed x.a) x.v)
 
-pub returns-in-Refused : goal.returns-in-Refused
-returns-in-Refused c = by (goal.at.returns-in-Refused c).After-next_in _ c.in-Refused.is
+pub returns-in_err-w : goal.returns-in_err-w
+returns-in_err-w c = let p = err_from_is_err_and c.from_residual.result c.from_residual.ensures.1 in
+    rw (p.1, p.2) (by (goal.at.returns-in_err-w c).After-next_in _ c.in_err-w.was)
 
 pub returns-in-None : goal.returns-in-None
-returns-in-None c = c.beside.ensures
-    ∙ (λ i. pixel_checked (beside (left_is (goal.at.returns-in-None c).After-pixel_by-left i)
+returns-in-None c = let p = goal.at.returns-in-None c in
+    c.beside.ensures
+    ∙ (λ i. pixel_checked (beside (left_is p.After-pixel_by-left i)
     ((to_z-of_z {w = w64} {z = c.margin_of.result} (search rules) ∙ c.margin_of.ensures
     ∙ ap (λ (j : ℕ). margin_of j c.args.l) c.requires.4) i)))
-    ∙ by (goal.at.returns-in-None c).After-next_in _ c.in-None.is
+    ∙ by p.After-next_in _ (c.in_ok-w.was ∙ ap Ok c.in-None.is)
 
-pub returns-in-At : goal.returns-in-At
-returns-in-At c = let x = c.args in
-    let right : c.pixel_by.result ≡ hairline x.a (inner (segments x.a) x.l) c.in-At.w =
-    c.pixel_by.ensures ∙ ap (λ (y : Limits). hairline x.a y c.in-At.w) (limits_is (goal.at.returns-in-At c).After-inner_scale-s)
-    in
+pub returns-in-Some : goal.returns-in-Some
+returns-in-Some c = let x = c.args in
+    let p = goal.at.returns-in-Some c in
+    let right : c.pixel_by.result ≡ hairline x.a (inner (segments x.a) x.l) c.in-Some.w =
+    c.pixel_by.ensures ∙ ap (λ (y : Limits). hairline x.a y c.in-Some.w) (limits_is p.After-inner_scale-s) in
     c.between.ensures
-    ∙ (λ j. pixel_checked (between (left_is (goal.at.returns-in-At c).After-pixel_by-left j) (right j)))
-    ∙ by (goal.at.returns-in-At c).After-next_in _ c.in-At.is
+    ∙ (λ j. pixel_checked (between (left_is p.After-pixel_by-left j) (right j)))
+    ∙ by p.After-next_in _ (c.in_ok-w.was ∙ ap Ok c.in-Some.is)

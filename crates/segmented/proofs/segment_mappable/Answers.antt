@@ -1,4 +1,5 @@
 -- `segmented::segment_mappable` meets its contract. Assumes nothing.
+use mathlib.Core.Logic.{inl, inr}
 use mathlib.Core.Path.{sym, ◌∙◌, ap}
 use mathlib.Core.Bool.{◌&&◌}
 use lib.Dec.{ltb}
@@ -7,12 +8,10 @@ use Rattle.segmented.proofs.segment_mappable.Goals as goal
 
 pub returns-in-Exact : goal.returns-in-Exact
 unfolding segment_mappable
-returns-in-Exact c = (λ i. ltb 0 (c.requires i) && c.mappable.ensures i) ∙ ap (segment_mappable c.args.a) (sym c.in-Exact.is)
-
-pub returns-in-CenterOf : goal.returns-in-CenterOf
-unfolding segment_mappable
-returns-in-CenterOf c =
-    (λ i. ltb 0 (c.requires i) && c.mappable-in-CenterOf.ensures i) ∙ ap (segment_mappable c.args.a) (sym c.in-CenterOf.is)
+returns-in-Exact c = (λ i. ltb 0 (c.requires i) && c.mappable.ensures i) ∙ elim c.in-Exact.is [
+  | inl e ↦ ap (segment_mappable c.args.a) (sym e)
+  | inr e ↦ ap (segment_mappable c.args.a) (sym e)
+]
 
 pub returns-in-Last : goal.returns-in-Last
 unfolding segment_mappable

@@ -7,8 +7,8 @@ use lib.IntN.{ℤ}
 use mir.Syntax.{w64}
 use mir.Val.{SFits}
 use mir.Facts.{to_z-of_z}
+use Rattle.std.specs.Prelude.{Ok}
 use Rattle.axis.specs.declared.Limits.{Limits}
-use Rattle.mapping.specs.declared.Pixel.TheVariants as pixel
 use Rattle.mapping.specs.declared.Hairline.{Hairline}
 use Rattle.mapping.specs.Mapping.{hairline}
 use Rattle.mapping.proofs.Ranges.{limits_of_law}
@@ -43,6 +43,6 @@ returns-in-Exact c = let x = c.args in
 pub returns-in-Last : goal.returns-in-Last
 unfolding segment_worked
 returns-in-Last c =
-    ap (λ (p : ℤ). pixel.At (record { pixel = p; exact = true; lost = false }))
+    ap (λ (p : ℤ). Ok (record { pixel = p; exact = true; lost = false }))
     (to_z-of_z (high_fits (goal.at.returns-in-Last c).Start))
     ∙ ap (λ (v : SegmentValue). pixel_checked (segment_worked c.args.a c.args.l v)) (sym c.in-Last.is)
