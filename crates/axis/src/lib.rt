@@ -343,12 +343,8 @@ fn day_ends(a: Axis) -> bool
     ensures { result ≡ ends a }
 {
     let most = tail_most(a.kind);
-    ((1 <= a.start_head)
-        & (a.start_head <= LAST_DAY)
-        & ((0 <= a.start_tail) & (a.start_tail <= most)))
-        & ((1 <= a.end_head)
-            & (a.end_head <= LAST_DAY)
-            & ((0 <= a.end_tail) & (a.end_tail <= most)))
+    (calendar::is_day(a.start_head) & ((0 <= a.start_tail) & (a.start_tail <= most)))
+        & (calendar::is_day(a.end_head) & ((0 <= a.end_tail) & (a.end_tail <= most)))
 }
 
 // The questions of an axis; has: the kind has the operation, and then it is not 7. Each is tested just where it is asked, with
@@ -399,7 +395,8 @@ fn ask_durations(a: Axis, has: bool) -> Result<(), Refusal>
     ask(Refusal::Duration, near_or_long(a))
 }
 
-// The same, most of them by the short yes. An excluded end never passes.
+// The same, most of them by the short yes. An excluded end never passes. With one call of the slow row in place of two the
+// compiler would put it into ask_axis, where it costs each call twelve instructions.
 fn ask_usual_durations(a: Axis, has: bool) -> Result<(), Refusal>
     requires { is_duration a.kind ≡ true }
     ensures { result ≡ asked (axis_questions has a) (Ok tt) }

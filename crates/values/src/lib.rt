@@ -8,8 +8,6 @@ ghost use Rattle.values.specs.Values.{is_duration, is_value, Both};
 ghost use Rattle.values.specs.Differences.{difference, nanoseconds_of, whole_days};
 ghost use Rattle.values.specs.Parts.{Bounded, TowardZero, Of, sum};
 
-use calendar::LAST_DAY;
-
 // Date: day number and 0. Date-time: day number and nanosecond of the day. Duration: seconds and nanoseconds.
 #[derive(Clone, Copy, PartialEq, Eq, PartialOrd, Ord)]
 pub struct Value {
@@ -40,10 +38,10 @@ pub fn is_value(kind: i64, v: Value) -> bool
     ensures { result ≡ is_value kind v }
 {
     if (kind <= 3) | (8 <= kind) {
-        return ((1 <= kind) & (kind <= 8)) & ((1 <= v.head) & (v.head <= LAST_DAY) & (v.tail == 0));
+        return ((1 <= kind) & (kind <= 8)) & (calendar::is_day(v.head) & (v.tail == 0));
     }
     if kind <= 6 {
-        return (1 <= v.head) & (v.head <= LAST_DAY) & ((0 <= v.tail) & (v.tail <= 86399999999999));
+        return calendar::is_day(v.head) & ((0 <= v.tail) & (v.tail <= 86399999999999));
     }
     (-315576000000 <= v.head) & (v.head <= 315576000000) & ((0 <= v.tail) & (v.tail <= 999999999))
 }

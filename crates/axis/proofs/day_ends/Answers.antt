@@ -25,6 +25,8 @@ module _ (c : Start) where
 
 pub returns : goal.returns
 returns c = rw (
+  c.is_day.ensures,
+  c.is_day-2.ensures,
   to_z-of_z (start_fits (goal.at.returns c).Start),
   to_z-of_z (end_fits (goal.at.returns c).Start),
   to_z-of_z (start_tail_fits (goal.at.returns c).Start),

@@ -23,6 +23,7 @@ returns-then-kind c = let k = to_z-of_z c.ranges.kind in
     let e : le_z c.args.kind (pos 3) || le_z (pos 8) c.args.kind ≡ true = rw k at c.if-kind.true in
     rw (
       k,
+      c.is_day.ensures,
       to_z-of_z (in_range_law (goal.at.returns-then-kind c).Start).head,
       tested_equal c.args.v.tail (pos 0) (in_range_law (goal.at.returns-then-kind c).Start).tail (count_fits 0 (omega arith)),
     ) (sym (not_between c.args.kind c.args.v e))
@@ -40,6 +41,7 @@ times c = let k = c.args.kind in
 pub returns-then-kind-le6 : goal.returns-then-kind-le6
 returns-then-kind-le6 c =
     rw (
+      c.is_day-then-kind-le6.ensures,
       to_z-of_z (in_range_law (goal.at.returns-then-kind-le6 c).Start).head,
       to_z-of_z (in_range_law (goal.at.returns-then-kind-le6 c).Start).tail,
     )
