@@ -216,10 +216,6 @@ module _ (v : Value) (n : ℤ) (t : a_date_time v ≡ true) (f : SFits w64 n) wh
       (omega (arith, add (v.head +ℤ days n) (pos c), add v.head (days n), parts.head_dn))
       (omega (arith, few, parts.head_most, nano_up, parts.tail_most, (euclid n).rest_most)) (omega (arith, few)))
 
-  pub in_day : within (pos 0) (rem_z nano (pos 86400000000000)) (pos 86399999999999) ≡ true
-  in_day = let r = pos_part nano % 86400000000000 in
-      rw (left_is, is_le (pos 0) (pos r) (omega arith), is_le (pos r) (pos 86399999999999) (omega arith))
-
   pub moved : (v.head +ℤ days n +ℤ quot_z nano (pos 86400000000000)) *ℤ pos 86400000000000 +ℤ rem_z nano (pos 86400000000000)
       ≡ since_zero v +ℤ n
   moved = let c = pos_part nano / 86400000000000 in
