@@ -22,6 +22,7 @@ pub struct Steps {
 }
 
 // The day number of the first day of a month.
+#[tactic(auto, using(calendar::proofs::Dates::a_first), unfolding(crate::specs::Months::first_day))]
 fn first_day(m: u64) -> u64
     requires { m < 120000 }
     ensures { result ≡ first_day m }
@@ -38,6 +39,7 @@ fn month_number(y: u64, m: u64) -> u64
 }
 
 // The month in which a day lies.
+#[tactic(auto, using(crate::proofs::Months::date_ranges), unfolding(crate::specs::Months::month_of))]
 pub fn month_of(day: u64) -> u64
     requires { (1 ≤ day) × (day ≤ 3652425) }
     ensures { result ≡ month_of day }
@@ -47,27 +49,23 @@ pub fn month_of(day: u64) -> u64
 }
 
 // The first month that begins no earlier than a day.
+#[tactic(auto, using(crate::proofs::Months::date_ranges, crate::proofs::Months::in_month), unfolding(crate::specs::Months::whole_month, crate::specs::Months::month_of))]
 pub fn whole_month(day: u64) -> u64
     requires { (1 ≤ day) × (day ≤ 3652425) }
     ensures { result ≡ whole_month day }
 {
     let d = calendar::date_of(day);
     let m = month_number(d.year, d.month);
-    if 1 < d.day {
-        return m + 1;
-    }
-    m
+    if 1 < d.day { m + 1 } else { m }
 }
 
 // How many of 0, step, 2 * step, .. are below room.
+#[tactic(auto, using(crate::proofs::Fitting::rounded_up))]
 pub fn how_many(room: u64, step: u64) -> u64
     requires { 0 < step }
     ensures { result ≡ fitting room step }
 {
-    if room == 0 {
-        return 0;
-    }
-    (room - 1) / step + 1
+    room.div_ceil(step)
 }
 
 // Are k lent numbers two for each tick?
@@ -123,6 +121,7 @@ fn list_even(s: Steps, lent: &mut [i64])
 }
 
 // Sets the pairs of the list at the front of the lent numbers, unless these are too few.
+#[tactic(auto, using(crate::proofs::Fronts::room_for, crate::proofs::Fronts::set_list))]
 pub fn list(s: Steps, lent: &mut [i64]) -> Result<u64, Refusal>
     requires { Sound s }
     ensures value { result ≡ listed_of (ticks s) (length lent.old) }
