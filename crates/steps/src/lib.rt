@@ -49,7 +49,6 @@ pub fn month_of(day: u64) -> u64
 }
 
 // The first month that begins no earlier than a day.
-#[tactic(auto, using(crate::proofs::Months::date_ranges, crate::proofs::Months::in_month), unfolding(crate::specs::Months::whole_month, crate::specs::Months::month_of))]
 pub fn whole_month(day: u64) -> u64
     requires { (1 ≤ day) × (day ≤ 3652425) }
     ensures { result ≡ whole_month day }
