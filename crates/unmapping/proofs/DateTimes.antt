@@ -55,7 +55,9 @@ module _ (day nano : ℤ) (r : within (pos 0) nano (pos 86399999999999) ≡ true
       ∙ in_range_law (date_time_at z) (rw (← p) at e)
     where
       up : neg_part day ≡ 0 → pos_part z ≡ pos_part day * 86400000000000 + pos_part nano
-      up d = omega (arith, joint day nano 86400000000000, d, nano_dn, not_below z (omega (arith, joint day nano 86400000000000, d, nano_dn)))
+      up d =
+          let j = joint day nano 86400000000000 in
+          omega (arith, j, d, nano_dn, not_below z (omega (arith, j, d, nano_dn)))
 
   pub answer_none : is_day day ≡ false → Err refusal.Range ≡ date_time_answer z
   answer_none e =

@@ -3,7 +3,8 @@ use mathlib.Core.Path.{◌≡◌, refl, sym, ◌∙◌, ap}
 use mathlib.Core.Logic.{◌⊎◌, inl, inr}
 use mathlib.Core.Bool.{Bool, true, false, cond, ◌&&◌, ◌||◌}
 use Prim.Native.Nat.{ℕ, zero, suc, ◌+◌, ◌*◌, ◌/◌, ◌%◌, ◌≤◌, ◌<◌, min}
-use native.Mathlib.Nat.{zero-mul, zero-div, le_of_lt, mul-le-mul, mul-le-mul_right, mod-lt, le-div_iff_mul-le, div-le_self, div-le_of_le-mul}
+use native.Mathlib.Nat.{zero-mul, zero-div, le_of_lt, mul-le-mul, mul-le-mul_right, mod-lt}
+use native.Mathlib.Nat.{le-div_iff_mul-le, div-le_self, div-le_of_le-mul}
 use native.Mathlib.Omega.{arith}
 use lib.Dec.{leb}
 use lib.IntN.{ℤ, pos, negsuc, neg_ℤ, nat_abs, ◌+ℤ◌, ◌*ℤ◌}
@@ -50,7 +51,8 @@ abs_rem (negsuc a) (negsuc b) = abs_neg (pos (suc a % suc b))
 abs_sum : (x y : ℤ) → nat_abs (x +ℤ y) ≤ nat_abs x + nat_abs y
 abs_sum x y = go (x +ℤ y) (add x y)
   where
-    go : (z : ℤ) → pos_part z + (neg_part x + neg_part y) ≡ (pos_part x + pos_part y) + neg_part z → nat_abs z ≤ nat_abs x + nat_abs y
+    go : (z : ℤ) → pos_part z + (neg_part x + neg_part y) ≡ (pos_part x + pos_part y) + neg_part z →
+        nat_abs z ≤ nat_abs x + nat_abs y
     go (pos n) e = omega (arith, abs x, abs y)
     go (negsuc n) e = omega (arith, abs x, abs y)
 
@@ -99,7 +101,8 @@ rest_most size rest w h = div-le_of_le-mul w (mul-le-mul_right size (le_of_lt h)
 sum_most : (size : ℕ) (q r : ℤ) (w : ℕ) → size ≤ 65534 → nat_abs r < w → Passed size q r →
     size * nat_abs q + nat_abs r * size / w ≤ 9223372036854775807
 sum_most size q r w l h (inl z) = rw z (omega (arith, rest_most size (nat_abs r) w h))
-sum_most size q r w l h (inr (inr (z, p))) = omega (arith, p, ap (λ (n : ℕ). n * size / w) z ∙ (ap (λ (n : ℕ). n / w) (zero-mul size) ∙ zero-div w))
+sum_most size q r w l h (inr (inr (z, p))) =
+    omega (arith, p, ap (λ (n : ℕ). n * size / w) z ∙ (ap (λ (n : ℕ). n / w) (zero-mul size) ∙ zero-div w))
 sum_most size q r w l h (inr (inl p)) = go (leb size (nat_abs q)) refl
   where
     k : nat_abs r * size / w ≤ size
@@ -107,7 +110,9 @@ sum_most size q r w l h (inr (inl p)) = go (leb size (nat_abs q)) refl
 
     go : (b : Bool) → leb size (nat_abs q) ≡ b → size * nat_abs q + nat_abs r * size / w ≤ 9223372036854775807
     go true e = omega (arith, k, p, leb-true size (nat_abs q) e)
-    go false e = let m : size * nat_abs q ≤ 65534 * 65534 = mul-le-mul {n₁ = size} {m₁ = nat_abs q} {n₂ = 65534} {m₂ = 65534} l (omega (arith, leb-false size (nat_abs q) e)) in
+    go false e =
+        let h : nat_abs q ≤ 65534 = omega (arith, leb-false size (nat_abs q) e) in
+        let m : size * nat_abs q ≤ 65534 * 65534 = mul-le-mul {n₁ = size} {m₁ = nat_abs q} {n₂ = 65534} {m₂ = 65534} l h in
         omega (arith, k, m)
 
 -- ---- all of by_nanoseconds fits
@@ -179,7 +184,8 @@ module _ (v : Value) (n : ℤ) (t : a_date_time v ≡ true) (f : SFits w64 n) wh
 
   few : (neg_part (days n) ≤ 106752) × (pos_part (days n) ≤ 106752)
   few = let c = euclid n in
-      bounded (days n) 106752 106752 (omega (arith, c.sum, c.rest_most, dn_fits n f)) (omega (arith, c.sum, c.rest_most, up_fits n f))
+      bounded (days n) 106752 106752 (omega (arith, c.sum, c.rest_most, dn_fits n f))
+      (omega (arith, c.sum, c.rest_most, up_fits n f))
 
   pub day_fits : SFits w64 (v.head +ℤ days n)
   day_fits = fits (v.head +ℤ days n) (pos_part v.head + pos_part (days n)) (neg_part (days n))

@@ -37,7 +37,8 @@ unfolding earlier
 less_is_earlier a b = rw (not_greater a.head b.head)
     (go (lt_z a.head b.head) (lt_z b.head a.head) (lt_z a.tail b.tail) (lt_z b.tail a.tail))
   where
-    go : (x y t u : Bool) → is_some_and is_lt (partial_ordering_then (Some (compared x y)) (Some (compared t u))) ≡ x || (not y && t)
+    go : (x y t u : Bool) → is_some_and is_lt (partial_ordering_then (Some (compared x y)) (Some (compared t u)))
+        ≡ x || (not y && t)
     go true y t u = refl
     go false true t u = refl
     go false false true u = refl

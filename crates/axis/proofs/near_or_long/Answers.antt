@@ -58,6 +58,7 @@ turned true s e = rw e
 turned false s e = rw e
 
 pub returns : goal.returns
-returns c = turned c.is_none.result _ c.is_none.ensures ∙ ap (λ (n : Option ℤ). not (is_some n)) c.span.ensures ∙ far_ends c.args.a
+returns c = turned c.is_none.result _ c.is_none.ensures
+    ∙ ap (λ (n : Option ℤ). not (is_some n)) c.span.ensures ∙ far_ends c.args.a
     (seven (goal.at.returns c).Else-not-is_duration) (sym (near (goal.at.returns c).After-near_zero-2)
     ∙ c.if-near_zero.false) c.requires.0 c.requires.1

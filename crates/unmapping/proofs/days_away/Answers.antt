@@ -21,7 +21,8 @@ in_range_law c = search rules
 pub returns : goal.returns
 returns c = let v = c.args.v in
     let r = in_range_law (goal.at.returns c).Start in
-    let t : within (pos 0) v.tail (pos 86399999999999) ≡ true = (both_true (is_day v.head) (within (pos 0) v.tail (pos 86399999999999)) c.requires).1 in
+    let t : within (pos 0) v.tail (pos 86399999999999) ≡ true =
+    (both_true (is_day v.head) (within (pos 0) v.tail (pos 86399999999999)) c.requires).1 in
     let s : c.saturating_add.result ≡ saturate_signed w64 (v.head +ℤ c.args.n) =
     rw (to_z-of_z r.head, to_z-of_z c.ranges.n) at c.saturating_add.ensures in
     let e : c.on_calendar.result ≡ date_time_answer (at v.tail c.saturating_add.result) =

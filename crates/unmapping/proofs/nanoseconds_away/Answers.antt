@@ -45,7 +45,8 @@ module _ (c : After-rem_euclid) where
 
 pub overflow_add-day-2 : goal.overflow_add-day-2
 overflow_add-day-2 c = let p = (goal.at.overflow_add-day-2 c).After-rem_euclid in
-    rw (day_is p, nano_is p, to_z-of_z (carry_fits (v p) (n p) c.requires c.ranges.n)) (next_fits (v p) (n p) c.requires c.ranges.n)
+    rw (day_is p, nano_is p, to_z-of_z (carry_fits (v p) (n p) c.requires c.ranges.n))
+    (next_fits (v p) (n p) c.requires c.ranges.n)
 
 pub returns : goal.returns
 returns c = let p = (goal.at.returns c).After-rem_euclid in
