@@ -2,20 +2,23 @@
 use mathlib.Core.Path.{◌≡◌, refl, sym, ◌∙◌}
 use mathlib.Core.Bool.{Bool, true, false, not, cond}
 use mathlib.Core.List.{List, [], ◌∷◌}
-use mathlib.Core.Option.{Option, none, some}
 use Prim.Native.Nat.{ℕ, zero, suc, ◌≤◌, ◌<◌}
 use native.Mathlib.Omega.{arith}
-use borrow.Author.Tests.{eqb-true, eqb-false, eq-eqb, ne_eqb, ltb-true, ltb-false, lt-ltb, le-ltb}
-use lib.Dec.{ltb, eqb}
+use borrow.Author.Tests.{eqb-true, eqb-false, eq-eqb, ne_eqb, ltb-true, ltb-false, lt-ltb, le-ltb, le-leb, lt-leb}
+use native.Mathlib.Decide.{dec_le}
+use lib.Dec.{leb, ltb, eqb}
 use lib.ListN.{length}
-use Rattle.laws.specs.Asking.{ask, first_no}
+use Rattle.std.specs.Prelude.{⊤, Option, None, Some, Result, Ok, Err}
+use Rattle.asking.specs.declared.Refusal.{Refusal}
+use Rattle.asking.specs.declared.Refusal.TheVariants as refusal
+use Rattle.asking.specs.Asking.{ask, asked}
 use Rattle.rules.specs.declared.Row.{Row}
 use Rattle.rules.specs.Rows.{row_at, InRange, AllInRange}
 use Rattle.rules.specs.Cover.{lengths, is_for, rows_for, first_for, row_for, lacking, doubled}
-use Rattle.rules.specs.Table.{table_of, rows_read, rows_in, questions_of, table_questions, sizes, refusal_of}
+use Rattle.rules.specs.Table.{table_of, rows_read, rows_in, length_questions, table_questions, sizes}
 use Rattle.rules.specs.Claims.{EachLength, SomeLength, Fitting, verdict, Judged, Judges}
 use Rattle.rules.proofs.Some.{some_one, none_at, none_is, some_is}
-use Rattle.rules.proofs.Lengths.{ends, between, has_row, total, together, no_more, one_more}
+use Rattle.rules.proofs.Lengths.{ends, between, has_row, met, some_row, total, together, no_more, one_more}
 use Rattle.rules.proofs.Reading.{table_in_range}
 
 -- the row that is found, where a length has one row
@@ -108,85 +111,77 @@ module _ (ws : List Row) where
           sym (lt-ltb lengths (sizes ws) (omega (arith, t, one_more ws lengths l (lacks_none e) h m)))
       go false p t = sym (le-ltb lengths (sizes ws) (omega (arith, t, no_more ws lengths (doubles_none p))))
 
+  -- as the code asks it
+  pub by_sum : AllInRange ws → lacking ws ≡ false → not (doubled ws) ≡ leb (sizes ws) 3652059
+  by_sum r e = elim (dec_le (sizes ws) 3652059) [
+    | yes l ↦ rw (by_sizes r e, le-ltb lengths (sizes ws) (no_more_than l), le-leb (sizes ws) 3652059 l) refl
+    | no l ↦ let m : 3652059 < sizes ws = omega arith in
+        rw (by_sizes r e, lt-ltb lengths (sizes ws) (more_than m), lt-leb (sizes ws) 3652059 m) refl
+  ]
+
 -- the verdict of a table that reads
-asked_of : (ws : List Row) → first_no (questions_of (some ws)) ≡ refusal_of ws
-unfolding refusal_of
-asked_of ws = go (lacking ws) (doubled ws)
+abbrev judge : Bool → Bool → Result ⊤ Refusal
+judge lacks two = cond lacks (Err refusal.Gap) (cond two (Err refusal.Overlap) (Ok tt))
+
+verdict_is : (s : List ℕ) (ws : List Row) → table_of s ≡ Some ws → (p q : Bool) → lacking ws ≡ p → doubled ws ≡ q →
+    verdict s ≡ judge p q
+unfolding table_questions
+verdict_is s ws t p q e f = rw (t, e, f) (go p q)
   where
-    go : (p q : Bool) → first_no (ask 12 true ∷ (ask 15 (not p) ∷ (ask 16 (not q) ∷ []))) ≡ cond p 15 (cond q 16 0)
+    go : (p q : Bool) → asked (ask refusal.Gap (not p) ∷ (ask refusal.Overlap (not q) ∷ [])) (Ok tt) ≡ judge p q
     go true q = refl
     go false true = refl
     go false false = refl
 
-pub verdict_is : (s : List ℕ) (ws : List Row) → table_of s ≡ some ws → verdict s ≡ refusal_of ws
-unfolding table_questions
-verdict_is s ws e = rw e (asked_of ws)
-
-pub unread_is : (s : List ℕ) → table_of s ≡ none → verdict s ≡ 12
+unread_is : (s : List ℕ) → table_of s ≡ None → verdict s ≡ Err refusal.Table
 unfolding table_questions
 unread_is s e = rw e refl
 
-refused : (ws : List Row) (p q : Bool) → lacking ws ≡ p → doubled ws ≡ q → refusal_of ws ≡ cond p 15 (cond q 16 0)
-unfolding refusal_of
-refused ws p q e f = rw (e, f) refl
-
--- the three cases, as the code asks for them
-module _ (ws : List Row) where
-  pub lacks_one : lacking ws ≡ true → 15 ≡ refusal_of ws
-  lacks_one e = sym (refused ws true (doubled ws) e refl)
-
-  module _ (r : AllInRange ws) (e : lacking ws ≡ false) where
-    pub has_two : 3652059 < sizes ws → 16 ≡ refusal_of ws
-    has_two h = sym (refused ws false true e (by_sizes ws r e ∙ lt-ltb lengths (sizes ws) (more_than h)))
-
-    pub has_one : sizes ws ≤ 3652059 → 0 ≡ refusal_of ws
-    has_one h = sym (refused ws false false e (by_sizes ws r e ∙ le-ltb lengths (sizes ws) (no_more_than h)))
-
-module _ (s : List ℕ) (ws : List Row) (t : table_of s ≡ some ws) where
+module _ (s : List ℕ) (ws : List Row) (t : table_of s ≡ Some ws) where
   few_and_ranges : (length ws ≤ 64) × AllInRange ws
   few_and_ranges = table_in_range s ws t
 
   -- by the two tests
   by_tests : (p q : Bool) → lacking ws ≡ p → doubled ws ≡ q → Judged s ws
   by_tests true q e f =
-      let r : verdict s ≡ 15 = verdict_is s ws t ∙ refused ws true q e f in
+      let r : verdict s ≡ Err refusal.Gap = verdict_is s ws t true q e f in
       let n = lacks ws e in
       record {
         few = few_and_ranges.0;
         ranges = few_and_ranges.1;
         fifteen = (λ q. n, λ q. r);
         sixteen = (
-          λ q. absurd (let z : ⊥ = omega arith in z),
+          λ q. absurd (let z : ⊥ = cc in z),
           λ q. absurd (let z : ⊥ = omega (arith, q.0 n.0 n.1, n.2) in z),
         );
         accepted = (
-          λ q. absurd (let z : ⊥ = omega arith in z),
+          λ q. absurd (let z : ⊥ = cc in z),
           λ g. absurd (let z : ⊥ = omega (arith, g n.0 n.1, n.2) in z),
         );
-        found = λ q. absurd (let z : ⊥ = omega arith in z);
-        only = λ q. absurd (let z : ⊥ = omega arith in z);
+        found = λ q. absurd (let z : ⊥ = cc in z);
+        only = λ q. absurd (let z : ⊥ = cc in z);
       }
   by_tests false true e f =
-      let r : verdict s ≡ 16 = verdict_is s ws t ∙ refused ws false true e f in
+      let r : verdict s ≡ Err refusal.Overlap = verdict_is s ws t false true e f in
       let a = lacks_none ws e in
       let m = doubles ws f in
       record {
         few = few_and_ranges.0;
         ranges = few_and_ranges.1;
         fifteen = (
-          λ q. absurd (let z : ⊥ = omega arith in z),
+          λ q. absurd (let z : ⊥ = cc in z),
           λ n. absurd (let z : ⊥ = omega (arith, a n.0 n.1, n.2) in z),
         );
         sixteen = (λ q. (a, m), λ q. r);
         accepted = (
-          λ q. absurd (let z : ⊥ = omega arith in z),
+          λ q. absurd (let z : ⊥ = cc in z),
           λ g. absurd (let z : ⊥ = omega (arith, g m.0 m.1, m.2) in z),
         );
-        found = λ q. absurd (let z : ⊥ = omega arith in z);
-        only = λ q. absurd (let z : ⊥ = omega arith in z);
+        found = λ q. absurd (let z : ⊥ = cc in z);
+        only = λ q. absurd (let z : ⊥ = cc in z);
       }
   by_tests false false e f =
-      let r : verdict s ≡ 0 = verdict_is s ws t ∙ refused ws false false e f in
+      let r : verdict s ≡ Ok tt = verdict_is s ws t false false e f in
       let a = lacks_none ws e in
       let o = doubles_none ws f in
       let one : EachLength (λ l. rows_for ws l ≡ 1) = λ l h. omega (arith, a l h, o l h) in
@@ -194,11 +189,11 @@ module _ (s : List ℕ) (ws : List Row) (t : table_of s ≡ some ws) where
         few = few_and_ranges.0;
         ranges = few_and_ranges.1;
         fifteen = (
-          λ q. absurd (let z : ⊥ = omega arith in z),
+          λ q. absurd (let z : ⊥ = cc in z),
           λ n. absurd (let z : ⊥ = omega (arith, a n.0 n.1, n.2) in z),
         );
         sixteen = (
-          λ q. absurd (let z : ⊥ = omega arith in z),
+          λ q. absurd (let z : ⊥ = cc in z),
           λ q. absurd (let z : ⊥ = omega (arith, o q.1.0 q.1.1, q.1.2) in z),
         );
         accepted = (λ q. one, λ g. r);
@@ -213,29 +208,44 @@ module _ (s : List ℕ) (ws : List Row) (t : table_of s ≡ some ws) where
 pub judges : (s : List ℕ) → Judges s
 judges s = record { twelve = (λ e. go (table_of s) refl e, unread_is s); others = judged s }
   where
-    go : (o : Option (List Row)) → table_of s ≡ o → verdict s ≡ 12 → table_of s ≡ none
-    go none p e = p
-    go (some ws) p e = absurd (no_twelve (lacking ws) (doubled ws) (sym (refused ws (lacking ws) (doubled ws) refl refl)
-        ∙ sym (verdict_is s ws p) ∙ e))
+    go : (o : Option (List Row)) → table_of s ≡ o → verdict s ≡ Err refusal.Table → table_of s ≡ None
+    go None p e = p
+    go (Some ws) p e = absurd (no_twelve (lacking ws) (doubled ws) (sym (verdict_is s ws p (lacking ws) (doubled ws) refl refl) ∙ e))
       where
-        no_twelve : (x y : Bool) → ◌≡◌ {A = ℕ} (cond x 15 (cond y 16 0)) 12 → ⊥
-        no_twelve true y e = omega arith
-        no_twelve false true e = omega arith
-        no_twelve false false e = omega arith
+        no_twelve : (x y : Bool) → judge x y ≡ Err refusal.Table → ⊥
+        no_twelve true y e = cc
+        no_twelve false true e = cc
+        no_twelve false false e = cc
+
+-- ---- the rows, where the table is accepted
+module _ (s : List ℕ) where
+  pub asked_unread : table_of s ≡ None → asked (table_questions s) (Ok (rows_in s)) ≡ Err refusal.Table
+  unfolding table_questions
+  asked_unread e = rw e refl
+
+  pub asked_read : (ws : List Row) → table_of s ≡ Some ws →
+      asked (table_questions s) (Ok (rows_in s)) ≡ asked (length_questions ws) (Ok ws)
+  unfolding table_questions
+  asked_read ws e = rw e refl
 
 -- ---- an accepted table
-pub accepted_table : (s : List ℕ) → verdict s ≡ 0 → table_of s ≡ some (rows_in s)
+pub accepted_table : (s : List ℕ) → verdict s ≡ Ok tt → table_of s ≡ Some (rows_in s)
 accepted_table s e = go (table_of s) refl
   where
-    go : (o : Option (List Row)) → table_of s ≡ o → o ≡ some (rows_read o)
-    go (some ws) p = refl
-    go none p = absurd (let z : ⊥ = omega (arith, unread_is s p) in z)
+    go : (o : Option (List Row)) → table_of s ≡ o → o ≡ Some (rows_read o)
+    go (Some ws) p = refl
+    go None p = absurd (let z : Err refusal.Table ≡ Ok tt = sym (unread_is s p) ∙ e in let y : ⊥ = cc in y)
 
-pub rows_few : (s : List ℕ) → verdict s ≡ 0 → length (rows_in s) ≤ 64
+pub rows_few : (s : List ℕ) → verdict s ≡ Ok tt → length (rows_in s) ≤ 64
 rows_few s e = ((judges s).others (rows_in s) (accepted_table s e)).few
 
 -- each length has a row in range
-pub row_found : (s : List ℕ) → verdict s ≡ 0 → (l : ℕ) → l ≤ 3652058 → InRange (row_for (rows_in s) l)
+pub row_found : (s : List ℕ) → verdict s ≡ Ok tt → (l : ℕ) → l ≤ 3652058 →
+    (w : Row) × (row_for (rows_in s) l ≡ Some w) × InRange w
 row_found s e l h =
-    let j = (judges s).others (rows_in s) (accepted_table s e) in
-    j.ranges (first_for (rows_in s) l) (j.found e l (a_length h)).inside
+    let ws = rows_in s in
+    let j = (judges s).others ws (accepted_table s e) in
+    let one : rows_for ws l ≡ 1 = j.accepted.0 e l (a_length h) in
+    let (w, r) = some_row ws l (omega arith) in
+    let (i, p, q) = met ws l w r in
+    (w, r, rw p (j.ranges (first_for ws l) i))

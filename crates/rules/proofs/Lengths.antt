@@ -1,6 +1,6 @@
 -- The rows for a length, and how many lengths all rows are for: their sizes together are the rows of all lengths together.
 -- Assumes nothing.
-use mathlib.Core.Path.{◌≡◌, refl}
+use mathlib.Core.Path.{◌≡◌, refl, sym, subst}
 use mathlib.Core.Bool.{Bool, true, false, cond}
 use mathlib.Core.List.{List, [], ◌∷◌}
 use mathlib.Core.Logic.{inl, inr}
@@ -11,10 +11,11 @@ use native.Mathlib.Omega.{arith}
 use borrow.Author.Tests.{leb-true, le-leb}
 use lib.Dec.{leb}
 use lib.ListN.{length}
+use Rattle.std.specs.Prelude.{None, Some}
 use Rattle.laws.proofs.Tests.{both_true}
 use Rattle.rules.specs.declared.Row.{Row}
 use Rattle.rules.specs.Rows.{row_at, AllInRange}
-use Rattle.rules.specs.Cover.{is_for, rows_for, first_for}
+use Rattle.rules.specs.Cover.{is_for, rows_for, first_for, row_for}
 use Rattle.rules.specs.Table.{sizes}
 
 -- ---- a row for a length
@@ -35,26 +36,39 @@ has_row (w ∷ ws) l (suc k) h e = go (is_for w l) (has_row ws l k (omega arith)
     go false h = h
 
 -- the first row for a length, where there is one
-pub first_is : (ws : List Row) (l : ℕ) → first_for ws l < length ws → is_for (row_at ws (first_for ws l)) l ≡ true
+pub met : (ws : List Row) (l : ℕ) (w : Row) → row_for ws l ≡ Some w →
+    (first_for ws l < length ws) × (w ≡ row_at ws (first_for ws l)) × (is_for w l ≡ true)
 unfolding first_for
-first_is [] l h = absurd (let z : ⊥ = omega arith in z)
-first_is (w ∷ ws) l h = go (is_for w l) refl h (first_is ws l)
+met [] l w e = absurd (let z : ⊥ = cc in z)
+met (v ∷ ws) l w e = go (is_for v l) refl e (met ws l w)
   where
-    go : (b : Bool) → is_for w l ≡ b → cond b 0 (suc (first_for ws l)) < suc (length ws)
-        → (first_for ws l < length ws → is_for (row_at ws (first_for ws l)) l ≡ true)
-        → is_for (row_at (w ∷ ws) (cond b 0 (suc (first_for ws l)))) l ≡ true
-    go true e h f = e
-    go false e h f = f (omega arith)
+    go : (b : Bool) → is_for v l ≡ b → cond b (Some v) (row_for ws l) ≡ Some w
+        → (row_for ws l ≡ Some w → (first_for ws l < length ws) × (w ≡ row_at ws (first_for ws l)) × (is_for w l ≡ true))
+        → let f = cond b 0 (suc (first_for ws l)) in
+        (f < suc (length ws)) × (w ≡ row_at (v ∷ ws) f) × (is_for w l ≡ true)
+    go true p e f = let z : v ≡ w = cc in (omega arith, sym z, subst (λ (x : Row). is_for x l ≡ true) z p)
+    go false p e f = let (a, b, c) = f e in (omega arith, b, c)
 
-pub none_first : (ws : List Row) (l : ℕ) → length ws ≤ first_for ws l → rows_for ws l ≡ 0
-unfolding first_for rows_for
-none_first [] l h = refl
-none_first (w ∷ ws) l h = go (is_for w l) h (none_first ws l)
+pub no_row : (ws : List Row) (l : ℕ) → row_for ws l ≡ None → rows_for ws l ≡ 0
+unfolding rows_for
+no_row [] l e = refl
+no_row (w ∷ ws) l e = go (is_for w l) e (no_row ws l)
   where
-    go : (b : Bool) → suc (length ws) ≤ cond b 0 (suc (first_for ws l)) → (length ws ≤ first_for ws l → rows_for ws l ≡ 0)
+    go : (b : Bool) → cond b (Some w) (row_for ws l) ≡ None → (row_for ws l ≡ None → rows_for ws l ≡ 0)
         → cond b (suc (rows_for ws l)) (rows_for ws l) ≡ 0
-    go true h f = absurd (let z : ⊥ = omega arith in z)
-    go false h f = f (omega arith)
+    go true e f = absurd (let z : ⊥ = cc in z)
+    go false e f = f e
+
+-- and it is found where a length has one
+pub some_row : (ws : List Row) (l : ℕ) → 0 < rows_for ws l → (w : Row) × (row_for ws l ≡ Some w)
+unfolding rows_for
+some_row [] l h = absurd (let z : ⊥ = omega arith in z)
+some_row (w ∷ ws) l h = go (is_for w l) h (some_row ws l)
+  where
+    go : (b : Bool) → 0 < cond b (suc (rows_for ws l)) (rows_for ws l) → (0 < rows_for ws l → (v : Row) × (row_for ws l ≡ Some v))
+        → (v : Row) × (cond b (Some w) (row_for ws l) ≡ Some v)
+    go true h f = (w, refl)
+    go false h f = f h
 
 -- ---- rows and lengths together
 -- the rows of the lengths below n, all together

@@ -1,6 +1,5 @@
 -- The laws of the tables of house rules.
 pub mod Some
-pub mod Rows
 pub mod Lengths
 pub mod Reading
 pub mod Judged

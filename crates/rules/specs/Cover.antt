@@ -1,16 +1,16 @@
 -- Which rows are for a span length, and whether each length has exactly one. Definitions only.
-use Rattle.std.specs.Prelude.{Bool, false, cond, ◌&&◌, ◌||◌, List, [], ◌∷◌, ℕ, zero, suc, leb, ltb, eqb, take}
+use Rattle.std.specs.Prelude.{Bool, false, cond, ◌&&◌, ◌||◌, List, [], ◌∷◌, ℕ, zero, suc, leb, ltb, eqb, Option}
+use Rattle.std.specs.List.{find}
+use Rattle.arrayvec.specs.ArrayVec.{ArrayVec}
 use Rattle.rules.specs.declared.Row.{Row}
-use Rattle.rules.specs.declared.Rules.{Rules}
-use Rattle.rules.specs.Rows.{row_at}
 
 -- the span lengths are 0 to 3,652,058: the numbers below this one
 unfoldable pub lengths : ℕ
 lengths = 3652059
 
 -- the rows of a table, in their order
-abbrev pub rows_of : Rules → List Row
-rows_of r = take r.count r.rows
+abbrev pub rows_of : ArrayVec Row → List Row
+rows_of r = r.items
 
 -- a row is for the lengths between its two ends, both included
 abbrev pub is_for : Row → ℕ → Bool
@@ -26,9 +26,9 @@ unfoldable pub first_for : List Row → ℕ → ℕ
 first_for [] l = 0
 first_for (w ∷ ws) l = cond (is_for w l) 0 (suc (first_for ws l))
 
--- the first row for a length; zeros without one
-abbrev pub row_for : List Row → ℕ → Row
-row_for ws l = row_at ws (first_for ws l)
+-- the first row for a length
+abbrev pub row_for : List Row → ℕ → Option Row
+row_for ws l = find (λ w. is_for w l) ws
 
 -- a test holds of some number below n
 unfoldable pub some : (ℕ → Bool) → ℕ → Bool
