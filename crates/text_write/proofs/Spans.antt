@@ -1,14 +1,14 @@
 -- The text of a duration, by how far its head and its tail are from zero. Assumes nothing.
 use mathlib.Core.Path.{◌≡◌, refl}
 use mathlib.Core.Bool.{Bool, true, false, cond}
-use mathlib.Core.List.{List, [], ◌∷◌, ◌++◌}
-use Prim.Native.Nat.{ℕ, ◌+◌, ◌*◌, ◌/◌, ◌%◌, ◌≤◌, ◌<◌}
+use mathlib.Core.List.{[], ◌∷◌, ◌++◌}
+use Prim.Native.Nat.{ℕ, ◌+◌, ◌*◌, ◌/◌, ◌%◌, ◌<◌}
 use native.Mathlib.Omega.{arith}
 use lib.IntN.{ℤ, pos, nat_abs}
 use lib.Signed.{lt_z}
 use Rattle.laws.specs.Numbers.{pos_part, neg_part}
 use Rattle.laws.specs.Units.{per_second}
-use Rattle.laws.proofs.Signed.{is_lt, is_ge, abs}
+use Rattle.laws.proofs.Signed.{is_lt, is_ge, lt_true, lt_false, abs}
 use Rattle.values.specs.declared.Value.{Value}
 use Rattle.values.specs.Values.{is_value}
 use Rattle.values.specs.Differences.{nanoseconds}
@@ -16,41 +16,42 @@ use Rattle.values.proofs.Numbers.{not_below, not_above}
 use Rattle.values.proofs.Values.{duration_value}
 use Rattle.values.proofs.Joining.{joint}
 use Rattle.text_read.specs.Bytes.{minus_byte}
-use Rattle.text_write.specs.Texts.{Wrote, decimal_text, fraction_text, span_text}
+use Rattle.text_write.specs.Texts.{decimal_text, fraction_text, span_text}
 
 -- s seconds and q nanoseconds from 0
-by_seconds : {at r : ℕ} {d a : List ℕ} (shown : Bool) (t : ℤ) (s q : ℕ) (below : Bool) → lt_z t (pos 0) ≡ below →
-    Wrote (cond below (minus_byte ∷ []) [] ++ decimal_text s ++ fraction_text shown q) at d r a →
-    nat_abs t ≡ s * per_second + q → q < per_second → Wrote (span_text shown t) at d r a
-by_seconds shown t s q below b w e l =
+by_seconds : (shown : Bool) (t : ℤ) (s q : ℕ) (below : Bool) → lt_z t (pos 0) ≡ below → nat_abs t ≡ s * per_second + q →
+    q < per_second → cond below (minus_byte ∷ []) [] ++ decimal_text s ++ fraction_text shown q ≡ span_text shown t
+by_seconds shown t s q below b e l =
     let x : nat_abs t / per_second ≡ s = omega arith in
     let y : nat_abs t % per_second ≡ q = omega arith in
-    rw (b, x, y) w
+    rw (b, x, y)
 
 module _ (shown : Bool) (v : Value) (value : is_value (pos 7) v ≡ true) where
   abbrev t : ℤ
   t = nanoseconds (pos 7) v
 
-  pub from_zero : {at r : ℕ} {d a : List ℕ} (s q : ℕ) → neg_part v.head ≤ pos_part v.head →
-      Wrote (decimal_text s ++ fraction_text shown q) at d r a →
-      s ≡ nat_abs v.head → q ≡ pos_part v.tail → Wrote (span_text shown t) at d r a
+  pub tail_most : pos_part v.tail < per_second
+  tail_most = omega (arith, duration_value (pos 7) v value refl)
+
+  pub from_zero : (s q : ℕ) → lt_z v.head (pos 0) ≡ false → s ≡ nat_abs v.head → q ≡ pos_part v.tail →
+      decimal_text s ++ fraction_text shown q ≡ span_text shown t
   unfolding nanoseconds
-  from_zero s q h w e f =
+  from_zero s q h e f =
       let r = duration_value (pos 7) v value refl in
       let j = joint v.head v.tail per_second in
-      let x = not_below v.head h in
+      let x = not_below v.head (omega (arith, lt_false v.head (pos 0) h)) in
       let y = not_below t (omega arith) in
-      by_seconds shown t s q false (is_ge t (pos 0) (omega arith)) w (omega (arith, abs t, abs v.head)) (omega arith)
+      by_seconds shown t s q false (is_ge t (pos 0) (omega arith)) (omega (arith, abs t, abs v.head)) (omega arith)
 
   -- the tail counts upward: it takes from how far the head is from zero
-  pub below_zero : {at r : ℕ} {d a : List ℕ} (s q : ℕ) → pos_part v.head < neg_part v.head →
-      Wrote ((minus_byte ∷ []) ++ decimal_text s ++ fraction_text shown q) at d r a →
+  pub below_zero : (s q : ℕ) → lt_z v.head (pos 0) ≡ true →
       s * per_second + q + pos_part v.tail ≡ nat_abs v.head * per_second → q < per_second →
-      Wrote (span_text shown t) at d r a
+      (minus_byte ∷ []) ++ decimal_text s ++ fraction_text shown q ≡ span_text shown t
   unfolding nanoseconds
-  below_zero s q h w e l =
+  below_zero s q h e l =
       let r = duration_value (pos 7) v value refl in
       let j = joint v.head v.tail per_second in
+      let z : pos_part v.head < neg_part v.head = omega (arith, lt_true v.head (pos 0) h) in
       let x = not_above v.head (omega arith) in
       let y = not_above t (omega arith) in
-      by_seconds shown t s q true (is_lt t (pos 0) (omega arith)) w (omega (arith, abs t, abs v.head)) l
+      by_seconds shown t s q true (is_lt t (pos 0) (omega arith)) (omega (arith, abs t, abs v.head)) l

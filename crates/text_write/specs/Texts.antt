@@ -1,17 +1,20 @@
 -- The texts of numbers, dates, times and spans, as bytes, and what a writer leaves in a buffer. Definitions only.
-use Rattle.std.specs.Prelude.{◌≡◌, Bool, cond, List, [], ◌∷◌, ◌++◌, ℕ, zero, suc, ◌+◌, ◌/◌, ◌%◌, ltb, ℤ, pos, nat_abs, length}
+use Rattle.std.specs.Prelude.{◌≡◌, Bool, cond, List, [], ◌∷◌, ◌++◌, ℕ, zero, suc, ◌+◌, ◌/◌, ◌%◌, ◌≤◌, ltb, ℤ, pos, nat_abs}
 use Rattle.std.specs.Int.Signed.{lt_z}
-use Rattle.std.proofs.lemmas.List.Edits.{sets}
+use Rattle.arrayvec.specs.ArrayVec.{ArrayVec, array_vec_len}
 use Rattle.laws.specs.Units.{per_second}
 use Rattle.calendar.specs.declared.Date.{Date}
 use Rattle.calendar.specs.Gregorian.{date_of}
 use Rattle.text_read.specs.Bytes.{minus_byte, point_byte, zero_byte, colon_byte, t_byte}
 
--- after a writer that was given the place `at` and the buffer `before`: the buffer is `before` with the text stored from
--- `at` on, and r is the place after the text
-pub record Wrote (text : List ℕ) (at : ℕ) (before : List ℕ) (r : ℕ) (after : List ℕ) : Type 0 where
-  pub reached : r ≡ at + length text
-  pub stored : after ≡ sets before at text
+-- k bytes more fit behind what an output holds
+abbrev pub Room : ℕ → ArrayVec ℕ → Type 0
+Room k before = array_vec_len before + k ≤ 532610
+
+-- a text of at most k bytes was written behind what an output held
+pub record Wrote (k : ℕ) (text : List ℕ) (before after : ArrayVec ℕ) : Type 0 where
+  pub behind : after.items ≡ before.items ++ text
+  pub most : array_vec_len after ≤ array_vec_len before + k
 
 -- a digit's byte
 abbrev pub digit : ℕ → ℕ

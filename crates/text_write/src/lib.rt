@@ -1,124 +1,94 @@
-// Writers of plate's text into a lent buffer: numbers, dates, ticks, pixels and the lines of the output. Each writes its
-// text from a place on and answers the place after it; the rest of the buffer is as it was.
+// Writers of plate's text behind what an output holds: numbers, dates, ticks, pixels and the lines of the output.
 #![tactic(auto)]
 
-ghost use Rattle.std.specs.Prelude.{◌≡◌, true, ◌∷◌, [], ◌+◌, ◌≤◌, ◌<◌, pos, length};
+ghost use Rattle.std.specs.Prelude.{◌≡◌, true, ◌+◌, ◌≤◌, pos};
 ghost use Rattle.laws.specs.Numbers.{pos_part};
 ghost use Rattle.calendar.specs.Questions.{last_day};
 ghost use Rattle.values.specs.Values.{is_value};
 ghost use Rattle.values.specs.Differences.{nanoseconds};
-ghost use Rattle.text_write.specs.Texts.{Wrote, fixed_text, up_to_text, decimal_text, signed_text};
+ghost use Rattle.text_write.specs.Texts.{Room, Wrote, fixed_text, up_to_text, decimal_text, signed_text};
 ghost use Rattle.text_write.specs.Texts.{triple_text, date_text, time_text, fraction_text, date_time_text, span_text};
 ghost use Rattle.text_write.specs.Rows.{tick_text, mark_text, row_text, refusal_text};
 
-use mapping::Pixel;
+use arrayvec::ArrayVec;
+use asking::Refusal;
+use mapping::Hairline;
 use values::Value;
 
-fn byte(out: &mut [u8], at: usize, b: u8) -> usize
-    requires { at < length out.old }
-    ensures wrote { Wrote (b ∷ []) at out.old result out.new }
-    ensures value { (result ≡ at + 1) × (length out.new ≡ length out.old) }
-{
-    out[at] = b;
-    at + 1
-}
-
-pub fn bytes(out: &mut [u8], at: usize, text: &[u8]) -> usize
-    requires { at + length text.now ≤ length out.old }
-    ensures wrote { Wrote text.now at out.old result out.new }
-    ensures value { (result ≡ at + length text.now) × (length out.new ≡ length out.old) }
-{
-    let mut i: usize = 0;
-    let mut p = at;
-    while i < text.len() {
-        p = byte(out, p, text[i]);
-        i += 1;
-    }
-    p
-}
+// Lines that wait to be printed, in memory that does not grow: there is room for what a line of input prints, and for
+// 225,335 bytes before it, so a chunk of short lines is printed at once.
+pub type Output = ArrayVec<u8, 532610>;
 
 // The last w digits of n.
-fn fixed(out: &mut [u8], at: usize, w: usize, n: u64) -> usize
-    requires { at + w ≤ length out.old }
-    ensures wrote { Wrote (fixed_text w n) at out.old result out.new }
-    ensures value { (result ≡ at + w) × (length out.new ≡ length out.old) }
+fn fixed(out: &mut Output, w: usize, n: u64)
+    requires { Room w out.old }
+    ensures { Wrote w (fixed_text w n) out.old out.new }
 {
-    if w == 0 {
-        return at;
+    if 0 < w {
+        fixed(out, w - 1, n / 10);
+        out.push(b'0' + (n % 10) as u8);
     }
-    let p = fixed(out, at, w - 1, n / 10);
-    byte(out, p, b'0' + (n % 10) as u8)
 }
 
 // n with no zeros in front, where k digits suffice.
-fn up_to(out: &mut [u8], at: usize, k: usize, n: u64) -> usize
-    requires { at + k ≤ length out.old }
-    ensures wrote { Wrote (up_to_text k n) at out.old result out.new }
-    ensures upper_bound { (result ≤ at + k) × (length out.new ≡ length out.old) }
+fn up_to(out: &mut Output, k: usize, n: u64)
+    requires { Room k out.old }
+    ensures { Wrote k (up_to_text k n) out.old out.new }
 {
     if k == 0 {
-        return at;
+        return;
     }
-    if n < 10 {
-        return byte(out, at, b'0' + (n % 10) as u8);
+    if 10 <= n {
+        up_to(out, k - 1, n / 10);
     }
-    let p = up_to(out, at, k - 1, n / 10);
-    byte(out, p, b'0' + (n % 10) as u8)
+    out.push(b'0' + (n % 10) as u8);
 }
 
-fn decimal(out: &mut [u8], at: usize, n: u64) -> usize
-    requires { at + 20 ≤ length out.old }
-    ensures wrote { Wrote (decimal_text n) at out.old result out.new }
-    ensures upper_bound { (result ≤ at + 20) × (length out.new ≡ length out.old) }
+fn decimal(out: &mut Output, n: u64)
+    requires { Room 20 out.old }
+    ensures { Wrote 20 (decimal_text n) out.old out.new }
 {
-    up_to(out, at, 20, n)
+    up_to(out, 20, n)
 }
 
-fn signed(out: &mut [u8], at: usize, n: i64) -> usize
-    requires { at + 21 ≤ length out.old }
-    ensures wrote { Wrote (signed_text n) at out.old result out.new }
-    ensures upper_bound { (result ≤ at + 21) × (length out.new ≡ length out.old) }
+fn signed(out: &mut Output, n: i64)
+    requires { Room 21 out.old }
+    ensures { Wrote 21 (signed_text n) out.old out.new }
 {
-    let m = floats::unsigned_abs(n);
     if n < 0 {
-        let p = byte(out, at, b'-');
-        return decimal(out, p, m);
+        out.push(b'-');
     }
-    decimal(out, at, m)
+    decimal(out, n.unsigned_abs());
 }
 
 // w digits of a, the separator, two digits of b, the separator, two digits of c.
-fn triple(out: &mut [u8], at: usize, w: usize, sep: u8, a: u64, b: u64, c: u64) -> usize
-    requires { at + (w + 6) ≤ length out.old }
-    ensures wrote { Wrote (triple_text w sep a b c) at out.old result out.new }
-    ensures value { (result ≡ at + (w + 6)) × (length out.new ≡ length out.old) }
+fn triple(out: &mut Output, w: usize, sep: u8, a: u64, b: u64, c: u64)
+    requires { Room (w + 6) out.old }
+    ensures { Wrote (w + 6) (triple_text w sep a b c) out.old out.new }
 {
-    let p = fixed(out, at, w, a);
-    let p = byte(out, p, sep);
-    let p = fixed(out, p, 2, b);
-    let p = byte(out, p, sep);
-    fixed(out, p, 2, c)
+    fixed(out, w, a);
+    out.push(sep);
+    fixed(out, 2, b);
+    out.push(sep);
+    fixed(out, 2, c);
 }
 
 // YYYY-MM-DD
-fn date(out: &mut [u8], at: usize, day: u64) -> usize
-    requires { ((1 ≤ day) × (day ≤ last_day)) × (at + 10 ≤ length out.old) }
-    ensures wrote { Wrote (date_text day) at out.old result out.new }
-    ensures value { (result ≡ at + 10) × (length out.new ≡ length out.old) }
+fn date(out: &mut Output, day: u64)
+    requires { ((1 ≤ day) × (day ≤ last_day)) × Room 10 out.old }
+    ensures { Wrote 10 (date_text day) out.old out.new }
 {
     let d = calendar::date_of(day);
-    triple(out, at, 4, b'-', d.year, d.month, d.day)
+    triple(out, 4, b'-', d.year, d.month, d.day)
 }
 
 // hh:mm:ss
-fn time(out: &mut [u8], at: usize, seconds: u64) -> usize
-    requires { at + 8 ≤ length out.old }
-    ensures wrote { Wrote (time_text seconds) at out.old result out.new }
-    ensures value { (result ≡ at + 8) × (length out.new ≡ length out.old) }
+fn time(out: &mut Output, seconds: u64)
+    requires { Room 8 out.old }
+    ensures { Wrote 8 (time_text seconds) out.old out.new }
 {
     triple(
         out,
-        at,
         2,
         b':',
         seconds / 3600,
@@ -128,123 +98,112 @@ fn time(out: &mut [u8], at: usize, seconds: u64) -> usize
 }
 
 // A point and nine digits, where fractions are shown.
-fn fraction(out: &mut [u8], at: usize, shown: bool, q: u64) -> usize
-    requires { at + 10 ≤ length out.old }
-    ensures wrote { Wrote (fraction_text shown q) at out.old result out.new }
-    ensures upper_bound { (result ≤ at + 10) × (length out.new ≡ length out.old) }
+fn fraction(out: &mut Output, shown: bool, q: u64)
+    requires { Room 10 out.old }
+    ensures { Wrote 10 (fraction_text shown q) out.old out.new }
 {
-    if !shown {
-        return at;
+    if shown {
+        out.push(b'.');
+        fixed(out, 9, q);
     }
-    let p = byte(out, at, b'.');
-    fixed(out, p, 9, q)
 }
 
 // YYYY-MM-DDThh:mm:ss and a fraction
-fn date_time(out: &mut [u8], at: usize, shown: bool, day: u64, nano: u64) -> usize
-    requires { ((1 ≤ day) × (day ≤ last_day)) × (at + 29 ≤ length out.old) }
-    ensures wrote { Wrote (date_time_text shown day nano) at out.old result out.new }
-    ensures upper_bound { (result ≤ at + 29) × (length out.new ≡ length out.old) }
+fn date_time(out: &mut Output, shown: bool, day: u64, nano: u64)
+    requires { ((1 ≤ day) × (day ≤ last_day)) × Room 29 out.old }
+    ensures { Wrote 29 (date_time_text shown day nano) out.old out.new }
 {
-    let a = date(out, at, day);
-    let b = byte(out, a, b'T');
-    let c = time(out, b, nano / 1000000000);
-    fraction(out, c, shown, nano % 1000000000)
+    date(out, day);
+    out.push(b'T');
+    time(out, nano / 1000000000);
+    fraction(out, shown, nano % 1000000000);
 }
 
 // How far above 0.
 pub fn pos_part(n: i64) -> u64
     ensures { result ≡ pos_part n }
 {
-    if n < 0 {
-        return 0;
-    }
-    calendar::as_count(n)
+    n.max(0) as u64
 }
 
 // The sign, then the seconds and the fraction, both away from zero: the head is rounded down, so below zero a tail takes
 // one second from it and is what is left of that second.
-fn span(out: &mut [u8], at: usize, shown: bool, v: Value) -> usize
-    requires { (is_value (pos 7) v ≡ true) × (at + 31 ≤ length out.old) }
-    ensures wrote { Wrote (span_text shown (nanoseconds (pos 7) v)) at out.old result out.new }
-    ensures upper_bound { (result ≤ at + 31) × (length out.new ≡ length out.old) }
+fn span(out: &mut Output, shown: bool, v: Value)
+    requires { (is_value (pos 7) v ≡ true) × Room 31 out.old }
+    ensures { Wrote 31 (span_text shown (nanoseconds (pos 7) v)) out.old out.new }
 {
-    let n = floats::unsigned_abs(v.head);
+    let n = v.head.unsigned_abs();
     let q = pos_part(v.tail);
-    if v.head >= 0 {
-        let a = decimal(out, at, n);
-        return fraction(out, a, shown, q);
+    let below = v.head < 0;
+    if !below {
+        decimal(out, n);
+        return fraction(out, shown, q);
     }
-    let b = byte(out, at, b'-');
+    out.push(b'-');
     if q == 0 {
-        let c = decimal(out, b, n);
-        return fraction(out, c, shown, 0);
+        decimal(out, n);
+        return fraction(out, shown, 0);
     }
-    let d = decimal(out, b, n - 1);
-    fraction(out, d, shown, 1000000000 - q)
+    decimal(out, n - 1);
+    fraction(out, shown, 1000000000 - q);
 }
 
 // The value in its kind's form.
-fn tick(out: &mut [u8], at: usize, shown: bool, kind: i64, v: Value) -> usize
-    requires { (is_value kind v ≡ true) × (at + 31 ≤ length out.old) }
-    ensures wrote { Wrote (tick_text shown kind v) at out.old result out.new }
-    ensures upper_bound { (result ≤ at + 31) × (length out.new ≡ length out.old) }
+fn tick(out: &mut Output, shown: bool, kind: i64, v: Value)
+    requires { (is_value kind v ≡ true) × Room 31 out.old }
+    ensures { Wrote 31 (tick_text shown kind v) out.old out.new }
 {
     let day = pos_part(v.head);
     if (4 <= kind) & (kind <= 6) {
-        return date_time(out, at, shown, day, pos_part(v.tail));
+        return date_time(out, shown, day, pos_part(v.tail));
     }
     if (7 <= kind) & (kind <= 7) {
-        return span(out, at, shown, v);
+        return span(out, shown, v);
     }
-    date(out, at, day)
+    date(out, day);
 }
 
-// The pixel, or '!' and the refusal.
-fn mark(out: &mut [u8], at: usize, p: Pixel) -> usize
-    requires { at + 21 ≤ length out.old }
-    ensures wrote { Wrote (mark_text p) at out.old result out.new }
-    ensures upper_bound { (result ≤ at + 21) × (length out.new ≡ length out.old) }
+// The pixel, or '!' and the refusal's number.
+fn mark(out: &mut Output, p: Result<Hairline, Refusal>)
+    requires { Room 21 out.old }
+    ensures { Wrote 21 (mark_text p) out.old out.new }
 {
     match p {
-        Pixel::At(h) => signed(out, at, h.pixel),
-        Pixel::Refused(q) => {
-            let b = byte(out, at, b'!');
-            decimal(out, b, q as u64)
+        Ok(h) => signed(out, h.pixel),
+        Err(q) => {
+            out.push(b'!');
+            decimal(out, u64::from(q));
         }
     }
 }
 
 // A line of the output: the input line's number, a tick and its pixel.
 pub fn row(
-    out: &mut [u8],
-    at: usize,
+    out: &mut Output,
     number: u64,
     shown: bool,
     kind: i64,
     v: Value,
-    p: Pixel,
-) -> usize
-    requires { (is_value kind v ≡ true) × (at + 75 ≤ length out.old) }
-    ensures wrote { Wrote (row_text number shown kind v p) at out.old result out.new }
-    ensures upper_bound { (result ≤ at + 75) × (length out.new ≡ length out.old) }
+    p: Result<Hairline, Refusal>,
+)
+    requires { (is_value kind v ≡ true) × Room 75 out.old }
+    ensures { Wrote 75 (row_text number shown kind v p) out.old out.new }
 {
-    let a = decimal(out, at, number);
-    let b = byte(out, a, b' ');
-    let c = tick(out, b, shown, kind, v);
-    let d = byte(out, c, b' ');
-    let e = mark(out, d, p);
-    byte(out, e, b'\n')
+    decimal(out, number);
+    out.push(b' ');
+    tick(out, shown, kind, v);
+    out.push(b' ');
+    mark(out, p);
+    out.push(b'\n');
 }
 
 // A line of the output for a line that has no list.
-pub fn refusal_row(out: &mut [u8], at: usize, number: u64, q: u8) -> usize
-    requires { at + 65 ≤ length out.old }
-    ensures wrote { Wrote (refusal_text number q) at out.old result out.new }
-    ensures upper_bound { (result ≤ at + 65) × (length out.new ≡ length out.old) }
+pub fn refusal_row(out: &mut Output, number: u64, q: Refusal)
+    requires { Room 65 out.old }
+    ensures { Wrote 65 (refusal_text number q) out.old out.new }
 {
-    let a = decimal(out, at, number);
-    let b = bytes(out, a, b" - ");
-    let c = mark(out, b, Pixel::Refused(q));
-    byte(out, c, b'\n')
+    decimal(out, number);
+    out.try_extend_from_slice(b" - ").unwrap();
+    mark(out, Err(q));
+    out.push(b'\n');
 }

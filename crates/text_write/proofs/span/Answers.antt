@@ -1,72 +1,67 @@
 -- `text_write::span` meets its contract: from zero up the head and the tail, below zero what is left of the tail's second.
 -- Assumes nothing.
-use mathlib.Core.Path.{◌≡◌, refl, ◌∙◌, ap}
-use mathlib.Core.Bool.{true, false}
-use Prim.Native.Nat.{ℕ, ◌≤◌, ◌<◌}
+use borrow.Author.Rules.{rules}
 use native.Mathlib.Omega.{arith}
+use mathlib.Core.Path.{◌≡◌, ◌∙◌, ap}
+use mathlib.Core.Bool.{true}
+use Prim.Native.Nat.{◌-◌, ◌<◌}
 use lib.IntN.{pos, nat_abs}
-use lib.Signed.{le_z}
+use lib.Signed.{lt_z}
 use mir.Syntax.{w64}
 use mir.Val.{SFits}
 use mir.Facts.{to_z-of_z}
-use borrow.Author.Rules.{rules}
-use Rattle.laws.specs.Numbers.{pos_part, neg_part}
+use Rattle.laws.specs.Numbers.{pos_part}
 use Rattle.laws.specs.Units.{per_second}
-use Rattle.laws.proofs.Signed.{le_true, le_false, abs, read_up}
-use Rattle.values.specs.declared.Value.{Value}
-use Rattle.values.proofs.Values.{duration_value}
-use Rattle.text_write.proofs.Writing.{then}
-use Rattle.text_write.proofs.Spans.{from_zero, below_zero}
+use Rattle.laws.proofs.Signed.{abs, lt_true}
+use Rattle.text_write.proofs.Writing.{byte, then, same_text}
+use Rattle.text_write.proofs.Spans.{tail_most, from_zero, below_zero}
 use Rattle.text_write.proofs.span.Goals as goal
-use Rattle.text_write.proofs.span.Goals.{After-struct_told-3-1, Else-v-ge0, Start, Then-v-ge0}
-
-abbrev start : After-struct_told-3-1 → Start
-start c = (goal.at.After-struct_told-3-1 c).Start
-
-abbrev v : After-struct_told-3-1 → Value
-v c = (start c).args.v
+use Rattle.text_write.proofs.span.Goals.{After-pos_part-q, After-push}
 
 -- the two numbers that the code counts with
-abbrev n : After-struct_told-3-1 → ℕ
-n c = c.unsigned_abs-n.result
+seconds : (c : After-pos_part-q) → c.unsigned_abs-n.result ≡ nat_abs c.args.v.head
+seconds c = let f : SFits w64 c.args.v.head = search rules in c.unsigned_abs-n.ensures.value ∙ ap nat_abs (to_z-of_z f)
 
-abbrev q : After-struct_told-3-1 → ℕ
-q c = c.pos_part-q.result
+nanos : (c : After-pos_part-q) → c.pos_part-q.result ≡ pos_part c.args.v.tail
+nanos c = let f : SFits w64 c.args.v.tail = search rules in c.pos_part-q.ensures ∙ ap pos_part (to_z-of_z f)
 
-seconds : (c : After-struct_told-3-1) → n c ≡ nat_abs (v c).head
-seconds c = let f : SFits w64 (v c).head = search rules in
-    c.unsigned_abs-n.ensures ∙ ap nat_abs (to_z-of_z f)
+below : (c : After-push) → lt_z c.args.v.head (pos 0) ≡ true
+below c = let f : SFits w64 c.args.v.head = search rules in rw (to_z-of_z f) at c.if-not-below.false
 
-nanos : (c : After-struct_told-3-1) → q c ≡ pos_part (v c).tail
-nanos c = let f : SFits w64 (v c).tail = search rules in c.pos_part-q.ensures ∙ read_up f
+few : (c : After-push) → (c.pos_part-q.result < per_second) × (0 < c.unsigned_abs-n.result)
+few c =
+    let p = (goal.at.After-push c).After-pos_part-q in (
+      omega (arith, nanos p, tail_most c.args.shown c.args.v c.requires.0),
+      omega (arith, seconds p, abs c.args.v.head, lt_true c.args.v.head (pos 0) (below c)),
+    )
 
-few : (c : After-struct_told-3-1) → q c < per_second
-few c = omega (arith, nanos c, (duration_value (pos 7) (v c) (start c).requires.0 refl).tail_most)
+pub returns-then-not-below : goal.returns-then-not-below
+returns-then-not-below c =
+    let p = (goal.at.returns-then-not-below c).After-pos_part-q in
+    let f : SFits w64 c.args.v.head = search rules in
+    same_text (from_zero c.args.shown c.args.v c.requires.0 _ _ (rw (to_z-of_z f) at c.if-not-below.true) (seconds p) (nanos p))
+    (then _ c.decimal.ensures c.fraction.ensures (omega arith))
 
-above : (c : Then-v-ge0) → neg_part (v (goal.at.Then-v-ge0 c).After-struct_told-3-1).head ≤ pos_part (v (goal.at.Then-v-ge0 c).After-struct_told-3-1).head
-above c = let f : SFits w64 (v (goal.at.Then-v-ge0 c).After-struct_told-3-1).head = search rules in
-    let h : le_z (pos 0) (v (goal.at.Then-v-ge0 c).After-struct_told-3-1).head ≡ true = rw (to_z-of_z f) at c.if-v-ge0.true in
-    omega (arith, le_true)
-
-below : (c : Else-v-ge0) → pos_part (v (goal.at.Else-v-ge0 c).After-struct_told-3-1).head < neg_part (v (goal.at.Else-v-ge0 c).After-struct_told-3-1).head
-below c = let f : SFits w64 (v (goal.at.Else-v-ge0 c).After-struct_told-3-1).head = search rules in
-    let h : le_z (pos 0) (v (goal.at.Else-v-ge0 c).After-struct_told-3-1).head ≡ false = rw (to_z-of_z f) at c.if-v-ge0.false in
-    omega (arith, le_false)
-
-some : (c : Else-v-ge0) → 0 < n (goal.at.Else-v-ge0 c).After-struct_told-3-1
-some c = omega (arith, below c, seconds (goal.at.Else-v-ge0 c).After-struct_told-3-1, abs (v (goal.at.Else-v-ge0 c).After-struct_told-3-1).head)
-
-pub returns-then-v-ge0-clause-wrote : goal.returns-then-v-ge0-clause-wrote
-returns-then-v-ge0-clause-wrote c = let w = then c.decimal-a.ensures.wrote c.fraction.ensures.wrote in
-    from_zero (start (goal.at.returns-then-v-ge0-clause-wrote c).After-struct_told-3-1).args.shown (v (goal.at.returns-then-v-ge0-clause-wrote c).After-struct_told-3-1) (start (goal.at.returns-then-v-ge0-clause-wrote c).After-struct_told-3-1).requires.0 _ _ (above (goal.at.returns-then-v-ge0-clause-wrote c).Then-v-ge0) w (seconds (goal.at.returns-then-v-ge0-clause-wrote c).After-struct_told-3-1) (nanos (goal.at.returns-then-v-ge0-clause-wrote c).After-struct_told-3-1)
-
-pub returns-then-q-eq0-clause-wrote : goal.returns-then-q-eq0-clause-wrote
-returns-then-q-eq0-clause-wrote c = let w = then (then c.byte-b.ensures.wrote c.decimal-c.ensures.wrote) c.fraction-then-q-eq0.ensures.wrote in below_zero (start (goal.at.returns-then-q-eq0-clause-wrote c).After-struct_told-3-1).args.shown (v (goal.at.returns-then-q-eq0-clause-wrote c).After-struct_told-3-1) (start (goal.at.returns-then-q-eq0-clause-wrote c).After-struct_told-3-1).requires.0 _ _ (below (goal.at.returns-then-q-eq0-clause-wrote c).Else-v-ge0) w (omega (arith, seconds (goal.at.returns-then-q-eq0-clause-wrote c).After-struct_told-3-1, nanos (goal.at.returns-then-q-eq0-clause-wrote c).After-struct_told-3-1)) (omega arith)
+pub returns-then-q-eq0 : goal.returns-then-q-eq0
+returns-then-q-eq0 c =
+    let b = (goal.at.returns-then-q-eq0 c).After-push in
+    let p = (goal.at.returns-then-q-eq0 c).After-pos_part-q in
+    let n = c.unsigned_abs-n.result in
+    let h = then 21 (byte _ c.push.ensures.items) c.decimal-then-q-eq0.ensures (omega arith) in
+    same_text
+    (below_zero c.args.shown c.args.v c.requires.0 n 0 (below b) (omega (arith, seconds p, nanos p)) (omega arith))
+    (then _ h c.fraction-then-q-eq0.ensures (omega arith))
 
 pub overflow_sub-q : goal.overflow_sub-q
-overflow_sub-q c = omega (arith, few (goal.at.overflow_sub-q c).After-struct_told-3-1)
+overflow_sub-q c = omega (arith, few (goal.at.overflow_sub-q c).After-push)
 
-pub returns-clause-wrote : goal.returns-clause-wrote
-returns-clause-wrote c = let w = then (then c.byte-b.ensures.wrote c.decimal-d.ensures.wrote) c.fraction-2.ensures.wrote in
-    let l = few (goal.at.returns-clause-wrote c).After-struct_told-3-1 in below_zero (start (goal.at.returns-clause-wrote c).After-struct_told-3-1).args.shown (v (goal.at.returns-clause-wrote c).After-struct_told-3-1) (start (goal.at.returns-clause-wrote c).After-struct_told-3-1).requires.0 _ _ (below (goal.at.returns-clause-wrote c).Else-v-ge0) w
-    (omega (arith, seconds (goal.at.returns-clause-wrote c).After-struct_told-3-1, nanos (goal.at.returns-clause-wrote c).After-struct_told-3-1, some (goal.at.returns-clause-wrote c).Else-v-ge0)) (omega arith)
+pub returns : goal.returns
+returns c =
+    let b = (goal.at.returns c).After-push in
+    let p = (goal.at.returns c).After-pos_part-q in
+    let n = c.unsigned_abs-n.result - 1 in
+    let q = 1000000000 - c.pos_part-q.result in
+    let h = then 21 (byte _ c.push.ensures.items) c.decimal-2.ensures (omega arith) in
+    same_text
+    (below_zero c.args.shown c.args.v c.requires.0 n q (below b) (omega (arith, seconds p, nanos p, few b)) (omega arith))
+    (then _ h c.fraction-2.ensures (omega arith))

@@ -15,6 +15,7 @@ use Rattle.values.specs.declared.Value.{Value}
 use Rattle.values.specs.Values.{over_date_times, is_duration, is_value}
 use Rattle.values.proofs.Values.{times_no_duration, day_value}
 use Rattle.text_write.specs.Rows.{tick_text}
+use Rattle.text_write.proofs.Writing.{within}
 use Rattle.text_write.proofs.tick.Goals as goal
 use Rattle.text_write.proofs.tick.Goals.{After-pos_part-day}
 
@@ -32,28 +33,28 @@ date_time-requires c = let k : over_date_times c.args.kind ≡ true = rw (to_z-o
     let h = head_day _ _ c.requires.0 (times_no_duration c.args.kind k) in
     (omega (arith, day (goal.at.date_time-requires c).After-pos_part-day), search rules)
 
-pub returns-then-kind-clause-wrote : goal.returns-then-kind-clause-wrote
+pub returns-then-kind : goal.returns-then-kind
 unfolding tick_text
-returns-then-kind-clause-wrote c = let f : SFits w64 c.args.v.tail = search rules in
+returns-then-kind c = let f : SFits w64 c.args.v.tail = search rules in
     rw (
       ← to_z-of_z c.ranges.kind,
       c.if-kind.true,
-      ← day (goal.at.returns-then-kind-clause-wrote c).After-pos_part-day,
+      ← day (goal.at.returns-then-kind c).After-pos_part-day,
       ← read_up f,
       ← c.pos_part.ensures,
-    ) c.date_time.ensures.wrote
+    ) (within (omega arith) c.date_time.ensures)
 
-pub returns-then-kind-2-clause-wrote : goal.returns-then-kind-2-clause-wrote
+pub returns-then-kind-2 : goal.returns-then-kind-2
 unfolding tick_text
-returns-then-kind-2-clause-wrote c = rw (← to_z-of_z c.ranges.kind, c.if-kind.false, c.if-kind-2.true) c.span.ensures.wrote
+returns-then-kind-2 c = rw (← to_z-of_z c.ranges.kind, c.if-kind.false, c.if-kind-2.true) c.span.ensures
 
 pub date-requires : goal.date-requires
 date-requires c = let k : is_duration c.args.kind ≡ false = rw (to_z-of_z c.ranges.kind) at c.if-kind-2.false in
     let h = head_day _ _ c.requires.0 k in
     (omega (arith, day (goal.at.date-requires c).After-pos_part-day), search rules)
 
-pub returns-clause-wrote : goal.returns-clause-wrote
+pub returns : goal.returns
 unfolding tick_text
-returns-clause-wrote c =
-    rw (← to_z-of_z c.ranges.kind, c.if-kind.false, c.if-kind-2.false, ← day (goal.at.returns-clause-wrote c).After-pos_part-day)
-    c.date.ensures.wrote
+returns c =
+    rw (← to_z-of_z c.ranges.kind, c.if-kind.false, c.if-kind-2.false, ← day (goal.at.returns c).After-pos_part-day)
+    (within (omega arith) c.date.ensures)
