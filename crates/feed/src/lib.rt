@@ -1,47 +1,29 @@
-// Lines out of chunks of any size. `kept` holds the bytes of the line that was begun: at most 121, which tell that the line
-// is too long.
+// Lines out of chunks of any size.
 #![tactic(auto)]
 
-ghost use Rattle.std.specs.Prelude.{◌≡◌, ◌≤◌, length, take};
-ghost use Rattle.feed.specs.Feed.{Kept, Ate};
+ghost use Rattle.std.specs.Prelude.{◌≡◌, take};
+ghost use Rattle.std.specs.Option.{option_copied};
+ghost use Rattle.feed.specs.Feed.{line_of, Ate};
 
-// The first n bytes of kept, and then the part, as far as 121 bytes go.
-fn keep(kept: &mut [u8], n: usize, part: &[u8]) -> usize
-    requires { (n ≤ 121) × (length kept.old ≡ 121) }
-    ensures { Kept (take n kept.old) part.now result kept.new }
+use arrayvec::ArrayVec;
+
+// The bytes of a line that was begun: 121 of them tell that the line is too long.
+pub type Line = ArrayVec<u8, 121>;
+
+// The part goes to the line, as far as 121 bytes go.
+fn keep(line: &mut Line, part: &[u8])
+    ensures { line.new.items ≡ line_of line.old.items part.now }
 {
-    let end = 121.min(n + part.len());
-    kept[n..end].copy_from_slice(&part[..end - n]);
-    end
+    let n = part.len().min(line.remaining_capacity());
+    line.try_extend_from_slice(&part[..n]).unwrap();
 }
 
-#[derive(Clone, Copy)]
-pub struct Fed {
-    // how many bytes are kept of the line
-    pub len: usize,
-    // how many bytes of the chunk are read
-    pub used: usize,
-    // whether the line has ended
-    pub ended: bool,
-}
-
-// The bytes of the chunk up to its first LF go to the line that was begun.
-pub fn feed(kept: &mut [u8], n: usize, chunk: &[u8]) -> Fed
-    requires { (n ≤ 121) × (length kept.old ≡ 121) }
-    ensures { Ate (take n kept.old) chunk.now result kept.new }
+// The bytes of the chunk up to its first LF go to the line that was begun. Where there is a LF, the line has ended, and
+// what stands behind it is left.
+pub fn feed<'a>(line: &mut Line, chunk: &'a [u8]) -> Option<&'a [u8]>
+    ensures { Ate line.old.items chunk.now (option_copied result) line.new.items }
 {
     let k = text_read::until(chunk, b'\n');
-    let m = keep(kept, n, &chunk[..k]);
-    if k < chunk.len() {
-        return Fed {
-            len: m,
-            used: k + 1,
-            ended: true,
-        };
-    }
-    Fed {
-        len: m,
-        used: k,
-        ended: false,
-    }
+    keep(line, &chunk[..k]);
+    chunk.get(k + 1..)
 }
