@@ -25,6 +25,8 @@ use Rattle.steps.proofs.Order.{smaller, is_smaller}
 use Rattle.plans.proofs.Cases.{choose, by_test}
 use Rattle.keypoints.specs.Every.{days_from, days_on}
 use Rattle.keypoints.specs.Weeks.{every_after, every}
+use Rattle.rules.specs.declared.Unit.{Unit}
+use Rattle.rules.specs.declared.Unit.TheVariants as unit
 use Rattle.ruled.specs.Ruled.{is_of, ruled_ticks}
 use Rattle.ruled.specs.Claims.{units_before, TickDay, TickAt, Ruled}
 
@@ -170,7 +172,7 @@ module _ (test : ℕ → Bool) where
         (λ t left i day d. days_listed k (n + 1) left i day (next (as_before t) (not_failed t d) d)) left i day d
 
 -- ---- the claims, of the days from `from` to `to`; of none where `to` is before `from`
-module _ (unit step from to : ℕ) (h : 1 ≤ step) where
+module _ (unit : Unit) (step from to : ℕ) (h : 1 ≤ step) where
   abbrev days : List Value
   days = days_from (is_of unit) (to + 1 - from) from
 
@@ -236,18 +238,18 @@ module _ (unit step from to : ℕ) (h : 1 ≤ step) where
       rw (← e) (omega (arith, d.are_before))
 
 -- THE CLAIM, of every axis: one that ends before its start has no ticks
-pub ruled_list : (unit step : ℕ) (a : Axis) → 1 ≤ step →
+pub ruled_list : (unit : Unit) (step : ℕ) (a : Axis) → 1 ≤ step →
     Ruled unit step (from_day a) (to_day a) (numbers (ruled_ticks unit step a))
 unfolding ruled_ticks days_on
 ruled_list unit step a h = ruled_days unit step (from_day a) (to_day a) h
 
 -- ---- what a day of the unit is, by the calendar
-pub of_month : (day : ℕ) → (is_of 2 day ≡ true → (date_of day).day ≡ 1) × ((date_of day).day ≡ 1 → is_of 2 day ≡ true)
+pub of_month : (day : ℕ) → (is_of unit.Month day ≡ true → (date_of day).day ≡ 1) × ((date_of day).day ≡ 1 → is_of unit.Month day ≡ true)
 unfolding is_of
 of_month day = (eqb-true (date_of day).day 1, eq-eqb (date_of day).day 1)
 
-pub of_year : (day : ℕ) → (is_of 3 day ≡ true → ((date_of day).day ≡ 1) × ((date_of day).month ≡ 1))
-    × (((date_of day).day ≡ 1) × ((date_of day).month ≡ 1) → is_of 3 day ≡ true)
+pub of_year : (day : ℕ) → (is_of unit.Year day ≡ true → ((date_of day).day ≡ 1) × ((date_of day).month ≡ 1))
+    × (((date_of day).day ≡ 1) × ((date_of day).month ≡ 1) → is_of unit.Year day ≡ true)
 unfolding is_of
 of_year day =
     let d = (date_of day).day in
@@ -257,13 +259,13 @@ of_year day =
     )
 
 -- ---- with a step of 1 no day of the unit is left out
-pub each_of_unit : (unit : ℕ) (a : Axis) (day : ℕ) → from_day a ≤ day → day ≤ to_day a → is_of unit day ≡ true →
+pub each_of_unit : (unit : Unit) (a : Axis) (day : ℕ) → from_day a ≤ day → day ≤ to_day a → is_of unit day ≡ true →
     (i : ℕ) × TickAt (numbers (ruled_ticks unit 1 a)) i day
 each_of_unit unit a day l r t =
     (ruled_list unit 1 a (omega arith)).all day (record { begun = l; not_over = r; of_unit = t; at_step = omega arith })
 
 -- ---- with the unit of days the ticks are the start, step days after it, and so on up to the end
-every_day : (k n : ℕ) → length (days_from (is_of 1) k n) ≡ k
+every_day : (k n : ℕ) → length (days_from (is_of unit.Day) k n) ≡ k
 unfolding days_from is_of
 every_day zero n = refl
 every_day (suc k) n = omega (arith, every_day k (n + 1))
@@ -272,18 +274,18 @@ module _ (step : ℕ) (a : Axis) (i : ℕ) (h : 1 ≤ step) where
   abbrev there : ℕ
   there = from_day a + i * step
 
-  pub day_tick : there ≤ to_day a → TickAt (numbers (ruled_ticks 1 step a)) i there
+  pub day_tick : there ≤ to_day a → TickAt (numbers (ruled_ticks unit.Day step a)) i there
   unfolding ruled_ticks days_on is_of
   day_tick l =
-      days_listed (is_of 1) step h (to_day a + 1 - from_day a) (from_day a) 0 i there (record {
+      days_listed (is_of unit.Day) step h (to_day a + 1 - from_day a) (from_day a) 0 i there (record {
         begun = omega arith;
         not_over = omega arith;
         passes = refl;
         are_before = omega (arith, every_day (there - from_day a) (from_day a));
       })
 
-  pub no_more : 2 * i < length (numbers (ruled_ticks 1 step a)) → there ≤ to_day a
+  pub no_more : 2 * i < length (numbers (ruled_ticks unit.Day step a)) → there ≤ to_day a
   unfolding ruled_ticks days_on
   no_more l =
-      let (x, (p, d)) = tick_at 1 step (from_day a) (to_day a) h i l in
+      let (x, (p, d)) = tick_at unit.Day step (from_day a) (to_day a) h i l in
       omega (arith, d.begun, d.not_over, d.are_before, every_day (x - from_day a) (from_day a))

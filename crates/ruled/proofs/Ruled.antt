@@ -1,20 +1,17 @@
 -- The ruled list of an axis is the list of its plan, and the plan is one that can be listed. Assumes nothing.
 use mathlib.Core.Path.{◌≡◌, refl, sym, ap, ◌∙◌}
-use mathlib.Core.Bool.{Bool, true, false, cond, true≢false}
+use mathlib.Core.Bool.{Bool, true, true≢false}
 use Prim.Native.Nat.{ℕ, ◌+◌, ◌-◌, ◌*◌, ◌/◌, ◌≤◌, ◌<◌}
 use native.Mathlib.Nat.{div-one, mul-le-mul_left}
 use native.Mathlib.Omega.{arith}
-use lib.Dec.{eqb}
 use Rattle.axis.specs.declared.Axis.{Axis}
 use Rattle.counting.specs.Counting.{Dated, from_day, to_day}
 use Rattle.counting.proofs.Counting.{from_range, to_range}
-use Rattle.steps.specs.declared.Steps.{Steps}
 use Rattle.steps.specs.Months.{first_day, whole_month}
 use Rattle.steps.specs.Progression.{fitting, tick_of, values_of, ticks, Sound}
 use Rattle.steps.proofs.Fitting.{few_steps}
 use Rattle.steps.proofs.Demand.{Kept, kept_sound}
 use Rattle.plans.specs.Months.{from_month, to_month, months_by}
-use Rattle.plans.proofs.Cases.{choose}
 use Rattle.plans.proofs.Months.{last_month, first_most, last_most}
 use Rattle.plans.proofs.Promise.{heads_tick}
 use Rattle.keypoints.specs.Every.{days_on}
@@ -23,6 +20,8 @@ use Rattle.keypoints.proofs.Loops.{values_same}
 use Rattle.keypoints.proofs.Dates.{on}
 use Rattle.keypoints.proofs.Every.{apart_fit, Moves, span_are}
 use Rattle.keypoints.proofs.Weeks.{every_are}
+use Rattle.rules.specs.declared.Unit.{Unit}
+use Rattle.rules.specs.declared.Unit.TheVariants as unit
 use Rattle.ruled.specs.Ruled.{is_first, is_new_year, is_of, ruled_ticks}
 use Rattle.ruled.specs.Plans.{january, ruled_plan}
 use Rattle.ruled.proofs.Units.{each_day, each_month, each_january, month_after}
@@ -46,24 +45,24 @@ module _ (a : Axis) (d : Dated a) where
 
   -- of these, every step-th
   module _ (step : ℕ) (h : 1 ≤ step) where
-    by_days_law : every step (days_on (λ _. true) a) ≡ ticks (ruled_plan 1 step a)
+    by_days_law : every step (days_on (λ _. true) a) ≡ ticks (ruled_plan unit.Day step a)
     unfolding ruled_plan
     by_days_law =
-        let s = ruled_plan 1 step a in
+        let s = ruled_plan unit.Day step a in
         let c = to_day a + 1 - from_day a in
         let z : to_day a + 1 - from_day a - 0 ≡ c = omega arith in
         rw (days_on_law (λ _. true) (λ i. i) (λ i. i) (λ n p q. each_day n), every_are step h (λ i. on (from_day a + i)) c, z)
         (values_same (λ i. on (from_day a + i * step)) (tick_of s) (fitting c step)
         (λ i l. ap on (omega arith) ∙ sym (heads_tick s (0 + i * step) refl refl)))
 
-    by_months : every step (days_on is_first a) ≡ ticks (ruled_plan 2 step a)
+    by_months : every step (days_on is_first a) ≡ ticks (ruled_plan unit.Month step a)
     unfolding ruled_plan from_month
     by_months =
         let m = whole_month (from_day a) in
         rw (days_on_law is_first first_day whole_month each_month, after_last)
         (every_are step h (λ i. on (first_day (m + i))) (to_month a + 1 - m))
 
-    by_januaries : every step (days_on is_new_year a) ≡ ticks (ruled_plan 3 step a)
+    by_januaries : every step (days_on is_new_year a) ≡ ticks (ruled_plan unit.Year step a)
     unfolding ruled_plan from_month
     by_januaries =
         let m = whole_month (from_day a) in
@@ -83,19 +82,12 @@ module _ (a : Axis) (d : Dated a) where
         (fitting (e + 1 - 12 * j) (12 * step)) (λ i l. ap (λ (x : ℕ). on (first_day x)) (omega arith)))
 
 -- THE LAW, of every unit
-pub ruled_same : (unit step : ℕ) (a : Axis) → Dated a → 1 ≤ step →
+pub ruled_same : (unit : Unit) (step : ℕ) (a : Axis) → Dated a → 1 ≤ step →
     ruled_ticks unit step a ≡ ticks (ruled_plan unit step a)
-unfolding ruled_ticks ruled_plan is_of
-ruled_same unit step a d h =
-    go (eqb unit 1) (eqb unit 2) _ _ _ (by_days_law a d step h) (by_months a d step h) (by_januaries a d step h)
-  where
-    go : (p q : Bool) (x y z : Steps) → every step (days_on (λ _. true) a) ≡ ticks x
-        → every step (days_on is_first a) ≡ ticks y
-        → every step (days_on is_new_year a) ≡ ticks z
-        → every step (days_on (λ day. cond p true (cond q (is_first day) (is_new_year day))) a) ≡ ticks (cond p x (cond q y z))
-    go true q x y z e f g = e
-    go false true x y z e f g = f
-    go false false x y z e f g = g
+unfolding ruled_ticks is_of
+ruled_same unit.Day step a d h = by_days_law a d step h
+ruled_same unit.Month step a d h = by_months a d step h
+ruled_same unit.Year step a d h = by_januaries a d step h
 
 -- ---- the ranges in which a plan is listed
 all_kept : (k room : ℕ) → 1 ≤ k → Kept k (fitting room k) room room
@@ -106,13 +98,13 @@ all_kept k room h = record {
 }
 
 module _ (a : Axis) (d : Dated a) where
-  days_sound : (step : ℕ) → 1 ≤ step → step ≤ 1000 → Sound (ruled_plan 1 step a)
+  days_sound : (step : ℕ) → 1 ≤ step → step ≤ 1000 → Sound (ruled_plan unit.Day step a)
   unfolding ruled_plan
   days_sound step h l =
       let (p, q) = from_range a d in
       let (r, t) = to_range a d in
       let room = to_day a + 1 - from_day a - 0 in
-      kept_sound (ruled_plan 1 step a) room room (all_kept step room h) (omega arith) (omega arith) (omega arith)
+      kept_sound (ruled_plan unit.Day step a) room room (all_kept step room h) (omega arith) (omega arith) (omega arith)
       (rw (div-one step) (omega arith)) (rw (div-one (0 + room)) (omega arith)) (λ e. absurd (true≢false (sym e)))
 
   months_sound : (m k : ℕ) → m ≤ 119988 → 1 ≤ k → k ≤ 12000 → Sound (months_by m (to_month a) k)
@@ -122,10 +114,10 @@ module _ (a : Axis) (d : Dated a) where
       kept_sound (months_by m (to_month a) k) room room (all_kept k room p) (omega arith) (omega arith) (omega arith)
       (rw (div-one k) (omega arith)) (rw (div-one (m + room)) (omega arith)) (λ e. top)
 
-pub ruled_sound : (unit step : ℕ) (a : Axis) → Dated a → 1 ≤ step → step ≤ 1000 → Sound (ruled_plan unit step a)
+pub ruled_sound : (unit : Unit) (step : ℕ) (a : Axis) → Dated a → 1 ≤ step → step ≤ 1000 → Sound (ruled_plan unit step a)
 unfolding ruled_plan
-ruled_sound unit step a d h l =
+ruled_sound unit.Day step a d h l = days_sound a d step h l
+ruled_sound unit.Month step a d h l = months_sound a d (from_month a) step (first_most a d) h (omega arith)
+ruled_sound unit.Year step a d h l =
     let f = first_most a d in
-    choose Sound (eqb unit 1) (λ _. days_sound a d step h l)
-    (λ _. choose Sound (eqb unit 2) (λ _. months_sound a d (from_month a) step f h (omega arith))
-    (λ _. months_sound a d (january (from_month a)) (12 * step) (omega arith) (omega arith) (omega arith)))
+    months_sound a d (january (from_month a)) (12 * step) (omega arith) (omega arith) (omega arith)

@@ -1,14 +1,13 @@
 -- What ruled ticks and counts answer, and what the lent numbers hold after it, refused calls too. Definitions only.
-use Rattle.std.specs.Prelude.{Bool, List, ◌++◌, ℕ, ◌-◌, ℤ}
-use Rattle.laws.specs.Asking.{Question, asked}
+use Rattle.std.specs.Prelude.{Bool, cond, List, [], ◌++◌, ℕ, ◌-◌, ℤ, Option, None, Some, Result}
+use Rattle.asking.specs.declared.Refusal.{Refusal}
+use Rattle.asking.specs.Asking.{Question, asked, passes}
 use Rattle.values.specs.declared.Value.{Value}
 use Rattle.values.specs.Values.{over_dates}
 use Rattle.axis.specs.declared.Axis.{Axis}
 use Rattle.axis.specs.Axes.{closed}
 use Rattle.axis.specs.Questions.{plain_questions}
 use Rattle.counting.specs.Counting.{from_day, to_day}
-use Rattle.steps.specs.declared.Listed.{Listed}
-use Rattle.steps.specs.declared.Listed.TheVariants.{Refused}
 use Rattle.steps.specs.Listing.{listed_of, lent_after}
 use Rattle.rules.specs.declared.Row.{Row}
 use Rattle.rules.specs.Cover.{row_for}
@@ -28,19 +27,22 @@ abbrev pub length_of : Axis → ℕ
 length_of a = to_day a - from_day a
 
 -- the row for it
-abbrev pub row_on : List Row → Axis → Row
+abbrev pub row_on : List Row → Axis → Option Row
 row_on ws a = row_for ws (length_of a)
 
--- the ticks by that row: those of the axis that ends a day earlier, where the end is excluded
+-- the ticks by a row, where there is one
+abbrev pub ticks_by : Option Row → Axis → List Value
+ticks_by (Some w) a = ruled_ticks w.unit w.step a
+ticks_by None a = []
+
+-- the ticks by the row for the length: those of the axis that ends a day earlier, where the end is excluded
 unfoldable pub ruled_on : List ℕ → Axis → List Value
-ruled_on table a =
-    let w = row_on (rows_in table) (closed a) in
-    ruled_ticks w.unit w.step (closed a)
+ruled_on table a = ticks_by (row_on (rows_in table) (closed a)) (closed a)
 
 -- the count of ticks, or a refusal; the list asks question 11 of the lent numbers
-unfoldable pub ruled_answer : List ℕ → Axis → ℕ → Listed
-ruled_answer table a k = asked (ruled_questions table a) Refused (listed_of (ruled_on table a) k)
+unfoldable pub ruled_answer : List ℕ → Axis → ℕ → Result ℕ Refusal
+ruled_answer table a k = asked (ruled_questions table a) (listed_of (ruled_on table a) k)
 
 -- all lent numbers after the call
 unfoldable pub ruled_written : List ℕ → Axis → List ℤ → List ℤ
-ruled_written table a d = asked (ruled_questions table a) (λ q. d) (lent_after (ruled_on table a) d)
+ruled_written table a d = cond (passes (ruled_questions table a)) (lent_after (ruled_on table a) d) d

@@ -5,14 +5,15 @@ use Rattle.values.specs.declared.Value.{Value}
 use Rattle.values.specs.Values.{midnight}
 use Rattle.steps.specs.Promise.{nth, Later, EachLater, NoneAfter}
 use Rattle.keypoints.specs.Every.{days_from}
+use Rattle.rules.specs.declared.Unit.{Unit}
 use Rattle.ruled.specs.Ruled.{is_of}
 
 -- how many days of the unit stand before a day, from the day `from` on
-abbrev pub units_before : ℕ → ℕ → ℕ → ℕ
+abbrev pub units_before : Unit → ℕ → ℕ → ℕ
 units_before unit from day = length (days_from (is_of unit) (day - from) from)
 
 -- the day of the span from `from` to `to` is of the unit, and a multiple of step such days stand before it
-pub record TickDay (unit step from to day : ℕ) : Type 0 where
+pub record TickDay (unit : Unit) (step from to day : ℕ) : Type 0 where
   pub begun : from ≤ day
   pub not_over : day ≤ to
   pub of_unit : is_of unit day ≡ true
@@ -28,7 +29,7 @@ abbrev pub NoneBeforeStart : Value → List ℤ → Type 0
 NoneBeforeStart start l = (i : ℕ) → 2 * i < length l → Later (nth l i) start → ⊥
 
 -- the ticks are these days, each once, in their order
-pub record Ruled (unit step from to : ℕ) (l : List ℤ) : Type 0 where
+pub record Ruled (unit : Unit) (step from to : ℕ) (l : List ℤ) : Type 0 where
   pub paired : length l % 2 ≡ 0
   pub growing : EachLater l
   pub none_after : NoneAfter (midnight (pos to)) l

@@ -1,14 +1,17 @@
 -- How the code finds a ruled list: its progression. No answer is defined by it; proofs/Ruled.antt says that its ticks are the
 -- list. Definitions only.
-use Rattle.std.specs.Prelude.{ℕ, ◌+◌, ◌-◌, ◌*◌, ◌/◌, ◌≡◌, cond, List, eqb, pos}
-use Rattle.laws.specs.Asking.{first_no}
+use Rattle.std.specs.Prelude.{ℕ, ◌+◌, ◌-◌, ◌*◌, ◌/◌, ◌≡◌, true, List, pos, Some, ⊤, Result, Ok, Err}
+use Rattle.asking.specs.declared.Refusal.{Refusal}
+use Rattle.asking.specs.Asking.{asked, passes}
 use Rattle.axis.specs.declared.Axis.{Axis}
 use Rattle.axis.specs.Axes.{closed}
 use Rattle.counting.specs.Counting.{from_day, to_day}
 use Rattle.steps.specs.declared.Steps.{Steps}
 use Rattle.plans.specs.Days.{evenly}
 use Rattle.plans.specs.Months.{from_month, to_month, months_by}
-use Rattle.ticks.specs.declared.Planned.{Planned}
+use Rattle.rules.specs.declared.Unit.{Unit}
+use Rattle.rules.specs.declared.Unit.TheVariants as unit
+use Rattle.rules.specs.declared.Row.{Row}
 use Rattle.rules.specs.Table.{rows_in}
 use Rattle.ruled.specs.Answers.{ruled_questions, row_on}
 
@@ -17,14 +20,15 @@ abbrev pub january : ℕ → ℕ
 january m = (m + 11) / 12 * 12
 
 -- every step-th day from the first, month from the first whole one, or January
-unfoldable pub ruled_plan : ℕ → ℕ → Axis → Steps
-ruled_plan unit step a =
-    cond (eqb unit 1)
-    (evenly (record { per = 1; base = pos (from_day a); first = 0; end = to_day a + 1 - from_day a; step = step }))
-    (cond (eqb unit 2) (months_by (from_month a) (to_month a) step)
-    (months_by (january (from_month a)) (to_month a) (12 * step)))
+unfoldable pub ruled_plan : Unit → ℕ → Axis → Steps
+ruled_plan unit.Day step a =
+    evenly (record { per = 1; base = pos (from_day a); first = 0; end = to_day a + 1 - from_day a; step = step })
+ruled_plan unit.Month step a = months_by (from_month a) (to_month a) step
+ruled_plan unit.Year step a = months_by (january (from_month a)) (to_month a) (12 * step)
 
--- what was asked, and the plan by the row where nothing was refused
-pub record RuledFor (table : List ℕ) (a : Axis) (p : Planned) : Type 0 where
-  pub refusal : p.refusal ≡ first_no (ruled_questions table a)
-  pub plan : p.refusal ≡ 0 → let w = row_on (rows_in table) (closed a) in p.plan ≡ ruled_plan w.unit w.step (closed a)
+-- the plan by the row that is found where nothing is refused, or the first no
+abbrev pub RuledFor : List ℕ → Axis → Result Steps Refusal → Type 0
+RuledFor table a (Ok p) =
+    (passes (ruled_questions table a) ≡ true)
+    × ((w : Row) × (row_on (rows_in table) (closed a) ≡ Some w) × (p ≡ ruled_plan w.unit w.step (closed a)))
+RuledFor table a (Err q) = ◌≡◌ {A = Result ⊤ Refusal} (asked (ruled_questions table a) (Ok tt)) (Err q)
