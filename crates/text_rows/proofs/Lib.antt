@@ -1,2 +1,3 @@
 -- The lemmas that the proofs share.
 pub mod Lists
+pub mod Pairs

@@ -1,21 +1,23 @@
 -- A list's fractions and lines, one more for each tick; that every tick of a list that is handed back has a text and its
 -- room; and the answer to a line by its cases. Assumes nothing.
-use mathlib.Core.Path.{◌≡◌, refl}
-use mathlib.Core.Bool.{false, ◌||◌}
+use mathlib.Core.Path.{◌≡◌, refl, sym, ◌∙◌}
+use mathlib.Core.Bool.{true, false, ◌||◌}
 use mathlib.Core.List.{List, [], ◌++◌}
-use Prim.Native.Nat.{ℕ, ◌+◌, ◌*◌, ◌≤◌}
+use Prim.Native.Nat.{ℕ, ◌+◌, ◌*◌, ◌/◌, ◌≤◌}
 use native.Mathlib.Numerals.{add-one}
 use native.Mathlib.Omega.{arith}
 use lib.IntN.{ℤ}
 use lib.ListN.{length}
 use borrow.Author.Tests.{le-leb}
-use Rattle.laws.specs.Asking.{first_no}
+use Rattle.std.specs.Prelude.{⊤, Some, None, Ok, Err}
+use Rattle.asking.specs.declared.Refusal.{Refusal}
+use Rattle.asking.specs.declared.Refusal.TheVariants as refusal
+use Rattle.asking.specs.Asking.{asked, passes}
+use Rattle.asking.proofs.Asked.{refused, passed}
 use Rattle.laws.specs.Numbers.{pos_part}
-use Rattle.laws.proofs.Asked.{refused_by}
 use Rattle.axis.specs.declared.Axis.{Axis}
 use Rattle.axis.specs.declared.BoldPoints.{BoldPoints}
 use Rattle.axis.specs.declared.Limits.{Limits}
-use Rattle.steps.specs.declared.Listed.TheVariants.{Refused, Ticks}
 use Rattle.steps.specs.Listing.{numbers, listed_of}
 use Rattle.steps.proofs.Pairs.{length_numbers}
 use Rattle.steps.specs.Promise.{nth}
@@ -26,7 +28,6 @@ use Rattle.ticks.proofs.Hints.{accepted}
 use Rattle.ticks.proofs.Promise.{ticks_fine}
 use Rattle.ticks.proofs.Values.{tick_value}
 use Rattle.text_line.specs.declared.Request.{Request}
-use Rattle.text_line.specs.declared.Line.TheVariants.{Read, Unread}
 use Rattle.text_line.specs.Line.{read_line}
 use Rattle.text_write.specs.Rows.{refusal_text}
 use Rattle.text_rows.specs.Answers.{has_fraction, fraction_before, tick_row, ticks_text, Printable, list_text}
@@ -52,7 +53,7 @@ module _ (number : ℕ) (a : Axis) (l : Limits) (list : List ℤ) where
   one_more k = rw (add-one k)
 
 -- ---- a list that is handed back
-module _ (a : Axis) (h : BoldPoints) (z : first_no (tick_questions a (Bold h)) ≡ 0) where
+module _ (a : Axis) (h : BoldPoints) (z : passes (tick_questions a (Bold h)) ≡ true) where
   fine_axis : Accepted a (pos_part h.n)
   fine_axis = accepted a (Bold h) z
 
@@ -60,37 +61,41 @@ module _ (a : Axis) (h : BoldPoints) (z : first_no (tick_questions a (Bold h)) �
   room : 2 * length (ticks_of a (Bold h)) ≤ 8194
   room = omega (arith, (ticks_fine a (Bold h) z).few, length_numbers (ticks_of a (Bold h)), fine_axis.most)
 
-  pub has_list : ticks_answer a (Bold h) 8194 ≡ Ticks (length (ticks_of a (Bold h)))
+  pub has_list : ticks_answer a (Bold h) 8194 ≡ Ok (length (ticks_of a (Bold h)))
   unfolding ticks_answer
-  has_list = rw (z, le-leb (2 * length (ticks_of a (Bold h))) 8194 room)
+  has_list =
+      let l = ticks_of a (Bold h) in
+      sym (passed (tick_questions a (Bold h)) (listed_of l 8194) z) ∙ rw (le-leb (2 * length l) 8194 room)
 
   pub handed : ticks_handed a (Bold h) 8194 ≡ numbers (ticks_of a (Bold h))
   unfolding ticks_handed
   handed = rw (z, le-leb (2 * length (ticks_of a (Bold h))) 8194 room)
 
-  -- and 75 bytes for each
-  pub printable : (space : ℕ) → 307275 ≤ space → Printable a.kind (ticks_handed a (Bold h) 8194) space
-  printable space l =
-      let f = ticks_fine a (Bold h) z in
-      rw handed (record { ticks = λ i k. tick_value a (Bold h) z i (omega arith); most = omega (arith, f.few, fine_axis.most) })
+  -- of 75 bytes at most
+  pub few : 75 * (length (ticks_handed a (Bold h) 8194) / 2) ≤ 307275
+  few = rw handed (omega (arith, (ticks_fine a (Bold h) z).few, fine_axis.most))
+
+  pub printable : Printable a.kind (ticks_handed a (Bold h) 8194)
+  printable = rw handed (λ i k. tick_value a (Bold h) z i (omega arith))
 
 -- ---- the lines that answer a request, and a line
 module _ (number : ℕ) (q : Request) where
-  pub request_refused : (n : ℕ) → n ≡ first_no (tick_questions q.axis (Bold q.hint)) → (n ≡ 0 → ⊥) →
-      request_text number q ≡ refusal_text number n
+  pub request_refused : (u : ⊤) (r : Refusal) → asked (tick_questions q.axis (Bold q.hint)) (Ok u) ≡ Err r →
+      request_text number q ≡ refusal_text number r
   unfolding request_text ticks_answer
-  request_refused n e k = rw (← refused_by Refused (listed_of (ticks_of q.axis (Bold q.hint)) 8194) _ n e k)
+  request_refused u r e =
+      rw (← refused (tick_questions q.axis (Bold q.hint)) u (listed_of (ticks_of q.axis (Bold q.hint)) 8194) r e)
 
-  pub request_listed : first_no (tick_questions q.axis (Bold q.hint)) ≡ 0 → request_text number q
+  pub request_listed : passes (tick_questions q.axis (Bold q.hint)) ≡ true → request_text number q
       ≡ list_text number q.axis q.limits (ticks_handed q.axis (Bold q.hint) 8194)
   unfolding request_text
   request_listed z = rw (has_list q.axis q.hint z)
 
 module _ (number : ℕ) (s : List ℕ) where
-  pub line_read : (q : Request) → read_line s ≡ Read q → rows_of number s ≡ request_text number q
+  pub line_read : (q : Request) → read_line s ≡ Some q → rows_of number s ≡ request_text number q
   unfolding rows_of
   line_read q e = rw e
 
-  pub line_unread : read_line s ≡ Unread → rows_of number s ≡ refusal_text number 12
+  pub line_unread : read_line s ≡ None → rows_of number s ≡ refusal_text number refusal.Table
   unfolding rows_of
   line_unread e = rw e

@@ -1,6 +1,8 @@
 -- The lines of output that answer a line of input. Definitions only.
-use Rattle.std.specs.Prelude.{◌≡◌, Bool, true, false, not, ◌||◌, List, [], ◌++◌, ℕ, zero, suc, ◌*◌, ◌/◌, ◌%◌, ◌≤◌, ◌<◌, eqb, ℤ}
-use Rattle.std.specs.Prelude.{length}
+use Rattle.std.specs.Prelude.{◌≡◌, Bool, true, false, not, ◌||◌, List, [], ◌++◌, ℕ, zero, suc, ◌/◌, ◌%◌, ◌<◌, eqb, ℤ}
+use Rattle.std.specs.Prelude.{length, Option, Some, None, Result, Ok, Err}
+use Rattle.asking.specs.declared.Refusal.{Refusal}
+use Rattle.asking.specs.declared.Refusal.TheVariants as refusal
 use Rattle.laws.specs.Numbers.{pos_part}
 use Rattle.laws.specs.Units.{per_second}
 use Rattle.values.specs.declared.Value.{Value}
@@ -8,15 +10,11 @@ use Rattle.values.specs.Values.{is_value}
 use Rattle.axis.specs.declared.Axis.{Axis}
 use Rattle.axis.specs.declared.Limits.{Limits}
 use Rattle.mapping.specs.Mapping.{mapped}
-use Rattle.steps.specs.declared.Listed.{Listed}
 use Rattle.steps.specs.Promise.{nth}
-use Rattle.steps.specs.declared.Listed.TheVariants as listed
 use Rattle.axis.specs.declared.Hint.TheVariants.{Bold}
 use Rattle.ticks.specs.Answers.{ticks_answer, ticks_handed}
 use Rattle.text_line.specs.declared.Request.{Request}
-use Rattle.text_line.specs.declared.Line.{Line}
 use Rattle.text_line.specs.Line.{read_line}
-use Rattle.text_line.specs.declared.Line.TheVariants as line
 use Rattle.text_write.specs.Rows.{row_text, refusal_text}
 
 -- ---- fractions
@@ -51,25 +49,24 @@ list_text number a l list = ticks_text number a l list (length list / 2)
 abbrev pub list_of : Request → List ℤ
 list_of q = ticks_handed q.axis (Bold q.hint) 8194
 
--- where listing is refused, its number; an empty list gives nothing
-abbrev pub listed_text : ℕ → Request → Listed → List ℕ
-listed_text number q (listed.Refused n) = refusal_text number n
-listed_text number q (listed.Ticks c) = list_text number q.axis q.limits (list_of q)
+-- where listing is refused, the refusal; an empty list gives nothing
+abbrev pub listed_text : ℕ → Request → Result ℕ Refusal → List ℕ
+listed_text number q (Err r) = refusal_text number r
+listed_text number q (Ok c) = list_text number q.axis q.limits (list_of q)
 
 -- of a request, refused or not
 unfoldable pub request_text : ℕ → Request → List ℕ
 request_text number q = listed_text number q (ticks_answer q.axis (Bold q.hint) 8194)
 
--- question 12: does the line read?
-abbrev pub line_text : ℕ → Line → List ℕ
-line_text number (line.Read q) = request_text number q
-line_text number line.Unread = refusal_text number 12
+-- question 12, which a table of house rules is asked too: does the line read?
+abbrev pub line_text : ℕ → Option Request → List ℕ
+line_text number (Some q) = request_text number q
+line_text number None = refusal_text number refusal.Table
 
 -- the answer to the line of that number
 unfoldable pub rows_of : ℕ → List ℕ → List ℕ
 rows_of number s = line_text number (read_line s)
 
--- every tick of a list is a value of its kind, and there is room for a line of 75 bytes for each
-pub record Printable (kind : ℤ) (list : List ℤ) (room : ℕ) : Type 0 where
-  pub ticks : (i : ℕ) → i < length list / 2 → is_value kind (nth list i) ≡ true
-  pub most : 75 * (length list / 2) ≤ room
+-- every tick of a list is a value of its kind
+abbrev pub Printable : ℤ → List ℤ → Type 0
+Printable kind list = (i : ℕ) → i < length list / 2 → is_value kind (nth list i) ≡ true

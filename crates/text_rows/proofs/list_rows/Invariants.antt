@@ -1,15 +1,13 @@
--- `text_rows::list_rows` meets its contract: after i turns the first i ticks are written. Assumes nothing.
-use mathlib.Core.Path.{◌≡◌}
-use Prim.Native.Nat.{◌-◌, ◌*◌, ◌/◌, ◌≤◌}
+-- `text_rows::list_rows` meets its contract: the ticks that the loop has taken are written. Assumes nothing.
+use Prim.Native.Nat.{◌*◌}
 use lib.ListN.{length}
 use Rattle.text_write.specs.Texts.{Wrote}
-use Rattle.text_rows.specs.Answers.{shows_fractions, ticks_text}
+use Rattle.text_rows.specs.Answers.{ticks_text}
 use Rattle.text_rows.proofs.list_rows.Given as goal
 
-abbrev pub invariant-loop-i : goal.invariant-loop-i
-invariant-loop-i loop = ((loop.n ≡ length loop.list / 2) × (loop.shown ≡ shows_fractions loop.list))
-    × ((loop.i ≤ loop.n) × ((loop.at ≤ 75 * loop.i) × ((length loop.out ≡ length loop.initial.out) × Wrote
-    (ticks_text loop.number loop.a loop.l loop.list loop.i) 0 loop.initial.out loop.at loop.out)))
-
-abbrev pub decreases-loop-i : goal.decreases-loop-i
-decreases-loop-i l = l.n - l.i
+abbrev pub invariant-loop-tick : goal.invariant-loop-tick
+invariant-loop-tick l = record {
+  can_next : (goal.iterator-loop-tick).can_next l.tick-iterator;
+  finite : (goal.iterator-loop-tick).is_finite l.tick-iterator;
+  wrote : Wrote (75 * length l.yielded) (ticks_text l.number l.a l.l l.list (length l.yielded)) l.initial.out l.out;
+}

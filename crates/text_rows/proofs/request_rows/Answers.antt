@@ -1,38 +1,43 @@
 -- `text_rows::request_rows` meets its contract: the refusal, or a line for each tick. Assumes nothing.
+use borrow.Author.Rules.{rules}
 use mathlib.Core.Path.{◌≡◌, sym, ◌∙◌, ap}
+use mathlib.Core.Bool.{true}
 use Prim.Native.Nat.{ℕ}
-use Rattle.laws.specs.Asking.{first_no}
+use native.Mathlib.Omega.{arith}
+use lib.ListN.{length}
+use Rattle.asking.specs.Asking.{passes}
+use Rattle.asking.proofs.Asked.{all_pass}
 use Rattle.axis.specs.declared.Hint.TheVariants.{Bold}
 use Rattle.ticks.specs.Answers.{tick_questions, ticks_handed}
-use Rattle.text_rows.proofs.Lists.{printable, request_refused, request_listed}
+use Rattle.text_write.proofs.Writing.{within}
+use Rattle.text_rows.proofs.Lists.{few, printable, request_refused, request_listed}
 use Rattle.text_rows.proofs.request_rows.Goals as goal
-use Rattle.text_rows.proofs.request_rows.Goals.{After-key_points-list, After-refusal-n, Else-n-ne0, Start}
+use Rattle.text_rows.proofs.request_rows.Goals.{In-Ok, After-key_points-list}
 
-abbrev start : After-refusal-n → Start
-start c = (goal.at.After-refusal-n c).Start
-
-pub returns-then-n-ne0-clause-wrote : goal.returns-then-n-ne0-clause-wrote
-returns-then-n-ne0-clause-wrote c = let x = (start (goal.at.returns-then-n-ne0-clause-wrote c).After-refusal-n).args in
-    rw (request_refused x.number x.q c.refusal-n.result c.refusal-n.ensures c.if-n-ne0.true)
-    c.refusal_row.ensures.wrote
-
-none : (c : Else-n-ne0) → let q = (start (goal.at.Else-n-ne0 c).After-refusal-n).args.q in
-    first_no (tick_questions q.axis (Bold q.hint)) ≡ 0
-none c = sym c.refusal-n.ensures ∙ c.if-n-ne0.false
+none : (c : In-Ok) → passes (tick_questions c.args.q.axis (Bold c.args.q.hint)) ≡ true
+none c = all_pass (tick_questions c.args.q.axis (Bold c.args.q.hint)) _ (sym c.ask_ticks.ensures ∙ c.in-Ok.is)
 
 -- the part that is handed back, of 8,194 lent numbers
-handed : (c : After-key_points-list) → let q = (start (goal.at.After-key_points-list c).After-refusal-n).args.q in
-    c.key_points-list.result.now ≡ ticks_handed q.axis (Bold q.hint) 8194
-handed c = let s = start (goal.at.After-key_points-list c).After-refusal-n in
-    c.key_points-list.ensures.value
-    ∙ ap (λ (n : ℕ). ticks_handed s.args.q.axis (Bold s.args.q.hint) n) s.requires.0
+handed : (c : After-key_points-list) → c.key_points-list.result.now ≡ ticks_handed c.args.q.axis (Bold c.args.q.hint) 8194
+handed c =
+    let size : length c.args.lent.now ≡ 8194 = search rules in
+    c.key_points-list.ensures.value ∙ ap (λ (n : ℕ). ticks_handed c.args.q.axis (Bold c.args.q.hint) n) size
 
 pub list_rows-requires : goal.list_rows-requires
-list_rows-requires c = let s = start (goal.at.list_rows-requires c).After-refusal-n in
+list_rows-requires c =
+    let q = c.args.q in
+    let z = none (goal.at.list_rows-requires c).In-Ok in
     rw (handed (goal.at.list_rows-requires c).After-key_points-list)
-    (printable s.args.q.axis s.args.q.hint (none (goal.at.list_rows-requires c).Else-n-ne0) _ s.requires.1)
+    (printable q.axis q.hint z, omega (arith, few q.axis q.hint z))
 
-pub returns-clause-wrote : goal.returns-clause-wrote
-returns-clause-wrote c = let x = (start (goal.at.returns-clause-wrote c).After-refusal-n).args in
-    rw (request_listed x.number x.q (none (goal.at.returns-clause-wrote c).Else-n-ne0))
-    (rw (handed (goal.at.returns-clause-wrote c).After-key_points-list) at c.list_rows.ensures.wrote)
+pub returns-in-Ok : goal.returns-in-Ok
+returns-in-Ok c =
+    let q = c.args.q in
+    let z = none (goal.at.returns-in-Ok c).In-Ok in
+    rw (request_listed c.args.number q z)
+    (within (few q.axis q.hint z) (rw (handed (goal.at.returns-in-Ok c).After-key_points-list) at c.list_rows.ensures))
+
+pub returns-in-Err : goal.returns-in-Err
+returns-in-Err c =
+    rw (request_refused c.args.number c.args.q _ _ (sym c.ask_ticks.ensures ∙ c.in-Err.is))
+    (within (omega arith) c.refusal_row.ensures)

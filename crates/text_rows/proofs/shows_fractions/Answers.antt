@@ -1,19 +1,13 @@
--- `text_rows::shows_fractions` meets its contract: after i turns the first i ticks have been asked. Assumes nothing.
-use borrow.Author.Rules.{rules}
-use mathlib.Core.Path.{sym}
-use Prim.Native.Nat.{◌+◌, ◌*◌}
-use lib.IntN.{pos}
-use lib.ListN.{get_or}
-use mir.Syntax.{w64}
-use mir.Val.{SFits}
-use Rattle.laws.proofs.Signed.{read_up}
-use Rattle.text_rows.proofs.Lists.{no_fraction, next_fraction}
+-- `text_rows::shows_fractions` meets its contract: the chunks of two are the ticks. Assumes nothing.
+use mathlib.Core.Path.{◌∙◌}
+use Rattle.std.proofs.Common.{rules, tests}
+use Rattle.std.proofs.lemmas.Iterator.Search.{any_from_yields_List}
+use Rattle.text_rows.specs.Answers.{has_fraction}
+use Rattle.text_rows.proofs.Pairs.{chunks, any_fraction}
 use Rattle.text_rows.proofs.shows_fractions.Goals as goal
 
-pub loop-i-init : goal.loop-i-init
-loop-i-init c = (search rules, (search rules, sym (no_fraction _)))
-
-pub loop-i-preserved : goal.loop-i-preserved
-loop-i-preserved c = let list = c.args.list.now in
-    let f : SFits w64 (get_or list (2 * c.loop-i.i + 1) (pos 0)) = search rules in
-    (search rules, (search rules, rw (next_fraction list c.loop-i.i, ← c.loop-i.invariant.1.1, c.pos_part.ensures, read_up f)))
+pub returns : goal.returns
+returns c =
+    any_from_yields_List has_fraction _ _ _ c.any.ensures.ran
+    (chunks c.args.list.now c.chunks_exact.ensures.size c.chunks_exact.ensures.rest) (λ x b q k. search (rules, tests))
+    ∙ any_fraction c.args.list.now
