@@ -7,14 +7,15 @@ use native.Mathlib.Nat.{div-lt_iff_lt-mul, le-div_iff_mul-le, lt-div-mul-add, no
 use native.Mathlib.Omega.{arith}
 use lib.Dec.{ltb, leb, eqb}
 use lib.Ieee.{binary64}
-use borrow.Author.Tests.{ltb-false, leb-true, leb-false, eqb-true, eqb-false, lt-ltb, le-leb, lt-leb, eq-eqb, ne_eqb}
-use Rattle.laws.proofs.Tests.{both_true, and_true}
+use borrow.Author.Tests.{ltb-false, leb-true, leb-false, eqb-true, eqb-false}
+use Rattle.laws.proofs.Tests.{both_true}
 use Rattle.floats.specs.Rounding.{upward, ceil_of}
 use Rattle.floats.proofs.Quotients.{ratio_ceil, ceil_by_zero}
 use Rattle.values.proofs.Numbers.{not_both}
 use Rattle.steps.specs.Progression.{fitting}
 use Rattle.steps.proofs.Fitting.{few_steps}
 use Rattle.steps.proofs.Demand.{Kept}
+use Rattle.counting.proofs.Counting.{from_range, to_range}
 use Rattle.plans.specs.Days.{date_step}
 use Rattle.plans.proofs.Cases.{choose}
 
@@ -56,31 +57,7 @@ weeks_room w (suc m) s h =
 
 -- ---- the step
 module _ (d n : ℕ) where
-  pub step_none : d ≡ 0 → 7 ≡ date_step d n
-  unfolding date_step
-  step_none e = rw e refl
-
-  pub step_day : 0 < d → d ≤ n → 1 ≡ date_step d n
-  unfolding date_step
-  step_day a b = rw (lt-ltb 0 d a, le-leb d n b) refl
-
-  pub step_week : n < d → d / 7 ≤ n → 7 ≡ date_step d n
-  unfolding date_step
-  step_week a b =
-      let p : 0 < d = omega arith in
-      rw (lt-ltb 0 d p, lt-leb d n a, le-leb (d / 7) n b, and_true (ltb 0 (d / 7)))
-      (choose (λ (k : ℕ). 7 ≡ k) (ltb 0 (d / 7)) (λ e. refl)
-      (λ e. rw (eq-eqb (d / 7) 0 (omega (arith, ltb-false 0 (d / 7) e)))))
-
-  pub step_more : n < d / 7 → 7 * min (ceil_of (d / 7) n) (d / 7 + 1) ≡ date_step d n
-  unfolding date_step
-  step_more a =
-      let p : 0 < d = omega arith in
-      let q : 0 < d / 7 = omega arith in
-      let r : n < d = omega arith in
-      rw (lt-ltb 0 d p, lt-leb d n r, lt-ltb 0 (d / 7) q, lt-leb (d / 7) n a, ne_eqb (d / 7) 0 (λ e. omega arith)) refl
-
-  -- ---- it keeps the hint
+  -- it keeps the hint
   abbrev Wide : ℕ → Type 0
   Wide k = (0 < k) × (d + 1 ≤ (n + 1) * k) × (k ≤ d + 7)
 
@@ -109,3 +86,9 @@ module _ (d n : ℕ) where
 
   pub days_kept : d < 4000000 → Kept (date_step d n) (fitting (d + 1) (date_step d n)) n (d + 1)
   days_kept s = let (p, q, r) = step_wide s in record { stride = p; all = refl; few = few_steps (d + 1) (date_step d n) n p q }
+
+-- what a plan of days knows of an axis and of its step
+pub ruleset days_of_axis = (from_range, to_range, step_wide)
+
+-- the weeks of a step, by the code's test
+pub ruleset weeks_at_most = (weeks_none, weeks_some)

@@ -7,7 +7,7 @@ use native.Mathlib.Nat.{eq-or-lt_of_le}
 use native.Mathlib.Decide.{dec_le}
 use native.Mathlib.Omega.{arith}
 use lib.Dec.{leb}
-use borrow.Author.Tests.{leb-true, le-leb, lt-leb}
+use borrow.Author.Tests.{leb-true}
 use Rattle.calendar.specs.Gregorian.{day_number}
 use Rattle.calendar.specs.Questions.{last_day}
 use Rattle.calendar.proofs.Formulas.{years_closed}
@@ -88,27 +88,10 @@ module _ (t n : ℕ) where
       (λ _. choose (Wide t n) (leb t (n * 6)) (λ e. (omega arith, omega (arith, leb-true t (n * 6) e), omega arith))
       (λ _. year_wide h)))
 
-  -- ---- as the code chooses it
-  pub each_month : t ≤ n → 1 ≡ month_step t n
-  unfolding month_step
-  each_month a = rw (le-leb t n a) refl
-
-  pub each_quarter : n < t → t ≤ n * 3 → 3 ≡ month_step t n
-  unfolding month_step
-  each_quarter a b = rw (lt-leb t n a, le-leb t (n * 3) b) refl
-
-  pub each_half : n * 3 < t → t ≤ n * 6 → 6 ≡ month_step t n
-  unfolding month_step
-  each_half a b = let p : n < t = omega arith in rw (lt-leb t n p, lt-leb t (n * 3) a, le-leb t (n * 6) b) refl
-
-  pub each_year : n * 6 < t → year_step t n ≡ month_step t n
-  unfolding month_step
-  each_year a =
-      let p : n < t = omega arith in
-      let q : n * 3 < t = omega arith in
-      rw (lt-leb t n p, lt-leb t (n * 3) q, lt-leb t (n * 6) a) refl
-
 pub months_kept : (m e n k : ℕ) → Wide (e - m) n k → Kept k (fitting (e + 1 - m) k) n (e + 1 - m)
 months_kept m e n k w =
     let room : e + 1 - m ≤ (n + 1) * k = omega (arith, w.0, w.1) in
     record { stride = w.0; all = refl; few = few_steps (e + 1 - m) k n w.0 room }
+
+-- what the plans of months and of years know
+pub ruleset steps_wide = (last_most, month_wide, year_wide)

@@ -1,13 +1,12 @@
 -- The shift to the first tick, by the code's tests, and durations counted from zero. Assumes nothing.
 use mathlib.Core.Path.{◌≡◌, refl}
-use mathlib.Core.Bool.{true, false}
-use Prim.Native.Nat.{ℕ, zero, suc, ◌-◌, ◌%◌, ◌≤◌, ◌<◌}
+use mathlib.Core.Bool.{true}
+use Prim.Native.Nat.{ℕ, zero, suc, ◌%◌, ◌≤◌, ◌<◌}
 use native.Mathlib.Nat.{mod-lt}
 use native.Mathlib.Omega.{arith}
 use lib.Dec.{eqb}
 use lib.IntN.{ℤ, pos, negsuc, nat_abs, neg_ℤ, ◌-ℤ◌}
 use lib.Signed.{lt_z, rem_z}
-use borrow.Author.Tests.{eq-eqb, ne_eqb}
 use Rattle.laws.proofs.Signed.{sub, same}
 use Rattle.values.specs.declared.Value.{Value}
 use Rattle.values.specs.Values.{is_value}
@@ -15,30 +14,6 @@ use Rattle.values.specs.Differences.{nanoseconds, difference}
 use Rattle.plans.specs.Times.{shift_up, shift_of}
 use Rattle.laws.specs.Numbers.{as_u64}
 use Rattle.plans.proofs.Cases.{choose}
-
--- ---- by the code's tests
-module _ (x k : ℕ) where
-  pub up_none : x % k ≡ 0 → 0 ≡ shift_up x k
-  unfolding shift_up
-  up_none e = rw (eq-eqb (x % k) 0 e) refl
-
-  pub up_some : (x % k ≡ 0 → ⊥) → k - x % k ≡ shift_up x k
-  unfolding shift_up
-  up_some e = rw (ne_eqb (x % k) 0 e) refl
-
-module _ (z : ℤ) (k : ℕ) where
-  pub shift_none : as_u64 z % k ≡ 0 → 0 ≡ shift_of z k
-  unfolding shift_of
-  shift_none e = rw (eq-eqb (as_u64 z % k) 0 e)
-
-  module _ (e : as_u64 z % k ≡ 0 → ⊥) where
-    pub shift_up_law : lt_z (pos 0) z ≡ true → k - nat_abs (rem_z z (pos k)) ≡ shift_of z k
-    unfolding shift_of
-    shift_up_law h = rw (ne_eqb (as_u64 z % k) 0 e, h)
-
-    pub shift_down : lt_z (pos 0) z ≡ false → nat_abs (rem_z z (pos k)) ≡ shift_of z k
-    unfolding shift_of
-    shift_down h = rw (ne_eqb (as_u64 z % k) 0 e, h)
 
 -- ---- a shift is at most a period
 pub turned_size : (n : ℕ) → nat_abs (neg_ℤ (pos n)) ≡ n
@@ -72,3 +47,6 @@ zero_value = refl
 pub from_zero : (v : Value) → difference (pos 7) zero_span v ≡ nanoseconds (pos 7) v
 unfolding difference nanoseconds
 from_zero v = let n = nanoseconds (pos 7) v in same (n -ℤ pos 0) n (omega (arith, sub n (pos 0)))
+
+-- what the whole days of a duration know of zero
+pub ruleset zero_first = (zero_value, from_zero)

@@ -53,34 +53,37 @@ pub fn even_plan(e: Even) -> Steps
 }
 
 // The weeks of a step, which no hint makes longer than all of them and one.
+#[tactic(auto, using(crate::proofs::Days::weeks_at_most), unfolding(floats::specs::Rounding::ceil_of))]
 fn weeks_per(w: u64, n: u64) -> u64
     requires { (w < 4000000) × (n < w) }
     ensures { result ≡ min (ceil_of w n) (w + 1) }
 {
     if n == 0 {
-        return w + 1;
+        w + 1
+    } else {
+        floats::ceil_quotient(w, n)
     }
-    floats::ceil_quotient(w, n)
 }
 
 // The days of a step, where the last day is d later than the first.
+#[tactic(auto, unfolding(crate::specs::Days::date_step))]
 fn date_step(d: u64, n: u64) -> u64
     requires { d < 4000000 }
     ensures { result ≡ date_step d n }
 {
-    if d == 0 {
-        return 7;
-    }
-    if d <= n {
-        return 1;
-    }
     let weeks = d / 7;
-    if weeks <= n {
-        return 7;
+    if d == 0 {
+        7
+    } else if d <= n {
+        1
+    } else if weeks <= n {
+        7
+    } else {
+        7 * weeks_per(weeks, n)
     }
-    7 * weeks_per(weeks, n)
 }
 
+#[tactic(auto, using(crate::proofs::Days::days_of_axis), unfolding(crate::specs::Days::day_plan))]
 fn day_plan(a: Axis, n: u64) -> Steps
     requires { Dated a }
     ensures { result ≡ day_plan a n }
@@ -98,6 +101,7 @@ fn day_plan(a: Axis, n: u64) -> Steps
 }
 
 // The weeks of a step, where there are c Mondays.
+#[tactic(auto, unfolding(crate::specs::Weeks::week_step))]
 fn week_step(c: u64, n: u64) -> u64
     requires { (c < 4000000) × (n ≤ 4096) }
     ensures { result ≡ week_step c n }
@@ -123,6 +127,7 @@ fn week_plan(a: Axis, n: u64) -> Steps
 }
 
 // The months of a step of years, where the last month is t later than the first.
+#[tactic(auto, using(period::proofs::Fits::fit_most), unfolding(crate::specs::Months::year_step))]
 fn year_step(t: u64, n: u64) -> u64
     requires { t < 120000 }
     ensures { result ≡ year_step t n }
@@ -131,20 +136,20 @@ fn year_step(t: u64, n: u64) -> u64
 }
 
 // The same where months, quarters and half-years come first.
+#[tactic(auto, unfolding(crate::specs::Months::month_step))]
 fn month_step(t: u64, n: u64) -> u64
     requires { (t < 120000) × (n ≤ 4096) }
     ensures { result ≡ month_step t n }
 {
     if t <= n {
-        return 1;
+        1
+    } else if t <= n * 3 {
+        3
+    } else if t <= n * 6 {
+        6
+    } else {
+        year_step(t, n)
     }
-    if t <= n * 3 {
-        return 3;
-    }
-    if t <= n * 6 {
-        return 6;
-    }
-    year_step(t, n)
 }
 
 // Ticks k months apart.
@@ -172,6 +177,7 @@ pub fn months_on(a: Axis) -> MonthRange
     }
 }
 
+#[tactic(auto, using(crate::proofs::Months::steps_wide), unfolding(crate::specs::Months::month_plan))]
 fn month_plan(a: Axis, n: u64) -> Steps
     requires { Dated a × (n ≤ 4096) }
     ensures { result ≡ month_plan a n }
@@ -180,6 +186,7 @@ fn month_plan(a: Axis, n: u64) -> Steps
     months_by(m, month_step(m.last.saturating_sub(m.first), n))
 }
 
+#[tactic(auto, using(crate::proofs::Months::steps_wide), unfolding(crate::specs::Months::year_plan))]
 fn year_plan(a: Axis, n: u64) -> Steps
     requires { Dated a }
     ensures { result ≡ year_plan a n }
@@ -200,19 +207,18 @@ pub fn period_in(a: Axis, n: u64) -> Option<u64>
 }
 
 // From x up to a multiple of k.
+#[tactic(auto, unfolding(crate::specs::Times::shift_up))]
 fn shift_up(x: u64, k: u64) -> u64
     requires { 0 < k }
     ensures { result ≡ shift_up x k }
 {
-    let r = x % k;
-    if r == 0 {
-        return 0;
-    }
-    k - r
+    let rest = x % k;
+    if rest == 0 { 0 } else { k - rest }
 }
 
 // From a duration of z nanoseconds to the first tick: up to a multiple of k, or from below zero toward it. Nothing where k
 // divides the bits of z.
+#[tactic(auto, using(laws::proofs::Signed::rem_fits, laws::proofs::Signed::read_count), unfolding(crate::specs::Times::shift_of))]
 fn shift_of(z: i64, k: u64) -> u64
     requires { (0 < k) × (k < 2 ^ 63) }
     ensures { result ≡ shift_of z k }
@@ -244,9 +250,10 @@ fn unit(kind: i64) -> u64
     ensures { result ≡ unit kind }
 {
     if values::is_duration(kind) {
-        return 1000000000;
+        1000000000
+    } else {
+        86400000000000
     }
-    86400000000000
 }
 
 // Ticks a period apart.
@@ -266,6 +273,7 @@ fn time_plan(a: Axis, k: u64) -> Steps
 }
 
 // The whole days of a duration, cut toward zero.
+#[tactic(auto, using(crate::proofs::Times::zero_first), unfolding(values::specs::Differences::days_in))]
 fn days_in(v: Value) -> i64
     requires { is_value (pos 7) v ≡ true }
     ensures { result ≡ days_in v }
@@ -279,11 +287,12 @@ fn first_second(v: Value) -> i64
     requires { is_value (pos 7) v ≡ true }
     ensures { result ≡ first_second v }
 {
-    let h = days_in(v) * 86400;
-    if ((h <= v.head) & (v.head <= h)) & ((0 <= v.tail) & (v.tail <= 0)) {
-        return h;
-    }
-    h + 86400
+    let whole = days_in(v) * 86400;
+    let floor = Value {
+        head: whole,
+        tail: 0,
+    };
+    if v == floor { whole } else { whole + 86400 }
 }
 
 // From the first tick to the end, which is left out.
@@ -292,10 +301,7 @@ fn seconds_left(a: Axis, first: i64) -> u64
     ensures { result ≡ seconds_left a }
 {
     let whole = calendar::as_count(a.end_head - first);
-    if 0 < a.end_tail {
-        return whole + 1;
-    }
-    whole
+    if 0 < a.end_tail { whole + 1 } else { whole }
 }
 
 // Whole days of a duration.
@@ -333,16 +339,14 @@ pub fn plan_of(a: Axis, n: u64) -> Steps
     ensures { result ≡ plan_of a n }
 {
     if a.kind <= 1 {
-        return day_plan(a, n);
+        day_plan(a, n)
+    } else if counting::monthly(a) {
+        month_plan(a, n)
+    } else if counting::yearly(a) {
+        year_plan(a, n)
+    } else if counting::weekly(a) {
+        week_plan(a, n)
+    } else {
+        period_plan(a, n)
     }
-    if counting::monthly(a) {
-        return month_plan(a, n);
-    }
-    if counting::yearly(a) {
-        return year_plan(a, n);
-    }
-    if counting::weekly(a) {
-        return week_plan(a, n);
-    }
-    period_plan(a, n)
 }

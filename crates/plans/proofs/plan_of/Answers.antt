@@ -105,12 +105,12 @@ period_plan-requires c = let some =
     (no_weeks (goal.at.period_plan-requires c).Else-weekly) in
     (c.requires, c.requires.some some)
 
-pub returns : goal.returns
+pub returns-else-weekly : goal.returns-else-weekly
 unfolding plan_of
-returns c =
+returns-else-weekly c =
     c.period_plan.ensures ∙ rw (
-      no_days (goal.at.returns c).Else-a-le1,
-      no_months (goal.at.returns c).Else-monthly,
-      no_years (goal.at.returns c).Else-yearly,
-      no_weeks (goal.at.returns c).Else-weekly,
+      no_days (goal.at.returns-else-weekly c).Else-a-le1,
+      no_months (goal.at.returns-else-weekly c).Else-monthly,
+      no_years (goal.at.returns-else-weekly c).Else-yearly,
+      no_weeks (goal.at.returns-else-weekly c).Else-weekly,
     )

@@ -49,11 +49,11 @@ returns-then-a-gt0 c =
       rw (to_z-of_z (tail_fits (goal.at.returns-then-a-gt0 c).Start)) at c.if-a-gt0.true,
     )
 
-pub returns : goal.returns
+pub returns-else-a-gt0 : goal.returns-else-a-gt0
 unfolding seconds_left
-returns c =
+returns-else-a-gt0 c =
     rw (
-      counted (goal.at.returns c).After-as_count-whole,
-      rw (to_z-of_z (tail_fits (goal.at.returns c).Start))
+      counted (goal.at.returns-else-a-gt0 c).After-as_count-whole,
+      rw (to_z-of_z (tail_fits (goal.at.returns-else-a-gt0 c).Start))
           at c.if-a-gt0.false,
     ) (omega arith)
