@@ -3,33 +3,29 @@
 #![tactic(auto)]
 
 ghost use Rattle.std.specs.Prelude.{◌≡◌, ◌^◌, ◌<◌, length};
+ghost use Rattle.std.specs.Result.{result_unwrap_or};
 ghost use Rattle.calendar.specs.Questions.{number_of, date_at};
 ghost use Rattle.weeks.specs.Questions.{week_day_number, week_date_at};
 ghost use Rattle.axis.specs.Axes.{axis_of};
 ghost use Rattle.discrete.specs.Answers.{size_answer, index_answer, from_index_answer, next_answer, previous_answer};
 ghost use Rattle.discrete.specs.Answers.{values_answer, unmap_answer};
 ghost use Rattle.mapping.specs.Mapping.{mapped};
-ghost use Rattle.segmented.specs.declared.SegmentAnswer.TheVariants as answer;
 ghost use Rattle.segmented.specs.Answers.{segment_map_answer, segment_ticks_answer, segment_ticks_written};
 ghost use Rattle.segmented.specs.Answers.{segment_size_answer, segment_index_answer, segment_from_answer};
 ghost use Rattle.rules.specs.Table.{rules_answer};
 ghost use Rattle.ruled.specs.Answers.{ruled_answer, ruled_written};
-ghost use Rattle.steps.specs.Listing.{count_of};
 ghost use Rattle.ticks.specs.Answers.{ticks_answer, ticks_written, period_answer};
-ghost use Rattle.ordered.specs.Replies.{day_in, day_reply, date_reply, week_reply, flag, pixel_reply, count_reply, period_reply};
-ghost use Rattle.ordered.specs.Replies.{number_in, row_count, rules_reply};
-ghost use Rattle.ordered.specs.Replies.{number_reply, value_reply, step_reply, segment_reply};
+ghost use Rattle.ordered.specs.Replies.{number_reply, number_in, index_reply, period_reply, date_reply, week_reply};
+ghost use Rattle.ordered.specs.Replies.{pixel_reply, value_reply, value_if_reply, step_reply, segment_reply};
 
-use axis::{Axis, BoldPoints, Hint, LightPoints, Limits, ValueAnswer};
-use calendar::{DateAnswer, DayAnswer, Ymd};
-use discrete::{Cursor, NumberAnswer, StepAnswer};
-use mapping::Pixel;
-use rules::RulesAnswer;
-use segmented::{Segment, SegmentAnswer, SegmentValue};
-use steps::Listed;
-use ticks::PeriodAnswer;
+use asking::Refusal;
+use axis::{Axis, BoldPoints, Hint, LightPoints, Limits};
+use calendar::Ymd;
+use discrete::Cursor;
+use mapping::Hairline;
+use segmented::{Segment, SegmentValue};
 use values::Value;
-use weeks::{WeekAnswer, Ywd};
+use weeks::Ywd;
 
 // A day number, count, size or index.
 #[repr(C)]
@@ -101,45 +97,192 @@ pub struct OrderedWeekDate {
     pub weekday: i64,
 }
 
-fn day_reply(a: DayAnswer) -> OrderedNumber
-    requires { day_in a < 2 ^ 63 }
-    ensures { result ≡ day_reply a }
+// Answers in C's numbers. No count, index or period is beyond 63 bits.
+fn number_reply(answer: Result<u64, Refusal>) -> OrderedNumber
+    requires { result_unwrap_or answer 0 < 2 ^ 63 }
+    ensures { result ≡ number_reply answer }
 {
-    match a {
-        DayAnswer::Answered(n) => OrderedNumber {
+    index_reply(answer.map(Some))
+}
+
+fn index_reply(answer: Result<Option<u64>, Refusal>) -> OrderedNumber
+    requires { number_in answer < 2 ^ 63 }
+    ensures { result ≡ index_reply answer }
+{
+    match answer {
+        Ok(Some(n)) => OrderedNumber {
             status: 0,
             value: n as i64,
         },
-        DayAnswer::Refused(q) => OrderedNumber {
-            status: q as i64,
+        Ok(None) => OrderedNumber {
+            status: -1,
+            value: 0,
+        },
+        Err(q) => OrderedNumber {
+            status: i64::from(q),
             value: 0,
         },
     }
 }
 
-pub fn ordered_day_number(year: i64, month: i64, day: i64) -> OrderedNumber
-    ensures { result ≡ day_reply (number_of (record { year = year; month = month; day = day })) }
+fn period_reply(answer: Result<Option<u64>, Refusal>) -> OrderedPeriod
+    requires { number_in answer < 2 ^ 63 }
+    ensures { result ≡ period_reply answer }
 {
-    let t = Ymd {
-        year: year,
-        month: month,
-        day: day,
-    };
-    day_reply(calendar::number_of(t))
+    match answer {
+        Ok(Some(k)) => OrderedPeriod {
+            status: 0,
+            nanoseconds: k as i64,
+        },
+        Ok(None) => OrderedPeriod {
+            status: -1,
+            nanoseconds: 0,
+        },
+        Err(q) => OrderedPeriod {
+            status: i64::from(q),
+            nanoseconds: 0,
+        },
+    }
+}
+
+impl From<Result<Hairline, Refusal>> for OrderedPixel {
+    ghost from_gives = { λ answer reply. reply ≡ pixel_reply answer };
+
+    fn from(answer: Result<Hairline, Refusal>) -> OrderedPixel {
+        match answer {
+            Ok(h) => OrderedPixel {
+                status: 0,
+                pixel: h.pixel,
+                exact: i64::from(h.exact),
+                lost: i64::from(h.lost),
+            },
+            Err(q) => OrderedPixel {
+                status: i64::from(q),
+                pixel: 0,
+                exact: 0,
+                lost: 0,
+            },
+        }
+    }
+}
+
+impl From<Result<Value, Refusal>> for OrderedValue {
+    ghost from_gives = { λ answer reply. reply ≡ value_reply answer };
+
+    fn from(answer: Result<Value, Refusal>) -> OrderedValue {
+        OrderedValue::from(answer.map(Some))
+    }
+}
+
+impl From<Result<Option<Value>, Refusal>> for OrderedValue {
+    ghost from_gives = { λ answer reply. reply ≡ value_if_reply answer };
+
+    fn from(answer: Result<Option<Value>, Refusal>) -> OrderedValue {
+        match answer {
+            Ok(Some(v)) => OrderedValue {
+                status: 0,
+                head: v.head,
+                tail: v.tail,
+            },
+            Ok(None) => OrderedValue {
+                status: -1,
+                head: 0,
+                tail: 0,
+            },
+            Err(q) => OrderedValue {
+                status: i64::from(q),
+                head: 0,
+                tail: 0,
+            },
+        }
+    }
+}
+
+impl From<Result<(Option<Value>, Cursor), Refusal>> for OrderedStep {
+    ghost from_gives = { λ answer reply. reply ≡ step_reply answer };
+
+    fn from(answer: Result<(Option<Value>, Cursor), Refusal>) -> OrderedStep {
+        match answer {
+            Ok((Some(v), c)) => OrderedStep {
+                status: 0,
+                head: v.head,
+                tail: v.tail,
+                next: c.place,
+            },
+            Ok((None, c)) => OrderedStep {
+                status: -1,
+                head: 0,
+                tail: 0,
+                next: c.place,
+            },
+            Err(q) => OrderedStep {
+                status: i64::from(q),
+                head: 0,
+                tail: 0,
+                next: 0,
+            },
+        }
+    }
+}
+
+impl From<Result<Option<SegmentValue>, Refusal>> for OrderedSegment {
+    ghost from_gives = { λ answer reply. reply ≡ segment_reply answer };
+
+    fn from(answer: Result<Option<SegmentValue>, Refusal>) -> OrderedSegment {
+        match answer {
+            Ok(Some(SegmentValue::Exact(v))) => OrderedSegment {
+                status: 0,
+                segment: 1,
+                head: v.head,
+                tail: v.tail,
+            },
+            Ok(Some(SegmentValue::CenterOf(v))) => OrderedSegment {
+                status: 0,
+                segment: 2,
+                head: v.head,
+                tail: v.tail,
+            },
+            Ok(Some(SegmentValue::Last)) => OrderedSegment {
+                status: 0,
+                segment: 3,
+                head: 0,
+                tail: 0,
+            },
+            Ok(None) => OrderedSegment {
+                status: -1,
+                segment: 0,
+                head: 0,
+                tail: 0,
+            },
+            Err(q) => OrderedSegment {
+                status: i64::from(q),
+                segment: 0,
+                head: 0,
+                tail: 0,
+            },
+        }
+    }
+}
+
+pub fn ordered_day_number(year: i64, month: i64, day: i64) -> OrderedNumber
+    ensures { result ≡ number_reply (number_of (record { year = year; month = month; day = day })) }
+{
+    let t = Ymd { year, month, day };
+    number_reply(calendar::number_of(t))
 }
 
 pub fn ordered_date_of(day_number: i64) -> OrderedDate
     ensures { result ≡ date_reply (date_at day_number) }
 {
     match calendar::date_at(day_number) {
-        DateAnswer::Answered(t) => OrderedDate {
+        Ok(t) => OrderedDate {
             status: 0,
             year: t.year as i64,
             month: t.month as i64,
             day: t.day as i64,
         },
-        DateAnswer::Refused(q) => OrderedDate {
-            status: q as i64,
+        Err(q) => OrderedDate {
+            status: i64::from(q),
             year: 0,
             month: 0,
             day: 0,
@@ -148,57 +291,31 @@ pub fn ordered_date_of(day_number: i64) -> OrderedDate
 }
 
 pub fn ordered_week_day_number(year: i64, week: i64, weekday: i64) -> OrderedNumber
-    ensures { result ≡ day_reply (week_day_number (record { year = year; week = week; weekday = weekday })) }
+    ensures { result ≡ number_reply (week_day_number (record { year = year; week = week; weekday = weekday })) }
 {
     let t = Ywd {
-        year: year,
-        week: week,
-        weekday: weekday,
+        year,
+        week,
+        weekday,
     };
-    day_reply(weeks::week_day_number(t))
+    number_reply(weeks::week_day_number(t))
 }
 
 pub fn ordered_week_date_of(day_number: i64) -> OrderedWeekDate
     ensures { result ≡ week_reply (week_date_at day_number) }
 {
     match weeks::week_date_at(day_number) {
-        WeekAnswer::Answered(t) => OrderedWeekDate {
+        Ok(t) => OrderedWeekDate {
             status: 0,
             year: t.year as i64,
             week: t.week as i64,
             weekday: t.weekday as i64,
         },
-        WeekAnswer::Refused(q) => OrderedWeekDate {
-            status: q as i64,
+        Err(q) => OrderedWeekDate {
+            status: i64::from(q),
             year: 0,
             week: 0,
             weekday: 0,
-        },
-    }
-}
-
-// 1 for yes, 0 for no.
-fn flag(b: bool) -> i64
-    ensures { result ≡ flag b }
-{
-    if b { 1 } else { 0 }
-}
-
-fn pixel_reply(a: Pixel) -> OrderedPixel
-    ensures { result ≡ pixel_reply a }
-{
-    match a {
-        Pixel::At(h) => OrderedPixel {
-            status: 0,
-            pixel: h.pixel,
-            exact: flag(h.exact),
-            lost: flag(h.lost),
-        },
-        Pixel::Refused(q) => OrderedPixel {
-            status: q as i64,
-            pixel: 0,
-            exact: 0,
-            lost: 0,
         },
     }
 }
@@ -227,52 +344,30 @@ pub fn ordered_map(
         end_tail,
         end_excluded,
     );
-    let l = Limits {
-        low: low,
-        high: high,
-    };
-    let v = Value {
-        head: head,
-        tail: tail,
-    };
-    pixel_reply(mapping::map(a, l, v))
-}
-
-fn count_reply(a: Listed) -> OrderedNumber
-    requires { count_of a < 2 ^ 63 }
-    ensures { result ≡ count_reply a }
-{
-    match a {
-        Listed::Ticks(n) => OrderedNumber {
-            status: 0,
-            value: n as i64,
-        },
-        Listed::Refused(q) => OrderedNumber {
-            status: q as i64,
-            value: 0,
-        },
-    }
+    let l = Limits { low, high };
+    let v = Value { head, tail };
+    OrderedPixel::from(mapping::map(a, l, v))
 }
 
 // Either hint: the count of ticks, and their list.
 fn count_ticks(a: Axis, h: Hint, lent_len: u64) -> OrderedNumber
-    ensures { result ≡ count_reply (ticks_answer a h lent_len) }
+    ensures { result ≡ number_reply (ticks_answer a h lent_len) }
 {
-    count_reply(ticks::count(a, h, lent_len))
+    number_reply(ticks::count(a, h, lent_len))
 }
 
 fn list_ticks(a: Axis, h: Hint, lent: &mut [i64]) -> OrderedNumber
-    ensures value { result ≡ count_reply (ticks_answer a h (length lent.old)) }
+    ensures value { result ≡ number_reply (ticks_answer a h (length lent.old)) }
     ensures after_call { lent.new ≡ ticks_written a h lent.old }
 {
-    count_reply(ticks::list(a, h, lent))
+    number_reply(ticks::list(a, h, lent))
 }
 
 fn list_segment_ticks(a: Axis, h: Hint, lent: &mut [i64]) -> OrderedNumber
-    ensures value { result ≡ count_reply (segment_ticks_answer a h (length lent.old)) }
+    ensures value { result ≡ number_reply (segment_ticks_answer a h (length lent.old)) }
     ensures after_call { lent.new ≡ segment_ticks_written a h lent.old }
 {
-    count_reply(segmented::list(a, h, lent))
+    number_reply(segmented::list(a, h, lent))
 }
 
 pub fn ordered_ticks_bold(
@@ -285,7 +380,7 @@ pub fn ordered_ticks_bold(
     n: i64,
     lent: &mut [i64],
 ) -> OrderedNumber
-    ensures value { result ≡ count_reply (ticks_answer
+    ensures value { result ≡ number_reply (ticks_answer
         (axis_of kind start_head start_tail end_head end_tail end_excluded)
         (Hint.Bold (record { n = n })) (length lent.old)) }
     ensures after_call { lent.new ≡ ticks_written
@@ -300,7 +395,7 @@ pub fn ordered_ticks_bold(
         end_tail,
         end_excluded,
     );
-    let h = BoldPoints { n: n };
+    let h = BoldPoints { n };
     list_ticks(a, Hint::Bold(h), lent)
 }
 
@@ -314,7 +409,7 @@ pub fn ordered_count_bold(
     n: i64,
     lent_len: usize,
 ) -> OrderedNumber
-    ensures { result ≡ count_reply (ticks_answer
+    ensures { result ≡ number_reply (ticks_answer
         (axis_of kind start_head start_tail end_head end_tail end_excluded)
         (Hint.Bold (record { n = n })) lent_len) }
 {
@@ -326,7 +421,7 @@ pub fn ordered_count_bold(
         end_tail,
         end_excluded,
     );
-    let h = BoldPoints { n: n };
+    let h = BoldPoints { n };
     count_ticks(a, Hint::Bold(h), lent_len as u64)
 }
 
@@ -341,7 +436,7 @@ pub fn ordered_ticks_light(
     n: i64,
     lent: &mut [i64],
 ) -> OrderedNumber
-    ensures value { result ≡ count_reply (ticks_answer
+    ensures value { result ≡ number_reply (ticks_answer
         (axis_of kind start_head start_tail end_head end_tail end_excluded)
         (Hint.Light (record { bold = bold; n = n })) (length lent.old)) }
     ensures after_call { lent.new ≡ ticks_written
@@ -356,7 +451,7 @@ pub fn ordered_ticks_light(
         end_tail,
         end_excluded,
     );
-    let h = LightPoints { bold: bold, n: n };
+    let h = LightPoints { bold, n };
     list_ticks(a, Hint::Light(h), lent)
 }
 
@@ -371,7 +466,7 @@ pub fn ordered_count_light(
     n: i64,
     lent_len: usize,
 ) -> OrderedNumber
-    ensures { result ≡ count_reply (ticks_answer
+    ensures { result ≡ number_reply (ticks_answer
         (axis_of kind start_head start_tail end_head end_tail end_excluded)
         (Hint.Light (record { bold = bold; n = n })) lent_len) }
 {
@@ -383,43 +478,14 @@ pub fn ordered_count_light(
         end_tail,
         end_excluded,
     );
-    let h = LightPoints { bold: bold, n: n };
+    let h = LightPoints { bold, n };
     count_ticks(a, Hint::Light(h), lent_len as u64)
 }
 
-fn rules_reply(a: RulesAnswer) -> OrderedNumber
-    requires { row_count a < 2 ^ 63 }
-    ensures { result ≡ rules_reply a }
-{
-    match a {
-        RulesAnswer::Rows(n) => OrderedNumber {
-            status: 0,
-            value: n as i64,
-        },
-        RulesAnswer::Refused(q) => OrderedNumber {
-            status: q as i64,
-            value: 0,
-        },
-    }
-}
-
 pub fn ordered_rules(table: &[u8]) -> OrderedNumber
-    ensures { result ≡ rules_reply (rules_answer table.now) }
+    ensures { result ≡ number_reply (rules_answer table.now) }
 {
-    rules_reply(rules::count(table))
-}
-
-fn count_ruled(a: Axis, table: &[u8], lent_len: u64) -> OrderedNumber
-    ensures { result ≡ count_reply (ruled_answer table.now a lent_len) }
-{
-    count_reply(ruled::count(a, table, lent_len))
-}
-
-fn list_ruled(a: Axis, table: &[u8], lent: &mut [i64]) -> OrderedNumber
-    ensures value { result ≡ count_reply (ruled_answer table.now a (length lent.old)) }
-    ensures after_call { lent.new ≡ ruled_written table.now a lent.old }
-{
-    count_reply(ruled::list(a, table, lent))
+    number_reply(rules::count(table))
 }
 
 pub fn ordered_ticks_ruled(
@@ -432,7 +498,7 @@ pub fn ordered_ticks_ruled(
     table: &[u8],
     lent: &mut [i64],
 ) -> OrderedNumber
-    ensures value { result ≡ count_reply (ruled_answer table.now
+    ensures value { result ≡ number_reply (ruled_answer table.now
         (axis_of kind start_head start_tail end_head end_tail end_excluded) (length lent.old)) }
     ensures after_call { lent.new ≡ ruled_written table.now
         (axis_of kind start_head start_tail end_head end_tail end_excluded) lent.old }
@@ -445,7 +511,7 @@ pub fn ordered_ticks_ruled(
         end_tail,
         end_excluded,
     );
-    list_ruled(a, table, lent)
+    number_reply(ruled::list(a, table, lent))
 }
 
 pub fn ordered_count_ruled(
@@ -458,7 +524,7 @@ pub fn ordered_count_ruled(
     table: &[u8],
     lent_len: usize,
 ) -> OrderedNumber
-    ensures { result ≡ count_reply (ruled_answer table.now
+    ensures { result ≡ number_reply (ruled_answer table.now
         (axis_of kind start_head start_tail end_head end_tail end_excluded) lent_len) }
 {
     let a = axis::axis_of(
@@ -469,7 +535,7 @@ pub fn ordered_count_ruled(
         end_tail,
         end_excluded,
     );
-    count_ruled(a, table, lent_len as u64)
+    number_reply(ruled::count(a, table, lent_len as u64))
 }
 
 pub fn ordered_period_per_point(
@@ -493,88 +559,8 @@ pub fn ordered_period_per_point(
         end_tail,
         end_excluded,
     );
-    let h = BoldPoints { n: n };
-    match ticks::period_per_point(a, h) {
-        PeriodAnswer::Is(k) => OrderedPeriod {
-            status: 0,
-            nanoseconds: k as i64,
-        },
-        PeriodAnswer::None => OrderedPeriod {
-            status: -1,
-            nanoseconds: 0,
-        },
-        PeriodAnswer::Refused(q) => OrderedPeriod {
-            status: q as i64,
-            nanoseconds: 0,
-        },
-    }
-}
-
-fn number_reply(a: NumberAnswer) -> OrderedNumber
-    requires { number_in a < 2 ^ 63 }
-    ensures { result ≡ number_reply a }
-{
-    match a {
-        NumberAnswer::Is(n) => OrderedNumber {
-            status: 0,
-            value: n as i64,
-        },
-        NumberAnswer::None => OrderedNumber {
-            status: -1,
-            value: 0,
-        },
-        NumberAnswer::Refused(q) => OrderedNumber {
-            status: q as i64,
-            value: 0,
-        },
-    }
-}
-
-fn value_reply(a: ValueAnswer) -> OrderedValue
-    ensures { result ≡ value_reply a }
-{
-    match a {
-        ValueAnswer::At(v) => OrderedValue {
-            status: 0,
-            head: v.head,
-            tail: v.tail,
-        },
-        ValueAnswer::None => OrderedValue {
-            status: -1,
-            head: 0,
-            tail: 0,
-        },
-        ValueAnswer::Refused(q) => OrderedValue {
-            status: q as i64,
-            head: 0,
-            tail: 0,
-        },
-    }
-}
-
-fn step_reply(a: StepAnswer) -> OrderedStep
-    ensures { result ≡ step_reply a }
-{
-    match a {
-        StepAnswer::At(v, c) => OrderedStep {
-            status: 0,
-            head: v.head,
-            tail: v.tail,
-            next: c.place,
-        },
-        StepAnswer::None(c) => OrderedStep {
-            status: -1,
-            head: 0,
-            tail: 0,
-            next: c.place,
-        },
-        StepAnswer::Refused(q) => OrderedStep {
-            status: q as i64,
-            head: 0,
-            tail: 0,
-            next: 0,
-        },
-    }
+    let h = BoldPoints { n };
+    period_reply(ticks::period_per_point(a, h))
 }
 
 pub fn ordered_unmap(
@@ -600,11 +586,8 @@ pub fn ordered_unmap(
         end_tail,
         end_excluded,
     );
-    let l = Limits {
-        low: low,
-        high: high,
-    };
-    value_reply(discrete::unmap(a, l, pixel))
+    let l = Limits { low, high };
+    OrderedValue::from(discrete::unmap(a, l, pixel))
 }
 
 pub fn ordered_size(
@@ -639,7 +622,7 @@ pub fn ordered_index_of(
     head: i64,
     tail: i64,
 ) -> OrderedNumber
-    ensures { result ≡ number_reply (index_answer
+    ensures { result ≡ index_reply (index_answer
         (axis_of kind start_head start_tail end_head end_tail end_excluded)
         (record { head = head; tail = tail })) }
 {
@@ -651,11 +634,8 @@ pub fn ordered_index_of(
         end_tail,
         end_excluded,
     );
-    let v = Value {
-        head: head,
-        tail: tail,
-    };
-    number_reply(discrete::index_of(a, v))
+    let v = Value { head, tail };
+    index_reply(discrete::index_of(a, v))
 }
 
 pub fn ordered_from_index(
@@ -679,7 +659,7 @@ pub fn ordered_from_index(
         end_tail,
         end_excluded,
     );
-    value_reply(discrete::from_index(a, index))
+    OrderedValue::from(discrete::from_index(a, index))
 }
 
 pub fn ordered_next(
@@ -692,7 +672,7 @@ pub fn ordered_next(
     head: i64,
     tail: i64,
 ) -> OrderedValue
-    ensures { result ≡ value_reply (next_answer
+    ensures { result ≡ value_if_reply (next_answer
         (axis_of kind start_head start_tail end_head end_tail end_excluded)
         (record { head = head; tail = tail })) }
 {
@@ -704,11 +684,8 @@ pub fn ordered_next(
         end_tail,
         end_excluded,
     );
-    let v = Value {
-        head: head,
-        tail: tail,
-    };
-    value_reply(discrete::next(a, v))
+    let v = Value { head, tail };
+    OrderedValue::from(discrete::next(a, v))
 }
 
 pub fn ordered_previous(
@@ -721,7 +698,7 @@ pub fn ordered_previous(
     head: i64,
     tail: i64,
 ) -> OrderedValue
-    ensures { result ≡ value_reply (previous_answer
+    ensures { result ≡ value_if_reply (previous_answer
         (axis_of kind start_head start_tail end_head end_tail end_excluded)
         (record { head = head; tail = tail })) }
 {
@@ -733,11 +710,8 @@ pub fn ordered_previous(
         end_tail,
         end_excluded,
     );
-    let v = Value {
-        head: head,
-        tail: tail,
-    };
-    value_reply(discrete::previous(a, v))
+    let v = Value { head, tail };
+    OrderedValue::from(discrete::previous(a, v))
 }
 
 pub fn ordered_values(
@@ -761,8 +735,8 @@ pub fn ordered_values(
         end_tail,
         end_excluded,
     );
-    let c = Cursor { place: place };
-    step_reply(discrete::values(a, c))
+    let c = Cursor { place };
+    OrderedStep::from(discrete::values(a, c))
 }
 
 pub fn ordered_segment_map(
@@ -790,16 +764,13 @@ pub fn ordered_segment_map(
         end_tail,
         end_excluded,
     );
-    let l = Limits {
-        low: low,
-        high: high,
-    };
+    let l = Limits { low, high };
     let s = Segment {
         case: segment,
-        head: head,
-        tail: tail,
+        head,
+        tail,
     };
-    pixel_reply(segmented::map(a, l, s))
+    OrderedPixel::from(segmented::map(a, l, s))
 }
 
 pub fn ordered_segment_ticks_bold(
@@ -812,7 +783,7 @@ pub fn ordered_segment_ticks_bold(
     n: i64,
     lent: &mut [i64],
 ) -> OrderedNumber
-    ensures value { result ≡ count_reply (segment_ticks_answer
+    ensures value { result ≡ number_reply (segment_ticks_answer
         (axis_of kind start_head start_tail end_head end_tail end_excluded)
         (Hint.Bold (record { n = n })) (length lent.old)) }
     ensures after_call { lent.new ≡ segment_ticks_written
@@ -827,7 +798,7 @@ pub fn ordered_segment_ticks_bold(
         end_tail,
         end_excluded,
     );
-    let h = BoldPoints { n: n };
+    let h = BoldPoints { n };
     list_segment_ticks(a, Hint::Bold(h), lent)
 }
 
@@ -842,7 +813,7 @@ pub fn ordered_segment_ticks_light(
     n: i64,
     lent: &mut [i64],
 ) -> OrderedNumber
-    ensures value { result ≡ count_reply (segment_ticks_answer
+    ensures value { result ≡ number_reply (segment_ticks_answer
         (axis_of kind start_head start_tail end_head end_tail end_excluded)
         (Hint.Light (record { bold = bold; n = n })) (length lent.old)) }
     ensures after_call { lent.new ≡ segment_ticks_written
@@ -857,7 +828,7 @@ pub fn ordered_segment_ticks_light(
         end_tail,
         end_excluded,
     );
-    let h = LightPoints { bold: bold, n: n };
+    let h = LightPoints { bold, n };
     list_segment_ticks(a, Hint::Light(h), lent)
 }
 
@@ -894,7 +865,7 @@ pub fn ordered_segment_index_of(
     head: i64,
     tail: i64,
 ) -> OrderedNumber
-    ensures { result ≡ number_reply (segment_index_answer
+    ensures { result ≡ index_reply (segment_index_answer
         (axis_of kind start_head start_tail end_head end_tail end_excluded)
         (record { case = segment; head = head; tail = tail })) }
 {
@@ -908,55 +879,10 @@ pub fn ordered_segment_index_of(
     );
     let s = Segment {
         case: segment,
-        head: head,
-        tail: tail,
+        head,
+        tail,
     };
-    number_reply(segmented::index_of(a, s))
-}
-
-fn segment_value_reply(v: SegmentValue) -> OrderedSegment
-    ensures { result ≡ segment_reply (answer.At v) }
-{
-    match v {
-        SegmentValue::Exact(w) => OrderedSegment {
-            status: 0,
-            segment: 1,
-            head: w.head,
-            tail: w.tail,
-        },
-        SegmentValue::CenterOf(w) => OrderedSegment {
-            status: 0,
-            segment: 2,
-            head: w.head,
-            tail: w.tail,
-        },
-        SegmentValue::Last => OrderedSegment {
-            status: 0,
-            segment: 3,
-            head: 0,
-            tail: 0,
-        },
-    }
-}
-
-fn segment_reply(a: SegmentAnswer) -> OrderedSegment
-    ensures { result ≡ segment_reply a }
-{
-    match a {
-        SegmentAnswer::At(v) => segment_value_reply(v),
-        SegmentAnswer::None => OrderedSegment {
-            status: -1,
-            segment: 0,
-            head: 0,
-            tail: 0,
-        },
-        SegmentAnswer::Refused(q) => OrderedSegment {
-            status: q as i64,
-            segment: 0,
-            head: 0,
-            tail: 0,
-        },
-    }
+    index_reply(segmented::index_of(a, s))
 }
 
 pub fn ordered_segment_from_index(
@@ -979,5 +905,5 @@ pub fn ordered_segment_from_index(
         end_tail,
         end_excluded,
     );
-    segment_reply(segmented::from_index(a, index))
+    OrderedSegment::from(segmented::from_index(a, index))
 }

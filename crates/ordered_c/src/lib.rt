@@ -14,9 +14,8 @@ ghost use Rattle.segmented.specs.Answers.{segment_size_answer, segment_index_ans
 ghost use Rattle.rules.specs.Table.{rules_answer};
 ghost use Rattle.ruled.specs.Answers.{ruled_answer, ruled_written};
 ghost use Rattle.ticks.specs.Answers.{ticks_answer, ticks_written, period_answer};
-ghost use Rattle.ordered.specs.Replies.{day_reply, date_reply, week_reply, pixel_reply, count_reply, period_reply};
-ghost use Rattle.ordered.specs.Replies.{rules_reply};
-ghost use Rattle.ordered.specs.Replies.{number_reply, value_reply, step_reply, segment_reply};
+ghost use Rattle.ordered.specs.Replies.{number_reply, index_reply, period_reply, date_reply, week_reply};
+ghost use Rattle.ordered.specs.Replies.{pixel_reply, value_reply, value_if_reply, step_reply, segment_reply};
 
 use axis::Hint;
 use ordered::{
@@ -26,7 +25,7 @@ use ordered::{
 
 #[unsafe(no_mangle)]
 pub extern "C" fn ordered_day_number(year: i64, month: i64, day: i64) -> OrderedNumber
-    ensures { result ≡ day_reply (number_of (record { year = year; month = month; day = day })) }
+    ensures { result ≡ number_reply (number_of (record { year = year; month = month; day = day })) }
 {
     ordered::ordered_day_number(year, month, day)
 }
@@ -40,7 +39,7 @@ pub extern "C" fn ordered_date_of(day_number: i64) -> OrderedDate
 
 #[unsafe(no_mangle)]
 pub extern "C" fn ordered_week_day_number(year: i64, week: i64, weekday: i64) -> OrderedNumber
-    ensures { result ≡ day_reply (week_day_number (record { year = year; week = week; weekday = weekday })) }
+    ensures { result ≡ number_reply (week_day_number (record { year = year; week = week; weekday = weekday })) }
 {
     ordered::ordered_week_day_number(year, week, weekday)
 }
@@ -94,7 +93,7 @@ pub extern "C" fn ordered_ticks_bold(
     n: i64,
     lent: &mut [i64],
 ) -> OrderedNumber
-    ensures value { result ≡ count_reply (ticks_answer
+    ensures value { result ≡ number_reply (ticks_answer
         (axis_of kind start_head start_tail end_head end_tail end_excluded)
         (Hint.Bold (record { n = n })) (length lent.old)) }
     ensures after_call { lent.new ≡ ticks_written
@@ -124,7 +123,7 @@ pub extern "C" fn ordered_count_bold(
     n: i64,
     lent_len: usize,
 ) -> OrderedNumber
-    ensures { result ≡ count_reply (ticks_answer
+    ensures { result ≡ number_reply (ticks_answer
         (axis_of kind start_head start_tail end_head end_tail end_excluded)
         (Hint.Bold (record { n = n })) lent_len) }
 {
@@ -152,7 +151,7 @@ pub extern "C" fn ordered_ticks_light(
     n: i64,
     lent: &mut [i64],
 ) -> OrderedNumber
-    ensures value { result ≡ count_reply (ticks_answer
+    ensures value { result ≡ number_reply (ticks_answer
         (axis_of kind start_head start_tail end_head end_tail end_excluded)
         (Hint.Light (record { bold = bold; n = n })) (length lent.old)) }
     ensures after_call { lent.new ≡ ticks_written
@@ -184,7 +183,7 @@ pub extern "C" fn ordered_count_light(
     n: i64,
     lent_len: usize,
 ) -> OrderedNumber
-    ensures { result ≡ count_reply (ticks_answer
+    ensures { result ≡ number_reply (ticks_answer
         (axis_of kind start_head start_tail end_head end_tail end_excluded)
         (Hint.Light (record { bold = bold; n = n })) lent_len) }
 {
@@ -203,7 +202,7 @@ pub extern "C" fn ordered_count_light(
 
 #[unsafe(no_mangle)]
 pub extern "C" fn ordered_rules(table: &[u8]) -> OrderedNumber
-    ensures { result ≡ rules_reply (rules_answer table.now) }
+    ensures { result ≡ number_reply (rules_answer table.now) }
 {
     ordered::ordered_rules(table)
 }
@@ -219,7 +218,7 @@ pub extern "C" fn ordered_ticks_ruled(
     table: &[u8],
     lent: &mut [i64],
 ) -> OrderedNumber
-    ensures value { result ≡ count_reply (ruled_answer table.now
+    ensures value { result ≡ number_reply (ruled_answer table.now
         (axis_of kind start_head start_tail end_head end_tail end_excluded) (length lent.old)) }
     ensures after_call { lent.new ≡ ruled_written table.now
         (axis_of kind start_head start_tail end_head end_tail end_excluded) lent.old }
@@ -247,7 +246,7 @@ pub extern "C" fn ordered_count_ruled(
     table: &[u8],
     lent_len: usize,
 ) -> OrderedNumber
-    ensures { result ≡ count_reply (ruled_answer table.now
+    ensures { result ≡ number_reply (ruled_answer table.now
         (axis_of kind start_head start_tail end_head end_tail end_excluded) lent_len) }
 {
     ordered::ordered_count_ruled(
@@ -349,7 +348,7 @@ pub extern "C" fn ordered_index_of(
     head: i64,
     tail: i64,
 ) -> OrderedNumber
-    ensures { result ≡ number_reply (index_answer
+    ensures { result ≡ index_reply (index_answer
         (axis_of kind start_head start_tail end_head end_tail end_excluded)
         (record { head = head; tail = tail })) }
 {
@@ -401,7 +400,7 @@ pub extern "C" fn ordered_next(
     head: i64,
     tail: i64,
 ) -> OrderedValue
-    ensures { result ≡ value_reply (next_answer
+    ensures { result ≡ value_if_reply (next_answer
         (axis_of kind start_head start_tail end_head end_tail end_excluded)
         (record { head = head; tail = tail })) }
 {
@@ -428,7 +427,7 @@ pub extern "C" fn ordered_previous(
     head: i64,
     tail: i64,
 ) -> OrderedValue
-    ensures { result ≡ value_reply (previous_answer
+    ensures { result ≡ value_if_reply (previous_answer
         (axis_of kind start_head start_tail end_head end_tail end_excluded)
         (record { head = head; tail = tail })) }
 {
@@ -513,7 +512,7 @@ pub extern "C" fn ordered_segment_ticks_bold(
     n: i64,
     lent: &mut [i64],
 ) -> OrderedNumber
-    ensures value { result ≡ count_reply (segment_ticks_answer
+    ensures value { result ≡ number_reply (segment_ticks_answer
         (axis_of kind start_head start_tail end_head end_tail end_excluded)
         (Hint.Bold (record { n = n })) (length lent.old)) }
     ensures after_call { lent.new ≡ segment_ticks_written
@@ -544,7 +543,7 @@ pub extern "C" fn ordered_segment_ticks_light(
     n: i64,
     lent: &mut [i64],
 ) -> OrderedNumber
-    ensures value { result ≡ count_reply (segment_ticks_answer
+    ensures value { result ≡ number_reply (segment_ticks_answer
         (axis_of kind start_head start_tail end_head end_tail end_excluded)
         (Hint.Light (record { bold = bold; n = n })) (length lent.old)) }
     ensures after_call { lent.new ≡ segment_ticks_written
@@ -598,7 +597,7 @@ pub extern "C" fn ordered_segment_index_of(
     head: i64,
     tail: i64,
 ) -> OrderedNumber
-    ensures { result ≡ number_reply (segment_index_answer
+    ensures { result ≡ index_reply (segment_index_answer
         (axis_of kind start_head start_tail end_head end_tail end_excluded)
         (record { case = segment; head = head; tail = tail })) }
 {

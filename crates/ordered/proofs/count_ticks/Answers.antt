@@ -1,12 +1,7 @@
 -- `ordered::count_ticks` meets its contract. Assumes nothing.
-use mathlib.Core.Path.{sym, subst}
-use Prim.Native.Nat.{◌^◌, ◌<◌}
 use native.Mathlib.Omega.{arith}
-use Rattle.steps.specs.declared.Listed.{Listed}
-use Rattle.steps.specs.Listing.{count_of}
-use Rattle.ordered.proofs.Counts.{answer_most}
+use Rattle.ordered.proofs.Counts.{number_fits, ticks_most}
 use Rattle.ordered.proofs.count_ticks.Goals as goal
 
-pub count_reply-requires : goal.count_reply-requires
-count_reply-requires c = subst (λ (l : Listed). count_of l < 2 ^ 63) (sym c.count.ensures) (answer_most _ _ c.args.lent_len
-    (omega arith))
+pub number_reply-requires : goal.number_reply-requires
+number_reply-requires c = number_fits _ c.count.ensures (λ n. ticks_most _ _ c.args.lent_len n (omega arith))

@@ -1,13 +1,9 @@
 -- `ordered::list_segment_ticks` meets its contract. Assumes nothing.
-use mathlib.Core.Path.{sym, subst}
-use Prim.Native.Nat.{◌^◌, ◌<◌}
 use native.Mathlib.Omega.{arith}
 use lib.ListN.{length}
-use Rattle.steps.specs.declared.Listed.{Listed}
-use Rattle.steps.specs.Listing.{count_of}
-use Rattle.ordered.proofs.Counts.{segment_answer_most}
+use Rattle.ordered.proofs.Counts.{number_fits, segment_ticks_most}
 use Rattle.ordered.proofs.list_segment_ticks.Goals as goal
 
-pub count_reply-requires : goal.count_reply-requires
-count_reply-requires c = subst (λ (c : Listed). count_of c < 2 ^ 63) (sym c.list.ensures.value)
-    (segment_answer_most _ _ (length c.args.lent.now) (omega arith))
+pub number_reply-requires : goal.number_reply-requires
+number_reply-requires c =
+    number_fits _ c.list.ensures.value (λ n. segment_ticks_most _ _ (length c.args.lent.now) n (omega arith))

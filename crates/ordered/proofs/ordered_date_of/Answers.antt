@@ -14,24 +14,24 @@ said : (c : After-date_at) → c.date_at.result ≡ date_at c.args.day_number
 said c = rw (to_z-of_z c.ranges.day_number) at c.date_at.ensures
 
 -- the answer's numbers are a date's
-ranges : (c : After-struct_known-1) → InRange c.in-Answered.t
-ranges c = date_range _ c.in-Answered.t (sym (said (goal.at.After-struct_known-1 c).After-date_at) ∙ c.in-Answered.is)
+ranges : (c : After-struct_known-1) → InRange c.in-Ok.t
+ranges c = date_range _ c.in-Ok.t (sym (said (goal.at.After-struct_known-1 c).After-date_at) ∙ c.in-Ok.is)
 
 pub overflow_cast-result : goal.overflow_cast-result
 overflow_cast-result c = count_fits _ (omega (arith, ranges (goal.at.overflow_cast-result c).After-struct_known-1))
 
-pub overflow_cast-result-in-Answered : goal.overflow_cast-result-in-Answered
-overflow_cast-result-in-Answered c =
-    count_fits _ (omega (arith, ranges (goal.at.overflow_cast-result-in-Answered c).After-struct_known-1))
+pub overflow_cast-result-in-Ok : goal.overflow_cast-result-in-Ok
+overflow_cast-result-in-Ok c =
+    count_fits _ (omega (arith, ranges (goal.at.overflow_cast-result-in-Ok c).After-struct_known-1))
 
-pub overflow_cast-result-in-Answered-2 : goal.overflow_cast-result-in-Answered-2
-overflow_cast-result-in-Answered-2 c =
-    count_fits _ (omega (arith, ranges (goal.at.overflow_cast-result-in-Answered-2 c).After-struct_known-1))
+pub overflow_cast-result-in-Ok-2 : goal.overflow_cast-result-in-Ok-2
+overflow_cast-result-in-Ok-2 c =
+    count_fits _ (omega (arith, ranges (goal.at.overflow_cast-result-in-Ok-2 c).After-struct_known-1))
 
-pub returns-in-Answered : goal.returns-in-Answered
-returns-in-Answered c = let t = c.in-Answered.t in
-    let y = read_count t.year (omega (arith, ranges (goal.at.returns-in-Answered c).After-struct_known-1)) in
-    let m = read_count t.month (omega (arith, ranges (goal.at.returns-in-Answered c).After-struct_known-1)) in
-    let d = read_count t.day (omega (arith, ranges (goal.at.returns-in-Answered c).After-struct_known-1)) in
+pub returns-in-Ok : goal.returns-in-Ok
+returns-in-Ok c = let t = c.in-Ok.t in
+    let y = read_count t.year (omega (arith, ranges (goal.at.returns-in-Ok c).After-struct_known-1)) in
+    let m = read_count t.month (omega (arith, ranges (goal.at.returns-in-Ok c).After-struct_known-1)) in
+    let d = read_count t.day (omega (arith, ranges (goal.at.returns-in-Ok c).After-struct_known-1)) in
     (λ i. record { status = pos 0; year = y i; month = m i; day = d i })
-    ∙ ap date_reply (sym c.in-Answered.is ∙ said (goal.at.returns-in-Answered c).After-date_at)
+    ∙ ap date_reply (sym c.in-Ok.is ∙ said (goal.at.returns-in-Ok c).After-date_at)
