@@ -4,8 +4,10 @@ pub mod Signs
 pub mod Error
 pub mod Halves
 pub mod Losses
+pub mod Casts
 pub mod Order
 pub mod Quotients
+pub mod Rounds
 pub mod FourRoundings
 pub mod NearCuts
 pub mod Cuts

