@@ -244,7 +244,8 @@ unfolding ruled_ticks days_on
 ruled_list unit step a h = ruled_days unit step (from_day a) (to_day a) h
 
 -- ---- what a day of the unit is, by the calendar
-pub of_month : (day : ℕ) → (is_of unit.Month day ≡ true → (date_of day).day ≡ 1) × ((date_of day).day ≡ 1 → is_of unit.Month day ≡ true)
+pub of_month : (day : ℕ) → (is_of unit.Month day ≡ true → (date_of day).day ≡ 1)
+    × ((date_of day).day ≡ 1 → is_of unit.Month day ≡ true)
 unfolding is_of
 of_month day = (eqb-true (date_of day).day 1, eq-eqb (date_of day).day 1)
 

@@ -210,7 +210,9 @@ judges s = record { twelve = (λ e. go (table_of s) refl e, unread_is s); others
   where
     go : (o : Option (List Row)) → table_of s ≡ o → verdict s ≡ Err refusal.Table → table_of s ≡ None
     go None p e = p
-    go (Some ws) p e = absurd (no_twelve (lacking ws) (doubled ws) (sym (verdict_is s ws p (lacking ws) (doubled ws) refl refl) ∙ e))
+    go (Some ws) p e =
+        let v = verdict_is s ws p (lacking ws) (doubled ws) refl refl in
+        absurd (no_twelve (lacking ws) (doubled ws) (sym v ∙ e))
       where
         no_twelve : (x y : Bool) → judge x y ≡ Err refusal.Table → ⊥
         no_twelve true y e = cc

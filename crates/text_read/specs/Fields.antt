@@ -1,7 +1,7 @@
 -- The forms of a line's fields, over the bytes from a field's start: numbers, dates, date-times, spans. Definitions only.
 -- A field is what stands before the next space, or all to the line's end.
-use Rattle.std.specs.Prelude.{◌≡◌, Bool, true, false, ◌&&◌, cond, List, [], ◌∷◌, ℕ, suc, ◌+◌, ◌*◌, ◌-◌, ◌^◌, ◌<◌, leb, ltb, eqb, pos}
-use Rattle.std.specs.Prelude.{ℤ, ◌-ℤ◌, length, take, drop, get_or, Option, None, Some}
+use Rattle.std.specs.Prelude.{◌≡◌, Bool, true, false, ◌&&◌, cond, List, [], ◌∷◌, ℕ, suc, ◌+◌, ◌*◌, ◌-◌, ◌^◌, ◌<◌, leb, ltb, eqb}
+use Rattle.std.specs.Prelude.{pos, ℤ, ◌-ℤ◌, length, take, drop, get_or, Option, None, Some}
 use Rattle.laws.specs.Units.{per_second}
 use Rattle.text_read.specs.Bytes.{space_byte, minus_byte, point_byte, zero_byte, nine_byte, colon_byte, t_byte}
 use Rattle.text_read.specs.declared.Day.{Day}

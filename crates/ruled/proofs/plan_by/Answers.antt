@@ -13,7 +13,8 @@ from_january-requires c = rw c.months_on-in-Year.ensures (omega (arith, first_mo
 
 pub months_by-requires-in-Year : goal.months_by-requires-in-Year
 months_by-requires-in-Year c =
-    (omega (arith, c.requires.1), rw (c.from_january.ensures, c.months_on-in-Year.ensures) (omega (arith, last_most c.args.a c.requires.0)))
+    let l = last_most c.args.a c.requires.0 in
+    (omega (arith, c.requires.1), rw (c.from_january.ensures, c.months_on-in-Year.ensures) (omega (arith, l)))
 
 pub returns-in-Month : goal.returns-in-Month
 unfolding ruled_plan
