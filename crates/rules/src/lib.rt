@@ -108,6 +108,7 @@ fn read_rows(s: &[u8]) -> Option<Rules>
 {
     let mut rules = Rules::new();
     let mut rest = s;
+    // no index is counted: each turn takes a line off
     while !rest.is_empty() {
         let (line, more) = text_read::split_once(rest, b'\n')?;
         rules.try_push(read_row(line)?).ok()?;
@@ -149,6 +150,7 @@ fn is_lacking(rows: &[Row]) -> bool
     ensures { result ≡ lacking rows.now }
 {
     let mut at: u64 = 0;
+    // no iterator goes from length to length as the rows say
     while at < LENGTHS {
         let Some(w) = row_for(rows, at) else {
             return true;
