@@ -10,9 +10,11 @@ use native.Mathlib.Omega.{arith}
 use lib.ListN.{length, take}
 use lib.Seq.{take_all, length-take-le}
 use borrow.Author.Tests.{lt-leb}
-use Rattle.text_line.specs.declared.Line.TheVariants.{Unread}
-use Rattle.text_line.specs.Line.{names, is_names, in_form, read_line}
-use Rattle.text_line.proofs.Lines.{same_length_not}
+use Rattle.std.specs.Prelude.{None}
+use Rattle.asking.specs.declared.Refusal.TheVariants as refusal
+use Rattle.text_read.specs.Lines.{in_form}
+use Rattle.text_read.proofs.Lines.{same_length_not}
+use Rattle.text_line.specs.Line.{names, is_names, read_line}
 use Rattle.text_write.specs.Rows.{refusal_text}
 use Rattle.text_rows.specs.Answers.{rows_of}
 use Rattle.text_rows.proofs.Lists.{line_unread}
@@ -56,14 +58,14 @@ ended_none zero s h e = absurd (h refl)
 ended_none (suc n) [] h e = refl
 ended_none (suc n) (b ∷ s) h e = absurd (let z : ⊥ = omega arith in z)
 
-pub ended_some : (n : ℕ) (s : List ℕ) → (n ≡ 0 → ⊥) → (length s ≡ 0 → ⊥) → ended_text n s ≡ refusal_text n 12
+pub ended_some : (n : ℕ) (s : List ℕ) → (n ≡ 0 → ⊥) → (length s ≡ 0 → ⊥) → ended_text n s ≡ refusal_text n refusal.Table
 unfolding ended_text
 ended_some zero s h e = absurd (h refl)
 ended_some (suc n) [] h e = absurd (e refl)
 ended_some (suc n) (b ∷ s) h e = refl
 
 -- ---- 121 bytes of a line
-long_unread : (s : List ℕ) → 120 < length s → read_line s ≡ Unread
+long_unread : (s : List ℕ) → 120 < length s → read_line s ≡ None
 unfolding read_line in_form
 long_unread s h = rw (lt-leb (length s) 120 h)
 

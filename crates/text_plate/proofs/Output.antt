@@ -6,22 +6,22 @@ use mathlib.Core.List.{List, [], ◌∷◌, ◌++◌, append_assoc, append-nil}
 use Prim.Native.Nat.{ℕ, zero, suc, ◌+◌, ◌-◌, ◌≤◌, ◌<◌}
 use native.Mathlib.Numerals.{add-one}
 use native.Mathlib.Omega.{arith}
-use lib.Dec.{eqb}
-use lib.ListN.{length, take, drop, drop_of_length-le, length-append, length-drop}
-use lib.Seq.{take_all, length-take-le, take-append-add, drop-drop}
+use lib.Dec.{eqb, ltb}
+use lib.ListN.{length, take, drop}
+use lib.Seq.{take_all}
 use borrow.Author.Tests.{ltb-true, ltb-false}
+use Rattle.std.specs.Prelude.{Option, Some, None, IfSome}
+use Rattle.arrayvec.specs.ArrayVec.{ArrayVec}
 use Rattle.text_read.specs.Bytes.{line_feed}
 use Rattle.text_read.specs.Fields.{until_of}
+use Rattle.text_read.specs.Lines.{Lines, byte_before, lines_of}
 use Rattle.text_line.specs.Line.{is_names}
 use Rattle.text_write.specs.Texts.{Wrote}
-use Rattle.text_write.proofs.Writing.{in_front}
-use Rattle.feed.specs.declared.Fed.{Fed}
 use Rattle.feed.specs.Feed.{Ate}
-use Rattle.feed.proofs.Keeping.{take_front, used_some}
+use Rattle.feed.proofs.Keeping.{take_front, shorter}
 use Rattle.text_rows.specs.Answers.{rows_of}
-use Rattle.text_plate.specs.Plate.{output_names, no_names, Lines, byte_before, lines_of, lines_text, plate_text, plate_of}
+use Rattle.text_plate.specs.Plate.{output_names, no_names, lines_text, plate_text, plate_of}
 use Rattle.text_plate.specs.declared.State.{State}
-use Rattle.text_plate.specs.declared.Taken.{Taken}
 use Rattle.text_plate.specs.Turns.{finished_text, goes_on, ended_text, to_come, Turned}
 use Rattle.text_plate.proofs.Lines.{finished_same, goes_same, ended_same}
 
@@ -83,112 +83,103 @@ take_twice zero s = refl
 take_twice (suc n) [] = refl
 take_twice (suc n) (b ∷ s) = ap (λ (l : List ℕ). b ∷ l) (take_twice n s)
 
-module _ (begun chunk : List ℕ) (f : Fed) (after : List ℕ) (h : Ate begun chunk f after) (n : ℕ) (more : List ℕ) where
-  same_line : take 121 (begun ++ take (until_of line_feed chunk) chunk) ≡ take 121 (take f.len after)
-  same_line = rw h.line (sym (take_twice 121 (begun ++ take (until_of line_feed chunk) chunk)))
-
+module _ (n : ℕ) (begun chunk line more : List ℕ) where
   -- the chunk has no LF: all of it goes to the line
-  turn_on : f.ended ≡ false → to_come n begun (chunk ++ more) ≡ to_come n (take f.len after) (drop f.used chunk ++ more)
-  turn_on e =
-      let t = sym h.ended ∙ e in
-      let l : length chunk ≤ until_of line_feed chunk = ltb-false (until_of line_feed chunk) (length chunk) t in
-      let u : f.used ≡ until_of line_feed chunk =
-      h.used ∙ ap (λ (b : Bool). cond b (until_of line_feed chunk + 1) (until_of line_feed chunk)) t in
-      let m : length chunk ≤ f.used = omega arith in
-      let none : drop f.used chunk ≡ [] = drop_of_length-le chunk m in
-      let all : take (until_of line_feed chunk) chunk ≡ chunk = take_all (until_of line_feed chunk) chunk l in
-      rw none (no_end chunk n begun more l ∙ same_to_come more n (begun ++ chunk) (take f.len after) (rw all at same_line))
+  turn_on : Ate begun chunk None line → to_come n begun (chunk ++ more) ≡ to_come n line more
+  turn_on h = by_end (ltb k (length chunk)) (ltb-false k (length chunk)) h.left
+    where
+      k : ℕ
+      k = until_of line_feed chunk
+
+      by_end : (t : Bool) → (t ≡ false → length chunk ≤ k) → None ≡ cond t (Some (drop (k + 1) chunk)) None →
+          to_come n begun (chunk ++ more) ≡ to_come n line more
+      by_end true l e = absurd (let z : ⊥ = cc in z)
+      by_end false l e =
+          let all : take k chunk ≡ chunk = take_all k chunk (l refl) in
+          let same : take 121 (begun ++ chunk) ≡ take 121 line = rw (h.line, all) (sym (take_twice 121 (begun ++ chunk))) in
+          no_end chunk n begun more (l refl) ∙ same_to_come more n (begun ++ chunk) line same
 
   -- it has one: the line is finished
-  turn_end : f.ended ≡ true → to_come n begun (chunk ++ more) ≡ after_line n (take f.len after)
-      (drop f.used chunk ++ more)
-  turn_end e =
-      let t = sym h.ended ∙ e in
-      let l : until_of line_feed chunk < length chunk = ltb-true (until_of line_feed chunk) (length chunk) t in
-      let u : f.used ≡ suc (until_of line_feed chunk) =
-      h.used ∙ (ap (λ (b : Bool). cond b (until_of line_feed chunk + 1) (until_of line_feed chunk)) t
-      ∙ add-one (until_of line_feed chunk)) in
-      let line = begun ++ take (until_of line_feed chunk) chunk in
-      to_end chunk n begun more l
-      ∙ rw (u, finished_same n line (take f.len after) same_line, goes_same n line (take f.len after) same_line)
+  turn_end : (rest : List ℕ) → Ate begun chunk (Some rest) line →
+      to_come n begun (chunk ++ more) ≡ after_line n line (rest ++ more)
+  turn_end rest h = by_end (ltb k (length chunk)) (ltb-true k (length chunk)) h.left
+    where
+      k : ℕ
+      k = until_of line_feed chunk
+
+      same : take 121 (begun ++ take k chunk) ≡ take 121 line
+      same = rw h.line (sym (take_twice 121 (begun ++ take k chunk)))
+
+      by_end : (t : Bool) → (t ≡ true → k < length chunk) → Some rest ≡ cond t (Some (drop (k + 1) chunk)) None →
+          to_come n begun (chunk ++ more) ≡ after_line n line (rest ++ more)
+      by_end true l e =
+          let q : rest ≡ drop (suc k) chunk = rw (add-one k) at (let z : rest ≡ drop (k + 1) chunk = cc in z) in
+          rw q (to_end chunk n begun more (l refl)
+          ∙ rw (finished_same n (begun ++ take k chunk) line same, goes_same n (begun ++ take k chunk) line same))
+      by_end false l e = absurd (let z : ⊥ = cc in z)
 
 -- what a turn answers
 abbrev most : ℕ
 most = 18446744073709551615
 
-module _ (s : State) (kept chunk : List ℕ) (f : Fed) (after : List ℕ) (h : Ate (take s.len kept) chunk f after) where
-  pub turned_on : (out : List ℕ) → f.ended ≡ false
-      → Turned s kept chunk (record {
-        state = record { number = s.number; len = f.len };
-        goes = true;
-        used =
-            f.used;
-        written = 0;
-      }) after out
-  turned_on out e =
-      let u = used_some (take s.len kept) chunk f after h in
-      record {
-        keeps = record { most = h.most; same_size = h.same_size };
-        some = u.0;
-        no_more = u.1;
-        counted = omega arith;
-        room = omega arith;
-        output = λ l more. turn_on (take s.len kept) chunk f after h s.number more e;
-      }
+pub turned_on : (s : State) (chunk : List ℕ) (line out : ArrayVec ℕ) → Ate s.line.items chunk None line.items →
+    Turned s chunk (Some []) (record { number = s.number; line = line }) out out
+turned_on s chunk line out h = record {
+  shorter = omega arith;
+  counted = omega arith;
+  output = λ l more. ap (λ (x : List ℕ). out.items ++ x) (turn_on s.number s.line.items chunk line.items more h);
+}
 
-  -- some of the chunk is there, and is used
-  line_used : f.ended ≡ true → (1 ≤ length chunk) × (1 ≤ f.used)
-  line_used e =
-      let t = sym h.ended ∙ e in
-      let l : until_of line_feed chunk < length chunk = ltb-true (until_of line_feed chunk) (length chunk) t in
-      let m : 1 ≤ length chunk = omega arith in
-      (m, (used_some (take s.len kept) chunk f after h).0 m)
+-- a turn over a chunk that ends a line, which is answered; g: more is read after it
+pub turned_end : (s : State) (chunk rest line : List ℕ) (clear : ArrayVec ℕ) {before out : ArrayVec ℕ} {k n : ℕ} (g : Bool) →
+    Ate s.line.items chunk (Some rest) line → g ≡ goes_on s.number line → clear.items ≡ [] →
+    (s.number < most → n ≡ s.number + 1) × (n ≤ s.number + 1) → Wrote k (finished_text s.number line) before out →
+    Turned s chunk (cond g (Some rest) None) (record { number = n; line = clear }) before out
+turned_end s chunk rest line clear {before} {out} {k} {n} g h goes e next w = by_goes g goes
+  where
+    less : length rest < length chunk
+    less = shorter s.line.items chunk rest line h
 
-  pub turned_end : {before out : List ℕ} {n k : ℕ} {g : Bool} → f.ended ≡ true
-      → (s.number < most → n ≡ s.number + 1) × (n ≤ s.number + 1) → g ≡ goes_on s.number (take f.len after)
-      → Wrote (finished_text s.number (take f.len after)) 0 before k out → k ≤ length out
-      → Turned s kept chunk (record { state = record { number = n; len = 0 }; goes = g; used = f.used; written = k }) after out
-  turned_end {before} {out} {n} {k} {g} e next goes w r =
-      let u = used_some (take s.len kept) chunk f after h in
-      record {
-        keeps = record { most = omega arith; same_size = h.same_size };
-        some = u.0;
-        no_more = u.1;
-        counted = omega (arith, next.1, (line_used e).1);
-        room = r;
-        output = λ l more.
-            let b : s.number < most = omega (arith, (line_used e).0) in
-            let m : n ≡ suc s.number = next.0 b ∙ add-one s.number in
-            rw (in_front w r, goes, m) (turn_end (take s.len kept) chunk f after h s.number more e);
-      }
+    written : (more x : List ℕ) → cond (goes_on s.number line) (to_come (suc s.number) [] (rest ++ more)) [] ≡ x →
+        before.items ++ to_come s.number s.line.items (chunk ++ more) ≡ out.items ++ x
+    written more x q =
+        ap (λ (y : List ℕ). before.items ++ y) (turn_end s.number s.line.items chunk line more rest h)
+        ∙ rw (q, w.behind) (sym (append_assoc before.items (finished_text s.number line) x))
+
+    by_goes : (g : Bool) → g ≡ goes_on s.number line →
+        Turned s chunk (cond g (Some rest) None) (record { number = n; line = clear }) before out
+    by_goes true q = record {
+      shorter = omega (arith, less);
+      counted = omega (arith, less, next.1);
+      output = λ l more.
+          let b : s.number < most = omega (arith, less) in
+          let m : n ≡ suc s.number = next.0 b ∙ add-one s.number in
+          written more (to_come n clear.items (rest ++ more)) (rw (← q, m, e));
+    }
+    by_goes false q = record {
+      shorter = tt;
+      counted = tt;
+      output = λ l more. written more [] (rw (← q));
+    }
 
 -- ---- turns
-module _ {s : State} {kept chunk after out : List ℕ} {t : Taken} (a : Turned s kept chunk t after out) (e : t.goes ≡ true) where
-  -- a turn over what is left of the chunk, into what is left of the buffer
-  pub turned_both : {later part : List ℕ} {n : Taken} → Turned t.state after (drop t.used chunk) n later part
-      → Turned s kept chunk (record {
-        state = n.state;
-        goes = n.goes;
-        used = t.used + n.used;
-        written = t.written + n.written;
-      }) later (take t.written out ++ part)
-  turned_both {later} {part} {n} b =
-      let front : length (take t.written out) ≡ t.written = length-take-le t.written out a.room in
-      let left : length (drop t.used chunk) ≡ length chunk - t.used = length-drop t.used chunk in
-      record {
-        keeps = b.keeps;
-        some = λ l. omega (arith, a.some l);
-        no_more = omega (arith, a.no_more, b.no_more, left);
-        counted = omega (arith, a.counted, b.counted);
-        room = simp length-append (omega (arith, front, b.room));
-        output = λ l more.
-            let m : t.state.number + length (drop t.used chunk) ≤ most = omega (arith, l, left, a.counted, a.no_more) in
-            let f = take t.written out in
-            let w : take (t.written + n.written) (f ++ part) ≡ f ++ take n.written part =
-            ap (λ (k : ℕ). take (k + n.written) (f ++ part)) (sym front) ∙ take-append-add f part n.written in
-            rw (w, ← drop-drop n.used t.used chunk)
-            (a.output l more ∙ rw (e, b.output m more) (sym (append_assoc f (take n.written part) _)));
-      }
+-- a turn over what is left of a chunk
+pub turned_both : {s t u : State} {chunk rest : List ℕ} {left : Option (List ℕ)} {before out last : ArrayVec ℕ} →
+    Turned s chunk (Some rest) t before out → Turned t rest left u out last → Turned s chunk left u before last
+turned_both {s} {t} {u} {chunk} {rest} {left} a b = record {
+  shorter = less left b.shorter;
+  counted = count left b.counted;
+  output = λ l more. a.output l more ∙ b.output (omega (arith, a.counted)) more;
+}
+  where
+    less : (o : Option (List ℕ)) → IfSome o (λ r. length r ≤ length rest - 1) → IfSome o (λ r. length r ≤ length chunk - 1)
+    less None h = tt
+    less (Some r) h = omega (arith, a.shorter)
+
+    count : (o : Option (List ℕ)) → IfSome o (λ r. u.number + length r ≤ t.number + length rest) →
+        IfSome o (λ r. u.number + length r ≤ s.number + length chunk)
+    count None h = tt
+    count (Some r) h = omega (arith, a.counted)
 
 -- ---- the whole output
 -- bytes before the first of the lines

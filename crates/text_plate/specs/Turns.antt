@@ -1,13 +1,15 @@
 -- The output by turns: what a finished line prints, what the end of the input prints, and what is still to come. The
 -- number 0 is that of the names line. Definitions only.
-use Rattle.std.specs.Prelude.{◌≡◌, Bool, true, cond, List, [], ◌∷◌, ◌++◌, ℕ, zero, suc, ◌+◌, ◌≤◌, ◌<◌, eqb, length, take, drop}
+use Rattle.std.specs.Prelude.{◌≡◌, Bool, true, cond, List, [], ◌∷◌, ◌++◌, ℕ, zero, suc, ◌+◌, ◌-◌, ◌≤◌}
+use Rattle.std.specs.Prelude.{eqb, length, Option, Some, None, IfSome}
+use Rattle.asking.specs.declared.Refusal.TheVariants as refusal
+use Rattle.arrayvec.specs.ArrayVec.{ArrayVec}
 use Rattle.text_read.specs.Bytes.{line_feed}
 use Rattle.text_line.specs.Line.{is_names}
 use Rattle.text_write.specs.Rows.{refusal_text}
 use Rattle.text_rows.specs.Answers.{rows_of}
 use Rattle.text_plate.specs.Plate.{output_names, no_names}
 use Rattle.text_plate.specs.declared.State.{State}
-use Rattle.text_plate.specs.declared.Taken.{Taken}
 
 -- what a finished line prints
 unfoldable pub finished_text : ℕ → List ℕ → List ℕ
@@ -23,7 +25,7 @@ goes_on (suc n) s = true
 unfoldable pub ended_text : ℕ → List ℕ → List ℕ
 ended_text zero s = no_names
 ended_text (suc n) [] = []
-ended_text (suc n) (b ∷ s) = refusal_text (suc n) 12
+ended_text (suc n) (b ∷ s) = refusal_text (suc n) refusal.Table
 
 -- what is still to be printed, where `begun` are the line's bytes so far and then comes the input s
 unfoldable pub to_come : ℕ → List ℕ → List ℕ → List ℕ
@@ -33,21 +35,16 @@ to_come number begun (b ∷ s) =
     (finished_text number begun ++ cond (goes_on number begun) (to_come (suc number) [] s) [])
     (to_come number (begun ++ (b ∷ [])) s)
 
--- the bytes of a line are kept in the front of `kept`; 121 of them tell that it is too long
-pub record Keeps (s : State) (kept : List ℕ) : Type 0 where
-  pub most : s.len ≤ 121
-  pub same_size : length kept ≡ 121
+-- the same after a turn: `left` is what is left of its chunk, or none where nothing more is printed
+abbrev pub still : Option (List ℕ) → State → List ℕ → List ℕ
+still None s more = []
+still (Some rest) s more = to_come s.number s.line.items (rest ++ more)
 
--- After a turn over a chunk, or several: some of it is used, no more lines are counted than bytes, and whatever input comes
+-- After a turn over a chunk, or several: some of it is read, no more lines are counted than bytes, and whatever input comes
 -- after the chunk, what was still to be printed is what was written and what is to come after it. No input has so many lines
 -- that the last number is reached
-pub record Turned (s : State) (kept chunk : List ℕ) (r : Taken) (after out : List ℕ) : Type 0 where
-  pub keeps : Keeps r.state after
-  pub some : 0 < length chunk → 1 ≤ r.used
-  pub no_more : r.used ≤ length chunk
-  pub counted : r.state.number ≤ s.number + r.used
-  pub room : r.written ≤ length out
+pub record Turned (s : State) (chunk : List ℕ) (left : Option (List ℕ)) (after : State) (before out : ArrayVec ℕ) : Type 0 where
+  pub shorter : IfSome left (λ rest. length rest ≤ length chunk - 1)
+  pub counted : IfSome left (λ rest. after.number + length rest ≤ s.number + length chunk)
   pub output : s.number + length chunk ≤ 18446744073709551615 → (more : List ℕ)
-      → to_come s.number (take s.len kept) (chunk ++ more)
-      ≡ take r.written out ++ cond r.goes (to_come r.state.number (take r.state.len after)
-      (drop r.used chunk ++ more)) []
+      → before.items ++ to_come s.number s.line.items (chunk ++ more) ≡ out.items ++ still left after more

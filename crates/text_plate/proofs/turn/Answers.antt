@@ -1,12 +1,26 @@
 -- `text_plate::turn` meets its contract: the chunk goes to the line that was begun, or finishes it. Assumes nothing.
-use borrow.Author.Tests.{not-true, not-false}
+use mathlib.Core.Path.{◌≡◌, refl}
+use mathlib.Core.Bool.{Bool, true, false, cond}
+use mathlib.Core.List.{List}
+use Prim.Native.Nat.{ℕ}
+use native.Mathlib.Omega.{arith}
+use denote.Ref.{Bor}
+use Rattle.std.specs.Prelude.{Some, None}
+use Rattle.std.specs.Bool.{then_some}
+use Rattle.std.specs.Option.{option_copied}
 use Rattle.text_plate.proofs.Output.{turned_on, turned_end}
 use Rattle.text_plate.proofs.turn.Goals as goal
 
-pub returns-then-not-f : goal.returns-then-not-f
-returns-then-not-f c = turned_on _ _ _ _ _ c.feed-f.ensures _ (not-true c.feed-f.result.ended c.if-not-f.true)
+copied : (g : Bool) (rest : Bor (List ℕ)) → option_copied (then_some g rest) ≡ cond g (Some rest.now) None
+copied true rest = refl
+copied false rest = refl
+
+pub returns-in_default : goal.returns-in_default
+returns-in_default c = turned_on _ _ _ _ (rw c.in_default.is at c.feed.ensures)
 
 pub returns : goal.returns
-returns c = turned_end _ _ _ _ _ c.feed-f.ensures (not-false c.feed-f.result.ended c.if-not-f.false)
-    (c.next_number.ensures.value, c.next_number.ensures.upper_bound) c.goes_on-goes.ensures c.finished-k.ensures.wrote
-    c.finished-k.ensures.upper_bound
+returns c =
+    let line = c.as_slice.ensures.value in
+    rw (c.then_some.ensures, copied)
+    (turned_end _ _ _ _ _ _ (rw c.in-Some.is at c.feed.ensures) (rw line at c.finished-goes.ensures.value) c.clear.ensures
+    (λ l. omega arith, omega arith) (rw line at c.finished-goes.ensures.wrote))
