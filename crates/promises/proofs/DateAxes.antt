@@ -6,7 +6,7 @@ use native.Mathlib.Omega.{arith}
 use lib.Dec.{leb}
 use lib.IntN.{pos}
 use borrow.Author.Tests.{le-leb, le-ltb}
-use Rattle.laws.specs.Asking.{first_no}
+use Rattle.asking.specs.Asking.{passes}
 use Rattle.laws.proofs.Tests.{and_false}
 use Rattle.values.specs.Values.{is_value, earlier, midnight}
 use Rattle.axis.specs.declared.Axis.{Axis}
@@ -35,6 +35,6 @@ module _ (s e : ℕ) (first : 1 ≤ s) (order : s ≤ e) (last : e ≤ 3652059) 
   unfolding bold_hint
   hint h c = rw c
 
-  pub dates_accepted : (h : BoldPoints) → is_count h.n ≡ true → first_no (tick_questions a (Bold h)) ≡ 0
+  pub dates_accepted : (h : BoldPoints) → is_count h.n ≡ true → passes (tick_questions a (Bold h)) ≡ true
   unfolding known excludable near_or_long
   dates_accepted h c = rw (real, in_order_law, hint h c)

@@ -22,7 +22,7 @@ use Rattle.discrete.specs.Indices as index
 use Rattle.discrete.specs.Answers as discrete
 use Rattle.segmented.specs.Segments as segments
 use Rattle.segmented.specs.Answers.{segment_map_answer}
-use Rattle.ordered.specs.Replies.{number_reply, period_reply}
+use Rattle.ordered.specs.Replies.{number_reply, index_reply, period_reply}
 use Rattle.promises.specs.Examples as rows
 use Rattle.promises.specs.Examples.{Holds, span_from, count_numbers, period_numbers, sevens}
 use Rattle.promises.specs.Examples.{settled_table, published_days, AllHold}
@@ -38,7 +38,7 @@ unfolding is_value asks.ends asks.in_order asks.excludable earlier span_of diffe
 at_the_power = λ i. period_numbers (period_reply (laws.at_the_power (span_from 49600000000000) refl refl refl refl refl i))
 
 earlier_year : Holds rows.earlier_year
-earlier_year = λ i. count_numbers (number_reply (laws.earlier_year 737790 (omega arith) (omega arith) i))
+earlier_year = λ i. count_numbers (index_reply (laws.earlier_year 737790 (omega arith) (omega arith) i))
 
 no_whole_month : Holds rows.no_whole_month
 no_whole_month = λ i.
@@ -56,7 +56,7 @@ negative_start = refl
 high_limit : Holds rows.high_limit
 unfolding closed ieee.span ieee.climb ieee.size ieee.odd ieee.units ieee.round ieee.mul ieee.div ieee.of_int ieee.to_unsigned
     rounding.floor_f over_dates is_value earlier asks.known asks.has_unmap asks.ends asks.in_order asks.excludable asks.pixels
-    asks.differ asks.unmap_pixels asks.checked asks.answered count.monthly count.yearly count.weekly count.from_day
+    asks.differ asks.unmap_pixels asks.checked count.monthly count.yearly count.weekly count.from_day
     count.size_of index.value_at index.index_at index.index_under discrete.value_under discrete.unmap_answer
 high_limit = refl
 

@@ -1,18 +1,21 @@
 -- An excluded end answers as the axis that ends a day earlier, or to the end as written. Assumes nothing.
 use mathlib.Core.Path.{◌≡◌, refl, sym, ap, subst, ◌∙◌}
-use mathlib.Core.Bool.{Bool, true, false, ◌&&◌}
+use mathlib.Core.Bool.{Bool, true, false, cond, ◌&&◌}
 use mathlib.Core.List.{List, [], ◌∷◌, ◌++◌}
-use Prim.Native.Nat.{ℕ, zero, suc, ◌+◌, ◌*◌}
+use Prim.Native.Nat.{ℕ, ◌+◌, ◌*◌}
 use native.Mathlib.Omega.{arith}
 use lib.IntN.{ℤ, pos, ◌-ℤ◌}
 use lib.Ieee as ieee
 use lib.Signed.{lt_z}
 use lib.ListN.{take}
-use Rattle.laws.specs.Asking.{Question, ask, first_no, unless, asked}
+use Rattle.std.specs.Prelude.{Option, Some, None, Result, Ok, Err}
 use Rattle.laws.specs.Numbers.{within, pos_part, neg_part}
-use Rattle.laws.proofs.Asked.{in_two, told}
 use Rattle.laws.proofs.Signed.{sub, lt_false}
 use Rattle.laws.proofs.Tests.{is_true}
+use Rattle.asking.specs.declared.Refusal.{Refusal}
+use Rattle.asking.specs.declared.Refusal.TheVariants as refusal
+use Rattle.asking.specs.Asking.{Question, ask, asked, passes}
+use Rattle.asking.proofs.Asked.{told, passes_append, passed}
 use Rattle.calendar.specs.Questions.{is_day}
 use Rattle.values.specs.declared.Value.{Value}
 use Rattle.values.specs.Values.{over_dates, is_value, earlier}
@@ -21,14 +24,11 @@ use Rattle.floats.specs.Rounding as rounding
 use Rattle.axis.specs.declared.Axis.{Axis}
 use Rattle.axis.specs.declared.Hint.{Hint}
 use Rattle.axis.specs.declared.Limits.{Limits}
-use Rattle.axis.specs.declared.ValueAnswer.{ValueAnswer}
-use Rattle.axis.specs.declared.ValueAnswer.TheVariants as value
 use Rattle.axis.specs.Axes.{axis_of, end, span_of, offset_of, closed, last}
 use Rattle.axis.specs.Questions as asks
-use Rattle.axis.specs.Questions.{known, has_index, has_unmap, has_period, value_on, is_index, unmap_pixels, hint_on, in_calendar}
-use Rattle.axis.specs.Questions.{plain_questions, axis_questions}
+use Rattle.axis.specs.Questions.{known, has_index, has_unmap, has_period, value_on, is_index, unmap_pixels, hint_on}
+use Rattle.axis.specs.Questions.{checked, checked_if, plain_questions, axis_questions}
 use Rattle.axis.proofs.ClosedAxes.{same_kind, shortened, closed_twice, plain_passed, axis_passed}
-use Rattle.mapping.specs.declared.Pixel.TheVariants as pixel
 use Rattle.mapping.specs.Mapping as mapping
 use Rattle.mapping.specs.declared.Hairline.{Hairline}
 use Rattle.mapping.specs.Hairlines.{exact_at, lost_at}
@@ -38,7 +38,6 @@ use Rattle.calendar.specs.Gregorian as calendar
 use Rattle.counting.specs.Counting as counts
 use Rattle.counting.specs.Counting.{size_of}
 use Rattle.counting.proofs.Counting.{value_on_law}
-use Rattle.steps.specs.declared.Listed.TheVariants as listed
 use Rattle.steps.specs.Listing.{listed_of, lent_after, front}
 use Rattle.steps.specs.Promise.{Later, by_head, nth}
 use Rattle.steps.proofs.Order.{smaller}
@@ -51,40 +50,23 @@ use Rattle.ticks.proofs.Hints.{same_hint}
 use Rattle.ticks.proofs.Promise.{list_fine}
 use Rattle.rules.specs.Table.{table_questions}
 use Rattle.ruled.specs.Answers.{has_rules, ruled_questions, ruled_on, ruled_answer, ruled_written}
-use Rattle.ruled.proofs.Answers.{first_of_two, none_of_two}
+use Rattle.ruled.proofs.Answers.{of_two}
 use Rattle.discrete.specs.declared.Cursor.{Cursor}
-use Rattle.discrete.specs.declared.NumberAnswer.TheVariants as number
-use Rattle.discrete.specs.declared.StepAnswer.TheVariants as step
 use Rattle.discrete.specs.Indices.{value_at}
-use Rattle.discrete.specs.Answers.{size_questions, index_in, next_in, previous_in, value_in, value_under, stepped}
+use Rattle.discrete.specs.Answers.{size_questions, index_questions, stepped}
+use Rattle.discrete.specs.Answers.{index_in, next_in, previous_in, value_in, value_under}
 use Rattle.discrete.specs.Answers as discrete
 use Rattle.segmented.specs.declared.Segment.{Segment}
-use Rattle.segmented.specs.declared.SegmentAnswer.{SegmentAnswer}
-use Rattle.segmented.specs.declared.SegmentAnswer.TheVariants as segment
 use Rattle.segmented.specs.Segments as segmentRows
 use Rattle.segmented.specs.declared.SegmentValue.TheVariants.{Exact, CenterOf, Last}
 use Rattle.segmented.specs.Segments.{head_tail, segment_on, segment_of, segments, margin_of, inner, worked}
 use Rattle.segmented.specs.Segments.{alone, between, beside, centred, segment_worked}
-use Rattle.segmented.specs.Answers.{segment_index_in, segment_at, segment_in_calendar, segment_kind_questions}
+use Rattle.segmented.specs.Answers.{segment_index_in, segment_at, segment_checked, segment_kind_questions}
 use Rattle.segmented.specs.Answers as segmented
 use Rattle.promises.specs.Examples.{limits_of, AllHold}
 use Rattle.promises.specs.ExcludedEnds.{AsOf, AsDayEarlier, ToWrittenEnd, SegmentsMix, NoneFromEnd, AsManyPixels}
 use Rattle.promises.specs.ExcludedEnds.{midway, before, excluded_table}
-
--- ---- after a row of questions, and after another that this one lets pass
-module _ {A : Type 0} (refused : ℕ → A) where
-  passes_on : {x y : A} (q r : ℕ) → (q ≡ 0 → r ≡ 0) → x ≡ y → unless q refused x ≡ unless q refused (unless r refused y)
-  passes_on {y = y} zero r f e = e ∙ sym (ap (λ (k : ℕ). unless k refused y) (f refl))
-  passes_on (suc q) r f e = refl
-
-  -- with more questions behind them
-  more_on : (x y : A) (row other rest behind : List Question) → (first_no row ≡ 0 → first_no other ≡ 0) →
-      asked rest refused x ≡ asked behind refused y →
-      asked (row ++ rest) refused x ≡ asked row refused (asked (other ++ behind) refused y)
-  more_on x y row other rest behind f e =
-      in_two refused x row rest
-      ∙ passes_on (first_no row) (first_no other) f e
-      ∙ sym (ap (unless (first_no row) refused) (in_two refused y other behind))
+use Rattle.promises.proofs.Rows.{same_behind, more_on, more_pass}
 
 module _ (a : Axis) where
   abbrev b : Axis
@@ -101,151 +83,157 @@ module _ (a : Axis) where
   unfolding has_unmap
   same_unmap = rw (same_kind a)
 
-  size_passed : first_no (size_questions a) ≡ 0 → first_no (size_questions b) ≡ 0
+  size_passed : passes (size_questions a) ≡ true → passes (size_questions b) ≡ true
   size_passed z = rw same_index (plain_passed a (has_index a) z)
 
-  unmap_passed : first_no (plain_questions (has_unmap a) a) ≡ 0 → first_no (plain_questions (has_unmap b) b) ≡ 0
+  unmap_passed : passes (plain_questions (has_unmap a) a) ≡ true → passes (plain_questions (has_unmap b) b) ≡ true
   unmap_passed z = rw same_unmap (plain_passed a (has_unmap a) z)
 
   -- ---- sizes and indices
-  size_of_law : discrete.size_answer a ≡ asked (size_questions a) number.Refused (discrete.size_answer b)
+  module _ {A : Type 0} (f : Axis → Result A Refusal) where
+    -- an answer that no further question is asked of
+    by_size : asked (size_questions a) (f b) ≡ asked (size_questions a) (asked (size_questions b) (f (closed b)))
+    by_size = same_behind (size_questions a) (f b) (asked (size_questions b) (f (closed b)))
+        (λ z. ap f twice ∙ passed (size_questions b) (f (closed b)) (size_passed z))
+
+    -- and one after question 8, of a value or an index
+    module _ (eight nine : Bool) (same : eight ≡ nine) where
+      by_value : asked (size_questions a ++ (ask refusal.Value eight ∷ [])) (f b)
+          ≡ asked (size_questions a) (asked (size_questions b ++ (ask refusal.Value nine ∷ [])) (f (closed b)))
+      by_value = more_on (size_questions a) (size_questions b) (ask refusal.Value eight ∷ []) (ask refusal.Value nine ∷ []) (f b)
+          (f (closed b)) size_passed (λ i. asked (ask refusal.Value (same i) ∷ []) (f (twice i)))
+
+  size_of_law : discrete.size_answer a ≡ asked (size_questions a) (discrete.size_answer b)
   unfolding discrete.size_answer
-  size_of_law =
-      more_on number.Refused (number.Is (size_of b)) (number.Is (size_of (closed b))) (size_questions a) (size_questions b)
-      [] [] size_passed (λ i. number.Is (size_of (twice i)))
+  size_of_law = by_size (λ x. Ok (size_of x))
 
-  index_of : (v : Value) → discrete.index_answer a v ≡ asked (size_questions a) number.Refused (discrete.index_answer b v)
+  index_of : (v : Value) → discrete.index_answer a v ≡ asked (size_questions a) (discrete.index_answer b v)
   unfolding discrete.index_answer
-  index_of v = more_on number.Refused (index_in b v) (index_in (closed b) v) (size_questions a) (size_questions b)
-      (ask 8 (value_on a v) ∷ []) (ask 8 (value_on b v) ∷ []) size_passed
-      (λ i. asked (ask 8 (sym (value_on_law a v) i) ∷ []) number.Refused (index_in (twice i) v))
+  index_of v = by_value (λ x. Ok (index_in x v)) (value_on a v) (value_on b v) (sym (value_on_law a v))
 
-  -- a value that is answered after question 8, and then 10
-  module _ (eight nine : Bool) (same : eight ≡ nine) (f : Axis → ValueAnswer) where
-    by_value : asked (size_questions a ++ (ask 8 eight ∷ (ask 10 (in_calendar (f b)) ∷ []))) value.Refused (f b)
-        ≡ asked (size_questions a) value.Refused
-        (asked (size_questions b ++ (ask 8 nine ∷ (ask 10 (in_calendar (f (closed b))) ∷ []))) value.Refused (f (closed b)))
-    by_value = more_on value.Refused (f b) (f (closed b)) (size_questions a) (size_questions b)
-        (ask 8 eight ∷ (ask 10 (in_calendar (f b)) ∷ []))
-        (ask 8 nine ∷ (ask 10 (in_calendar (f (closed b))) ∷ [])) size_passed
-        (λ i. asked (ask 8 (same i) ∷ (ask 10 (in_calendar (f (twice i))) ∷ [])) value.Refused (f (twice i)))
+  from_index : (i : ℤ) → discrete.from_index_answer a i ≡ asked (size_questions a) (discrete.from_index_answer b i)
+  unfolding discrete.from_index_answer
+  from_index i = by_value (λ x. checked (value_at x (pos_part i))) (is_index i) (is_index i) refl
 
-  from_index : (i : ℤ) → discrete.from_index_answer a i ≡ asked (size_questions a) value.Refused (discrete.from_index_answer b i)
-  unfolding discrete.from_index_answer asks.answered
-  from_index i = by_value (is_index i) (is_index i) refl (λ x. value.At (value_at x (pos_part i)))
+  next : (v : Value) → discrete.next_answer a v ≡ asked (size_questions a) (discrete.next_answer b v)
+  unfolding discrete.next_answer
+  next v = by_value (λ x. checked_if (next_in x v)) (value_on a v) (value_on b v) (sym (value_on_law a v))
 
-  next : (v : Value) → discrete.next_answer a v ≡ asked (size_questions a) value.Refused (discrete.next_answer b v)
-  unfolding discrete.next_answer asks.answered
-  next v = by_value (value_on a v) (value_on b v) (sym (value_on_law a v)) (λ x. next_in x v)
+  previous : (v : Value) → discrete.previous_answer a v ≡ asked (size_questions a) (discrete.previous_answer b v)
+  unfolding discrete.previous_answer
+  previous v = by_value (λ x. checked_if (previous_in x v)) (value_on a v) (value_on b v) (sym (value_on_law a v))
 
-  previous : (v : Value) → discrete.previous_answer a v ≡ asked (size_questions a) value.Refused (discrete.previous_answer b v)
-  unfolding discrete.previous_answer asks.answered
-  previous v = by_value (value_on a v) (value_on b v) (sym (value_on_law a v)) (λ x. previous_in x v)
+  -- a refused step is that refusal
+  stepped_behind : (c : Cursor) (row : List Question) (x : Result (Option Value) Refusal) →
+      stepped c (asked row x) ≡ asked row (stepped c x)
+  stepped_behind c [] x = refl
+  stepped_behind c (q ∷ row) x = by_test q.yes (stepped_behind c row x)
+    where
+      by_test : (y : Bool) → stepped c (asked row x) ≡ asked row (stepped c x) →
+          stepped c (cond y (asked row x) (Err q.refusal)) ≡ cond y (asked row (stepped c x)) (Err q.refusal)
+      by_test true e = e
+      by_test false e = refl
 
-  step_refused : (c : Cursor) (q : ℕ) (v : ValueAnswer) →
-      stepped c (unless q value.Refused v) ≡ unless q step.Refused (stepped c v)
-  step_refused c zero v = refl
-  step_refused c (suc q) v = refl
-
-  values : (c : Cursor) → discrete.values_answer a c ≡ asked (size_questions a) step.Refused (discrete.values_answer b c)
-  unfolding discrete.values_answer asks.answered
+  values : (c : Cursor) → discrete.values_answer a c ≡ asked (size_questions a) (discrete.values_answer b c)
+  unfolding discrete.values_answer
   values c =
       let i = c.place in
-      ap (stepped c) (by_value (is_index i) (is_index i) refl (λ x. value_in x (pos_part i)))
-      ∙ step_refused c (first_no (size_questions a)) _
+      ap (stepped c) (by_value (λ x. checked_if (value_in x (pos_part i))) (is_index i) (is_index i) refl)
+      ∙ stepped_behind c (size_questions a) (asked (index_questions b i) (checked_if (value_in (closed b) (pos_part i))))
 
   unmap : (l : Limits) (p : ℤ) →
-      discrete.unmap_answer a l p ≡ asked (plain_questions (has_unmap a) a) value.Refused (discrete.unmap_answer b l p)
-  unfolding discrete.unmap_answer asks.answered
+      discrete.unmap_answer a l p ≡ asked (plain_questions (has_unmap a) a) (discrete.unmap_answer b l p)
+  unfolding discrete.unmap_answer
   unmap l p =
-      let under : Axis → ValueAnswer = λ x. value.At (value_under x l p) in
-      more_on value.Refused (under b) (under (closed b)) (plain_questions (has_unmap a) a) (plain_questions (has_unmap b) b)
-      (ask 7 (unmap_pixels l p) ∷ (ask 10 (in_calendar (under b)) ∷ []))
-      (ask 7 (unmap_pixels l p) ∷ (ask 10 (in_calendar (under (closed b))) ∷ [])) unmap_passed
-      (λ i. asked (ask 7 (unmap_pixels l p) ∷ (ask 10 (in_calendar (under (twice i))) ∷ [])) value.Refused (under (twice i)))
+      let under : (Axis → Result Value Refusal) = λ x. checked (value_under x l p) in
+      more_on (plain_questions (has_unmap a) a) (plain_questions (has_unmap b) b) (ask refusal.Limits (unmap_pixels l p) ∷ [])
+      (ask refusal.Limits (unmap_pixels l p) ∷ []) (under b) (under (closed b)) unmap_passed
+      (λ i. asked (ask refusal.Limits (unmap_pixels l p) ∷ []) (under (twice i)))
 
   -- ---- lists
-  module _ (h : Hint) {A : Type 0} (refused : ℕ → A) (answer : List Value → A) where
-    by_list : asked (axis_questions true a ++ (ask 6 (hint_on a h) ∷ [])) refused (answer (ticks_of a h))
-        ≡ asked (axis_questions true a) refused
-        (asked (axis_questions true b ++ (ask 6 (hint_on b h) ∷ [])) refused (answer (ticks_of b h)))
+  module _ (h : Hint) where
+    same_ticks : ticks_of a h ≡ ticks_of b h
     unfolding ticks_of
-    by_list = more_on refused (answer (ticks_of a h)) (answer (ticks_of b h)) (axis_questions true a) (axis_questions true b)
-        (ask 6 (hint_on a h) ∷ []) (ask 6 (hint_on b h) ∷ []) (axis_passed a true)
-        (λ i. asked (ask 6 (sym (same_hint a h) i) ∷ []) refused (answer (key_points_for (twice i) h)))
+    same_ticks = ap (λ (x : Axis). key_points_for x h) twice
 
-  count : (h : Hint) (k : ℕ) → ticks_answer a h k ≡ asked (axis_questions true a) listed.Refused (ticks_answer b h k)
+    abbrev six : Axis → List Question
+    six x = ask refusal.Hint (hint_on x h) ∷ []
+
+    -- what is written and handed back, or what was there where the call is refused
+    by_list : {A : Type 0} (answer : List Value → A) (left : A) →
+        cond (passes (axis_questions true a ++ six a)) (answer (ticks_of a h)) left
+        ≡ cond (passes (axis_questions true a)) (cond (passes (axis_questions true b ++ six b)) (answer (ticks_of b h)) left) left
+    by_list answer left = more_pass (axis_questions true a) (axis_questions true b) (six a) (six b) (answer (ticks_of a h))
+        (answer (ticks_of b h)) left (axis_passed a true)
+        (λ i. cond (passes (ask refusal.Hint (sym (same_hint a h) i) ∷ [])) (answer (same_ticks i)) left)
+
+  count : (h : Hint) (k : ℕ) → ticks_answer a h k ≡ asked (axis_questions true a) (ticks_answer b h k)
   unfolding ticks_answer
-  count h k = by_list h listed.Refused (λ l. listed_of l k)
+  count h k = more_on (axis_questions true a) (axis_questions true b) (six h a) (six h b) (listed_of (ticks_of a h) k)
+      (listed_of (ticks_of b h) k) (axis_passed a true)
+      (λ i. asked (ask refusal.Hint (sym (same_hint a h) i) ∷ []) (listed_of (same_ticks h i) k))
 
-  written : (h : Hint) (d : List ℤ) → ticks_written a h d ≡ asked (axis_questions true a) (λ q. d) (ticks_written b h d)
+  written : (h : Hint) (d : List ℤ) → ticks_written a h d ≡ cond (passes (axis_questions true a)) (ticks_written b h d) d
   unfolding ticks_written
-  written h d = by_list h (λ q. d) (λ l. lent_after l d)
+  written h d = by_list h (λ l. lent_after l d) d
 
-  handed : (h : Hint) (k : ℕ) → ticks_handed a h k ≡ asked (axis_questions true a) (λ q. []) (ticks_handed b h k)
+  handed : (h : Hint) (k : ℕ) → ticks_handed a h k ≡ cond (passes (axis_questions true a)) (ticks_handed b h k) []
   unfolding ticks_handed
-  handed h k = by_list h (λ q. []) (λ l. front l k)
+  handed h k = by_list h (λ l. front l k) []
 
   -- ---- segments
-  segment_size : segmented.segment_size_answer a ≡ asked (size_questions a) number.Refused (segmented.segment_size_answer b)
+  segment_size : segmented.segment_size_answer a ≡ asked (size_questions a) (segmented.segment_size_answer b)
   unfolding segmented.segment_size_answer
-  segment_size = more_on number.Refused (number.Is (segments a + 1)) (number.Is (segments b + 1)) (size_questions a)
-      (size_questions b) [] [] size_passed (λ i. number.Is (size_of (twice i) + 1))
+  segment_size = by_size (λ x. Ok (size_of x + 1))
 
   same_segment : (s : Segment) → segment_on a s ≡ segment_on b s
   unfolding segment_on
   same_segment s = rw (value_on_law a (head_tail s))
 
   segment_index : (s : Segment) →
-      segmented.segment_index_answer a s ≡ asked (size_questions a) number.Refused (segmented.segment_index_answer b s)
+      segmented.segment_index_answer a s ≡ asked (size_questions a) (segmented.segment_index_answer b s)
   unfolding segmented.segment_index_answer
-  segment_index s = more_on number.Refused (segment_index_in b (segment_of s)) (segment_index_in (closed b) (segment_of s))
-      (size_questions a) (size_questions b) (ask 8 (segment_on a s) ∷ []) (ask 8 (segment_on b s) ∷ []) size_passed
-      (λ i. asked (ask 8 (same_segment s i) ∷ []) number.Refused (segment_index_in (twice i) (segment_of s)))
+  segment_index s =
+      by_value (λ x. Ok (segment_index_in x (segment_of s))) (segment_on a s) (segment_on b s) (same_segment s)
 
-  segment_from : (i : ℤ) →
-      segmented.segment_from_answer a i ≡ asked (size_questions a) segment.Refused (segmented.segment_from_answer b i)
+  segment_from : (i : ℤ) → segmented.segment_from_answer a i ≡ asked (size_questions a) (segmented.segment_from_answer b i)
   unfolding segmented.segment_from_answer
-  segment_from i =
-      let at : Axis → SegmentAnswer = λ x. segment_at x (pos_part i) in
-      more_on segment.Refused (at b) (at (closed b)) (size_questions a) (size_questions b)
-      (ask 8 (is_index i) ∷ (ask 10 (segment_in_calendar (at b)) ∷ []))
-      (ask 8 (is_index i) ∷ (ask 10 (segment_in_calendar (at (closed b))) ∷ [])) size_passed
-      (λ j. asked (ask 8 (is_index i) ∷ (ask 10 (segment_in_calendar (at (twice j))) ∷ [])) segment.Refused (at (twice j)))
+  segment_from i = by_value (λ x. segment_checked (segment_at x (pos_part i))) (is_index i) (is_index i) refl
 
   same_known : known b ≡ known a
   unfolding known
   same_known = rw (same_kind a)
 
-  kind_passed : first_no (segment_kind_questions a) ≡ 0 → first_no (segment_kind_questions b) ≡ 0
-  kind_passed z = rw (same_known, same_index) z
-
-  module _ {A : Type 0} (refused : ℕ → A) (x y : A) (e : x ≡ asked (axis_questions true a) refused y) where
-    -- where the kind has segments, what is left are the questions of the axis
-    by_segments : asked (segment_kind_questions a) refused x
-        ≡ asked (axis_questions (has_index a) a) refused (asked (segment_kind_questions b) refused y)
-    by_segments = go (known a) (has_index a) refl refl
-      where
-        left : known a ≡ true → has_index a ≡ true → y ≡ asked (segment_kind_questions b) refused y
-        left k h = rw (same_known, same_index, k, h)
-
-        go : (k h : Bool) → known a ≡ k → has_index a ≡ h → asked (ask 1 k ∷ (ask 2 h ∷ [])) refused x
-            ≡ asked (axis_questions h a) refused (asked (segment_kind_questions b) refused y)
-        go true true k h = e ∙ ap (asked (axis_questions true a) refused) (left k h)
-        go true false k h = rw k
-        go false h k i = rw k
+  -- where the kind has segments, what is left are the questions of the axis
+  module _ (k : known a ≡ true) (h : has_index a ≡ true) where
+    kind_passed : passes (segment_kind_questions b) ≡ true
+    kind_passed = rw (same_known, same_index, k, h)
 
   segment_count : (h : Hint) (k : ℕ) →
-      segmented.segment_ticks_answer a h k
-      ≡ asked (axis_questions (has_index a) a) listed.Refused (segmented.segment_ticks_answer b h k)
+      segmented.segment_ticks_answer a h k ≡ asked (axis_questions (has_index a) a) (segmented.segment_ticks_answer b h k)
   unfolding segmented.segment_ticks_answer
-  segment_count h k = by_segments listed.Refused (ticks_answer a h k) (ticks_answer b h k) (count h k)
+  segment_count h n = go (known a) (has_index a) refl refl
+    where
+      go : (k i : Bool) → known a ≡ k → has_index a ≡ i →
+          asked (ask refusal.Kind k ∷ (ask refusal.Operation i ∷ [])) (ticks_answer a h n)
+          ≡ asked (axis_questions i a) (asked (segment_kind_questions b) (ticks_answer b h n))
+      go true true k i = count h n ∙ ap (asked (axis_questions true a))
+          (passed (segment_kind_questions b) (ticks_answer b h n) (kind_passed k i))
+      go true false k i = rw k
+      go false i k _ = rw k
 
   segment_written : (h : Hint) (d : List ℤ) →
-      segmented.segment_ticks_written a h d ≡ asked (axis_questions (has_index a) a) (λ q. d)
-      (segmented.segment_ticks_written b h d)
+      segmented.segment_ticks_written a h d
+      ≡ cond (passes (axis_questions (has_index a) a)) (segmented.segment_ticks_written b h d) d
   unfolding segmented.segment_ticks_written
-  segment_written h d = by_segments (λ q. d) (ticks_written a h d) (ticks_written b h d) (written h d)
+  segment_written h d = go (known a) (has_index a) refl refl
+    where
+      go : (k i : Bool) → known a ≡ k → has_index a ≡ i →
+          cond (passes (ask refusal.Kind k ∷ (ask refusal.Operation i ∷ []))) (ticks_written a h d) d
+          ≡ cond (passes (axis_questions i a)) (cond (passes (segment_kind_questions b)) (ticks_written b h d) d) d
+      go true true k i = written h d ∙ rw (kind_passed k i)
+      go true false k i = rw k
+      go false i k _ = rw k
 
   -- ---- lists by house rules
   same_rules : has_rules b ≡ has_rules a
@@ -253,26 +241,32 @@ module _ (a : Axis) where
   same_rules = rw (same_kind a)
 
   module _ (t : List ℕ) where
-    rules_passed : first_no (ruled_questions t a) ≡ 0 → first_no (ruled_questions t b) ≡ 0
+    rules_passed : passes (ruled_questions t a) ≡ true → passes (ruled_questions t b) ≡ true
     rules_passed z =
-        let row = table_questions t in
-        let (p, q) = none_of_two (first_no row) (first_no (plain_questions (has_rules a) a))
-        (sym (first_of_two row (plain_questions (has_rules a) a)) ∙ z) in
-        first_of_two row (plain_questions (has_rules b) b) ∙ rw (p, same_rules, plain_passed a (has_rules a) q)
+        let (p, q) = of_two t a z in
+        passes_append (table_questions t) (plain_questions (has_rules b) b)
+        ∙ rw (p, same_rules, plain_passed a (has_rules a) q)
 
     same_list : ruled_on t a ≡ ruled_on t b
     unfolding ruled_on
     same_list = rw (closed_twice a)
 
-    ruled_count : (k : ℕ) → ruled_answer t a k ≡ asked (ruled_questions t a) listed.Refused (ruled_answer t b k)
+    ruled_count : (k : ℕ) → ruled_answer t a k ≡ asked (ruled_questions t a) (ruled_answer t b k)
     unfolding ruled_answer
-    ruled_count k = passes_on listed.Refused (first_no (ruled_questions t a)) (first_no (ruled_questions t b)) rules_passed
-        (ap (λ l. listed_of l k) same_list)
+    ruled_count k =
+        let list = listed_of (ruled_on t b) k in
+        same_behind (ruled_questions t a) (listed_of (ruled_on t a) k) (asked (ruled_questions t b) list)
+        (λ z. ap (λ l. listed_of l k) same_list ∙ passed (ruled_questions t b) list (rules_passed z))
 
-    ruled_written_law : (d : List ℤ) → ruled_written t a d ≡ asked (ruled_questions t a) (λ q. d) (ruled_written t b d)
+    ruled_written_law : (d : List ℤ) → ruled_written t a d ≡ cond (passes (ruled_questions t a)) (ruled_written t b d) d
     unfolding ruled_written
-    ruled_written_law d = passes_on (λ q. d) (first_no (ruled_questions t a)) (first_no (ruled_questions t b)) rules_passed
-        (ap (λ l. lent_after l d) same_list)
+    ruled_written_law d = go (passes (ruled_questions t a)) rules_passed
+      where
+        go : (p : Bool) → (p ≡ true → passes (ruled_questions t b) ≡ true) →
+            cond p (lent_after (ruled_on t a) d) d
+            ≡ cond p (cond (passes (ruled_questions t b)) (lent_after (ruled_on t b) d) d) d
+        go true f = rw (f refl) (ap (λ l. lent_after l d) same_list)
+        go false f = refl
 
   as_closed : AsOf a b
   as_closed = record {
@@ -310,21 +304,24 @@ to_written_end k sh st eh et x l v =
     let a = axis_of k sh st eh et x in
     let w = axis_of k sh st eh et (pos 0) in
     let p = mapping.placed a l v in
-    let h = pixel.At (mapping.hairline a l v) in
-    let rest = ask 7 (asks.pixels l) ∷ (ask 8 (value_on a v) ∷ (ask 9 (asks.mappable a v) ∷ (ask 10 (asks.fits_i32 p) ∷ []))) in
-    more_on pixel.Refused h h (axis_questions true a) (axis_questions true w) rest rest (λ z.
-    let row = axis_questions true a in
-    rw (told 1 row tt z, told 3 row tt z, told 4 row tt z, told 5 row tt z)) refl
+    let h = Ok (mapping.hairline a l v) in
+    let rest =
+    ask refusal.Limits (asks.pixels l)
+    ∷ (ask refusal.Value (value_on a v)
+    ∷ (ask refusal.Length (asks.mappable a v)
+    ∷ (ask refusal.Range (asks.fits_i32 p)
+    ∷ []))) in
+    more_on (axis_questions true a) (axis_questions true w) rest rest h h (λ z.
+    let row = axis_questions true a in rw (told 1 row z, told 3 row z, told 4 row z, told 5 row z)) refl
 
 -- ---- segments go by both
-by_next : (a w b : Axis) (l : Limits) (left : Hairline) (n : ValueAnswer) →
+by_next : (a w b : Axis) (l : Limits) (left : Hairline) (n : Option Value) →
     ((m : Limits) (u : Value) → hairline a m u ≡ hairline w m u) → closed a ≡ b →
     centred a l left n ≡ midway w (inner (size_of b) l) (margin_of (size_of b) l) left n
-by_next a w b l left (value.At u) p e =
+by_next a w b l left (Some u) p e =
     λ i. let c = between left ((ap (λ (x : Axis). hairline a (inner (size_of x) l) u) e ∙ p (inner (size_of b) l) u) i) in
     worked c.hairline (is_day u.head && c.fits)
-by_next a w b l left value.None p e = λ i. beside left (margin_of (size_of (e i)) l)
-by_next a w b l left (value.Refused q) p e = λ i. beside left (margin_of (size_of (e i)) l)
+by_next a w b l left None p e = λ i. beside left (margin_of (size_of (e i)) l)
 
 -- a pixel does not look at the sixth number
 same_pixel : (k sh st eh et x : ℤ) (m : Limits) (u : Value) →

@@ -2,12 +2,12 @@
 use mathlib.Core.Path.{◌≡◌, refl, sym, ap, subst}
 use mathlib.Core.Logic.{◌⊎◌, inl, inr}
 use mathlib.Core.Bool.{Bool, true, false, true≢false, false≢true}
-use Prim.Native.Nat.{ℕ, zero, suc}
 use native.Mathlib.Omega.{arith}
 use lib.Ieee as ieee
-use lib.IntN.{ℤ, pos}
-use Rattle.laws.specs.Asking.{first_no, unless}
+use lib.IntN.{pos}
+use Rattle.std.specs.Prelude.{Result, Ok, Err}
 use Rattle.laws.specs.Numbers.{pos_part}
+use Rattle.asking.specs.declared.Refusal.{Refusal}
 use Rattle.floats.specs.Rounding as rounding
 use Rattle.floats.specs.Losses.{is_whole, lost_in}
 use Rattle.values.specs.declared.Value.{Value}
@@ -18,8 +18,6 @@ use Rattle.axis.specs.declared.Limits.{Limits}
 use Rattle.axis.specs.Axes.{start, end, span_of, offset_of, closed}
 use Rattle.axis.specs.Questions as asks
 use Rattle.mapping.specs.declared.Hairline.{Hairline}
-use Rattle.mapping.specs.declared.Pixel.{Pixel}
-use Rattle.mapping.specs.declared.Pixel.TheVariants as pixel
 use Rattle.mapping.specs.Hairlines.{exact_at, lost_at}
 use Rattle.mapping.specs.Mapping as mapping
 use Rattle.mapping.specs.Mapping.{scale_questions, mapped}
@@ -27,6 +25,7 @@ use Rattle.mapping.specs.Position.{cut_position}
 use Rattle.mapping.specs.Drawn.{HowDrawn}
 use Rattle.mapping.proofs.Drawn.{how_drawn, start_drawn, end_exact}
 use Rattle.counting.specs.Counting as count
+use Rattle.ticks.proofs.Answers.{by_row}
 use Rattle.discrete.specs.Indices as index
 use Rattle.discrete.specs.Answers as discrete
 use Rattle.segmented.specs.declared.Segment.{Segment}
@@ -37,6 +36,7 @@ use Rattle.ordered.specs.declared.OrderedPixel.{OrderedPixel}
 use Rattle.ordered.specs.Replies.{flag, pixel_reply}
 use Rattle.promises.specs.Examples.{AllHold, axis_from, at_nano, limits_of, centre_at}
 use Rattle.promises.specs.Hairlines.{Flags, DrawnAs, DrawnOf, EndsDrawn, Drawn, NotExpected, one_day, hairline_table}
+use Rattle.promises.proofs.Rows.{no_refusal}
 use Rattle.promises.proofs.Demand.{is_at}
 
 -- ---- 1 for yes, 0 for no
@@ -48,12 +48,12 @@ either : (b : Bool) → (flag b ≡ pos 0) ⊎ (flag b ≡ pos 1)
 either true = inr refl
 either false = inl refl
 
-pub flags_of : (p : Pixel) → Flags (pixel_reply p)
-flags_of (pixel.At h) = record { exact = either h.exact; lost = either h.lost; refused = λ no. absurd (no refl) }
-flags_of (pixel.Refused q) = record { exact = inl refl; lost = inl refl; refused = λ no. (refl, refl) }
+pub flags_of : (p : Result Hairline Refusal) → Flags (pixel_reply p)
+flags_of (Ok h) = record { exact = either h.exact; lost = either h.lost; refused = λ no. absurd (no refl) }
+flags_of (Err q) = record { exact = inl refl; lost = inl refl; refused = λ no. (refl, refl) }
 
 -- ---- of a hairline, by its numbers
-as_numbers : (a : Axis) (l : Limits) (v : Value) (h : Hairline) → HowDrawn a l v h → DrawnAs a l v (pixel_reply (pixel.At h))
+as_numbers : (a : Axis) (l : Limits) (v : Value) (h : Hairline) → HowDrawn a l v h → DrawnAs a l v (pixel_reply (Ok h))
 as_numbers a l v h d = record {
   exact_near = λ f e. d.exact_near f (one h.exact e);
   near_exact = λ f at. ap flag (d.near_exact f at);
@@ -73,38 +73,34 @@ drawn_of a l v = record {
   flags = flags_of (mapped a l v);
   answered = λ s.
       let m = is_at a l v s in
-      subst (λ (r : Pixel). DrawnAs a l v (pixel_reply r)) (sym m) (as_numbers a l v _ (how_drawn a l v _ m));
+      subst (λ (r : Result Hairline Refusal). DrawnAs a l v (pixel_reply r)) (sym m) (as_numbers a l v _ (how_drawn a l v _ m));
 }
 
 -- the start, where it is answered
 start_one : (a : Axis) (l : Limits) → (pixel_reply (mapped a l (start a))).status ≡ pos 0 →
     (pixel_reply (mapped a l (start a))).exact ≡ pos 1
 start_one a l =
-    subst (λ (r : Pixel). (pixel_reply r).status ≡ pos 0 → (pixel_reply r).exact ≡ pos 1) (sym (start_drawn a l))
-    (go (first_no (scale_questions a l)) l.low (lost_at a (start a)))
-  where
-    go : (q : ℕ) (p : ℤ) (b : Bool) →
-        let r = pixel_reply (unless q pixel.Refused (pixel.At (record { pixel = p; exact = true; lost = b }))) in
-        r.status ≡ pos 0 → r.exact ≡ pos 1
-    go zero p b s = refl
-    go (suc q) p b s = absurd (let w : ⊥ = omega (arith, ap pos_part s) in w)
+    let P : (Result Hairline Refusal → Type 0) = λ r. (pixel_reply r).status ≡ pos 0 → (pixel_reply r).exact ≡ pos 1 in
+    subst P (sym (start_drawn a l))
+    (by_row (scale_questions a l) (Ok (record { pixel = l.low; exact = true; lost = lost_at a (start a) }))
+    (λ (b : Bool) (r : Result Hairline Refusal). P r) (λ s. refl) (λ q s. absurd (no_refusal q s)))
 
 pub ends_of : (a : Axis) (l : Limits) → EndsDrawn a l (pixel_reply (mapped a l (start a))) (pixel_reply (mapped a l (end a)))
 ends_of a l = record {
   start_exact = start_one a l;
   exact_high = λ later s.
       let m = is_at a l (end a) s in
-      subst (λ (r : Pixel). (pixel_reply r).exact ≡ pos 1 → (pixel_reply r).pixel ≡ l.high) (sym m)
+      subst (λ (r : Result Hairline Refusal). (pixel_reply r).exact ≡ pos 1 → (pixel_reply r).pixel ≡ l.high) (sym m)
       (λ e. (end_exact a l _ later m).0 (one _ e));
   high_exact = λ later s.
       let m = is_at a l (end a) s in
-      subst (λ (r : Pixel). (pixel_reply r).pixel ≡ l.high → (pixel_reply r).exact ≡ pos 1) (sym m)
+      subst (λ (r : Result Hairline Refusal). (pixel_reply r).pixel ≡ l.high → (pixel_reply r).exact ≡ pos 1) (sym m)
       (λ e. ap flag ((end_exact a l _ later m).1 e));
 }
 
-kept_reply : (p : Pixel) → ((h : Hairline) → p ≡ pixel.At h → h.lost ≡ false) → (pixel_reply p).lost ≡ pos 0
-kept_reply (pixel.At h) f = ap flag (f h refl)
-kept_reply (pixel.Refused q) f = refl
+kept_reply : (p : Result Hairline Refusal) → ((h : Hairline) → p ≡ Ok h → h.lost ≡ false) → (pixel_reply p).lost ≡ pos 0
+kept_reply (Ok h) f = ap flag (f h refl)
+kept_reply (Err q) f = refl
 
 -- THE THEOREM, of all axes, limits, values and segments
 pub drawn : (a : Axis) (l : Limits) (v : Value) (s : Segment) → Drawn a l v s

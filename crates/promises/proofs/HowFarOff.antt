@@ -7,7 +7,9 @@ use Prim.Native.Nat.{ℕ}
 use native.Mathlib.Omega.{arith}
 use lib.Ieee as ieee
 use lib.IntN.{pos}
+use Rattle.std.specs.Prelude.{Result}
 use Rattle.laws.specs.Numbers.{pos_part}
+use Rattle.asking.specs.declared.Refusal.{Refusal}
 use Rattle.floats.specs.Rounding as rounding
 use Rattle.values.specs.declared.Value.{Value}
 use Rattle.values.specs.Differences.{nanoseconds, difference, nanoseconds_of}
@@ -17,7 +19,7 @@ use Rattle.axis.specs.declared.Limits.{Limits}
 use Rattle.axis.specs.Axes.{start, end, span_of, offset_of}
 use Rattle.axis.specs.Questions as asks
 use Rattle.mapping.specs.Mapping as mapping
-use Rattle.mapping.specs.declared.Pixel.{Pixel}
+use Rattle.mapping.specs.declared.Hairline.{Hairline}
 use Rattle.mapping.specs.Position.{Inside, cut_position, HowFarOff}
 use Rattle.mapping.proofs.Positions.{how_far_off}
 use Rattle.mapping.proofs.Ends.{start_at_low, end_at_high}
@@ -30,7 +32,7 @@ use Rattle.promises.proofs.Demand.{is_at}
 pub off_of : (a : Axis) (l : Limits) (v : Value) → OffOf a l v (pixel_reply (mapping.mapped a l v))
 off_of a l v s =
     let m = is_at a l v s in
-    subst (λ (r : Pixel). HowFarOff a l v (pixel_reply r).pixel) (sym m) (how_far_off a l v _ m)
+    subst (λ (r : Result Hairline Refusal). HowFarOff a l v (pixel_reply r).pixel) (sym m) (how_far_off a l v _ m)
 
 pub at_ends : (a : Axis) (l : Limits) →
     AtEnds a l (pixel_reply (mapping.mapped a l (start a))) (pixel_reply (mapping.mapped a l (end a)))

@@ -1,4 +1,5 @@
 -- The claim, proved.
+pub mod Rows
 pub mod Demand
 pub mod Pixels
 pub mod DayNumbers

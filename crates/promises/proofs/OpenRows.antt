@@ -2,7 +2,6 @@
 use mathlib.Core.Path.{◌≡◌, refl, sym, ◌∙◌}
 use mathlib.Core.Bool.{true, false}
 use mathlib.Core.List.{List, [], ◌∷◌, ◌++◌}
-use mathlib.Core.Option.{some}
 use Prim.Native.Nat.{ℕ, ◌+◌, ◌*◌, ◌/◌, ◌^◌, ◌≤◌}
 use native.Mathlib.Omega.{arith}
 use lib.Dec.{leb}
@@ -10,10 +9,12 @@ use lib.IntN.{ℤ, pos, ◌-ℤ◌}
 use lib.ListN.{length, drop}
 use lib.Ieee as ieee
 use borrow.Author.Tests.{le-leb, le-ltb}
-use Rattle.laws.specs.Asking.{first_no}
+use Rattle.std.specs.Prelude.{Some, Ok}
 use Rattle.laws.specs.Units.{per_hour}
 use Rattle.laws.proofs.Signed.{same, sub}
 use Rattle.laws.proofs.Tests.{and_false}
+use Rattle.asking.specs.Asking.{passes}
+use Rattle.asking.proofs.Asked.{passed}
 use Rattle.floats.specs.Rounding.{ceil_f, ceil_of}
 use Rattle.values.specs.declared.Value.{Value}
 use Rattle.values.specs.Values.{is_value, earlier, midnight}
@@ -26,7 +27,7 @@ use Rattle.axis.specs.Questions.{bold_hint, value_on}
 use Rattle.axis.proofs.Questions.{other_kind}
 use Rattle.counting.specs.Counting.{from_day, to_day, monthly, yearly, first_date, date_on, origin, position, size_of}
 use Rattle.steps.specs.Months.{month_of, whole_month}
-use Rattle.steps.specs.Listing.{numbers}
+use Rattle.steps.specs.Listing.{numbers, listed_of}
 use Rattle.plans.specs.Months.{from_month, to_month, month_plan}
 use Rattle.plans.specs.Plans.{plan_of}
 use Rattle.keypoints.specs.Dates.{dates_from, date_key_points}
@@ -36,7 +37,6 @@ use Rattle.keypoints.specs.KeyPoints.{key_points}
 use Rattle.keypoints.specs.Hints.{key_points_for}
 use Rattle.ticks.specs.Answers.{tick_questions, ticks_of, ticks_answer, ticks_written, period_questions, period_answer}
 use Rattle.ticks.proofs.KeyPoints.{ticks_same}
-use Rattle.discrete.specs.declared.NumberAnswer.TheVariants as number
 use Rattle.discrete.specs.Indices.{is_indexed, index_of}
 use Rattle.discrete.specs.Answers.{index_in, index_answer, size_answer}
 use Rattle.promises.specs.Examples.{bold_of, listed_into, new_year}
@@ -46,17 +46,18 @@ use Rattle.promises.proofs.DayNumbers.{december_2019, january_2020, december_202
 use Rattle.promises.proofs.DateAxes.{dates_accepted}
 
 -- ---- a list that the questions accept and the lent numbers have room for
-listed : (a : Axis) (h : Hint) (l : List Value) (d : List ℤ) → first_no (tick_questions a h) ≡ 0 → ticks_of a h ≡ l →
+listed : (a : Axis) (h : Hint) (l : List Value) (d : List ℤ) → passes (tick_questions a h) ≡ true → ticks_of a h ≡ l →
     2 * length l ≤ length d → listed_into a h d ≡ pos 0 ∷ (pos (length l) ∷ (numbers l ++ drop (2 * length l) d))
 unfolding ticks_answer ticks_written
-listed a h l d z e r = rw (z, e, le-leb (2 * length l) (length d) r)
+listed a h l d z e r =
+    rw (← passed (tick_questions a h) (listed_of (ticks_of a h) (length d)) z, z, e, le-leb (2 * length l) (length d) r)
 
 -- ---- dates
 module _ (day k n : ℕ) (first : 1 ≤ day) (last : day + k ≤ 3652059) (few : n ≤ 4096) where
   abbrev a : Axis
   a = dates_apart day k
 
-  accepted : first_no (tick_questions a (bold_of n)) ≡ 0
+  accepted : passes (tick_questions a (bold_of n)) ≡ true
   accepted =
       let c : is_count (pos n) ≡ true = rw (le-leb 0 n (omega arith), le-leb n 4096 few) in
       dates_accepted day (day + k) first (omega arith) last (record { n = pos n }) c
@@ -92,16 +93,17 @@ two_weeks day d first last room =
 
 -- ---- the periods
 has_period_law : (a : Axis) → a.kind ≡ pos 4 → ends a ≡ true → in_order a ≡ true → excluded a ≡ false →
-    first_no (period_questions a (record { n = pos 100 })) ≡ 0
+    passes (period_questions a (record { n = pos 100 })) ≡ true
 unfolding known has_period excludable bold_hint
 has_period_law a kind real order kept =
     let near : near_or_long a ≡ true = sym (other_kind a (rw kind)) in
     rw (real, order, kept, near, kind)
 
 -- where the span has a period, the axis has
-spanned : (span k : ℕ) → fits_i64 (pos span) ≡ true → compute_period_per_point 130 span 100 true ≡ some k → PeriodOf span k
+spanned : (span k : ℕ) → fits_i64 (pos span) ≡ true → compute_period_per_point 130 span 100 true ≡ Some k → PeriodOf span k
 unfolding period_answer period_on
-spanned span k f e a kind real order kept s = rw (has_period_law a kind real order kept, s, f, kind, e)
+spanned span k f e a kind real order kept s =
+    sym (passed (period_questions a (record { n = pos 100 })) _ (has_period_law a kind real order kept)) ∙ rw (s, f, kind, e)
 
 pub below_the_power : BelowThePower
 unfolding exponent_from determine_actual_ns_per_point period_from compute_period_per_point
@@ -140,7 +142,7 @@ module _ (n : ℕ) (least : 1 ≤ n) (few : n ≤ 4096) where
   unfolding bold_hint
   any_hint = rw (le-leb 0 n (omega arith), le-leb 1 n least, le-leb n 4096 few)
 
-  year_accepted : first_no (tick_questions new_year (bold_of n)) ≡ 0
+  year_accepted : passes (tick_questions new_year (bold_of n)) ≡ true
   unfolding known near_or_long ends is_value in_order excludable earlier
   year_accepted = rw any_hint
 
@@ -153,6 +155,6 @@ no_whole_month n d least few =
     listed new_year (bold_of n) [] d (year_accepted n least few) (no_ticks n least few) (omega arith)
 
 -- its size is 12
-pub twelve : size_answer new_year ≡ number.Is 12
+pub twelve : size_answer new_year ≡ Ok 12
 unfolding closed size_answer size_of known has_index ends is_value in_order excludable earlier monthly first_date date_on from_day
 twelve = rw (december_2021, january_2022)

@@ -1,13 +1,15 @@
 -- Where a date-time axis lists dates, other dates or another hint do not give its list: each such claim is false, by its smallest
 -- input. And dates are listed on each kind. Assumes nothing.
 use mathlib.Core.Path.{◌≡◌, refl, ap}
+use mathlib.Core.Bool.{true}
 use mathlib.Core.List.{List}
 use Prim.Native.Nat.{ℕ}
 use native.Mathlib.Omega.{arith}
 use lib.IntN.{ℤ, pos}
 use lib.ListN.{get_or}
-use Rattle.laws.specs.Asking.{first_no}
+use Rattle.std.specs.Prelude.{None, Ok}
 use Rattle.laws.specs.Numbers.{pos_part}
+use Rattle.asking.specs.Asking.{passes}
 use Rattle.values.specs.Differences.{nanoseconds, difference, nanoseconds_of}
 use Rattle.values.specs.Values.{over_dates, is_value, earlier, midnight}
 use Rattle.axis.specs.declared.Axis.{Axis}
@@ -23,7 +25,6 @@ use Rattle.keypoints.specs.Times.{period_on, date_time_key_points}
 use Rattle.keypoints.specs.KeyPoints.{key_points}
 use Rattle.keypoints.specs.Hints.{light_key_points, key_points_for}
 use Rattle.keypoints.specs.AsDates.{date_times, times, months, years, bold_points}
-use Rattle.ticks.specs.declared.PeriodAnswer.TheVariants as period
 use Rattle.ticks.specs.Answers.{tick_questions, ticks_of, ticks_written, period_answer}
 use Rattle.promises.specs.Examples.{axis_from, at_nano, bold_of, light_of, sevens}
 use Rattle.promises.specs.OneList.{ListsDates, NoOtherList, OnEachKind}
@@ -37,8 +38,8 @@ abbrev number_at : ℕ → List ℤ → ℕ
 number_at i l = pos_part (get_or l i (pos 0))
 
 -- on kind 4, where the questions and the period compute
-shown : {a : Axis} {h : Hint} → a.kind ≡ pos 4 → first_no (tick_questions a h) ≡ 0 →
-    period_answer (date_times a) (bold_points h) ≡ period.None → ListsDates a h
+shown : {a : Axis} {h : Hint} → a.kind ≡ pos 4 → passes (tick_questions a h) ≡ true →
+    period_answer (date_times a) (bold_points h) ≡ Ok None → ListsDates a h
 shown k z e = record { accepted = z; as_times = times k; no_period = e }
 
 -- N 1: from 00:00:01 of day 1 to day 3, days 2 and 3, and not day 1 alone; from day 1 to 00:00:01 of day 7, day 1 alone, and

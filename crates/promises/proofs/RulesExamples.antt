@@ -1,15 +1,19 @@
 -- The settled examples of house rules. A verdict is about 3,652,059 lengths: a law says it of all of them, and what is left is
 -- computed. Assumes nothing.
 use mathlib.Core.Path.{◌≡◌, refl, ap, ◌∙◌}
+use mathlib.Core.Bool.{true, cond, ◌&&◌}
 use mathlib.Core.List.{List, [], ◌∷◌, ◌++◌}
-use mathlib.Core.Option.{Option, none, some}
 use Prim.Native.Nat.{ℕ, ◌≤◌, ◌<◌}
 use native.Mathlib.Decide.{dec_le}
 use native.Mathlib.Omega.{arith}
 use borrow.Author.Tests.{le-leb, lt-leb}
 use lib.ListN.{length}
-use Rattle.laws.specs.Asking.{first_no, unless, asked}
-use Rattle.laws.proofs.Asked.{in_two}
+use Rattle.std.specs.Prelude.{⊤, Option, None, Some, Result, Ok, Err, is_ok}
+use Rattle.std.specs.Result.{result_and}
+use Rattle.asking.specs.declared.Refusal.{Refusal}
+use Rattle.asking.specs.declared.Refusal.TheVariants as refusal
+use Rattle.asking.specs.Asking.{asked, passes}
+use Rattle.asking.proofs.Asked.{asked_append, passes_append, all_pass}
 use Rattle.text_read.specs.Fields as fields
 use Rattle.text_read.specs.Lines as lines
 use Rattle.calendar.specs.Gregorian as calendar
@@ -21,23 +25,23 @@ use Rattle.axis.specs.Questions as asks
 use Rattle.axis.specs.Questions.{plain_questions}
 use Rattle.counting.specs.Counting.{from_day, to_day}
 use Rattle.steps.specs.Months as steps
-use Rattle.steps.specs.declared.Listed.TheVariants as listed
 use Rattle.steps.specs.Listing.{listed_of, lent_after}
 use Rattle.plans.specs.Months.{from_month, to_month}
 use Rattle.keypoints.specs.Every as every
 use Rattle.keypoints.specs.Weeks as weekly
 use Rattle.rules.specs.declared.Row.{Row}
-use Rattle.rules.specs.declared.RulesAnswer.TheVariants as rules
+use Rattle.rules.specs.declared.Unit.{Unit}
+use Rattle.rules.specs.declared.Unit.TheVariants as unit
 use Rattle.rules.specs.Rows as rows
 use Rattle.rules.specs.Cover.{lengths, rows_for, first_for}
-use Rattle.rules.specs.Table.{rows_of_lines, table_of, rows_read, table_questions, rules_answer}
+use Rattle.rules.specs.Table.{rows_of_lines, table_of, rows_read, rows_in, table_questions, rules_answer}
 use Rattle.rules.specs.Claims.{EachLength, verdict}
 use Rattle.rules.proofs.Judged.{judges}
 use Rattle.ruled.specs.Ruled.{is_of, ruled_ticks}
 use Rattle.ruled.specs.Answers.{has_rules, ruled_questions, ruled_on, ruled_answer, ruled_written}
 use Rattle.ruled.specs.Plans.{ruled_plan}
-use Rattle.ruled.proofs.Answers.{first_of_two, same}
-use Rattle.ordered.specs.Replies.{count_reply, rules_reply}
+use Rattle.ruled.proofs.Answers.{same}
+use Rattle.ordered.specs.Replies.{number_reply}
 use Rattle.promises.specs.Examples.{Holds, AllHold, count_numbers, sevens}
 use Rattle.promises.specs.ExcludedEnds.{before}
 use Rattle.promises.specs.RulesExamples as examples
@@ -46,34 +50,35 @@ use Rattle.promises.specs.RulesExamples.{short_daily, long_second_days, verdict_
 use Rattle.promises.specs.RulesExamples.{no_feed, two_spaces, no_step, other_unit, plus_sign, from_below, to_above}
 use Rattle.promises.specs.RulesExamples.{from_above_to, step_none, step_above, long_numbers, other_names}
 use Rattle.promises.specs.RulesExamples.{verdict_table, unread_table, ruled_table}
+use Rattle.promises.proofs.Rows.{behind, passes_ok}
 
 -- ---- what the tables read
-abbrev row_of : ℕ → ℕ → ℕ → ℕ → Row
-row_of from to unit step = record { from = from; to = to; unit = unit; step = step }
+abbrev row_of : ℕ → ℕ → Unit → ℕ → Row
+row_of from to u step = record { from = from; to = to; unit = u; step = step }
 
 abbrev Reads : List ℕ → List Row → Type 0
-Reads s ws = table_of s ≡ some ws
+Reads s ws = table_of s ≡ Some ws
 
 -- a row for all lengths
-abbrev for_all : ℕ → ℕ → Row
-for_all unit step = row_of 0 3652058 unit step
+abbrev for_all : Unit → ℕ → Row
+for_all u step = row_of 0 3652058 u step
 
 record AllRead : Type 0 where
-  nothing : table_of [] ≡ none
+  nothing : table_of [] ≡ None
   names : Reads names_line []
-  weekly : Reads (names_line ++ all_weekly) (for_all 1 7 ∷ [])
-  twice : Reads (names_line ++ all_weekly ++ all_weekly) (for_all 1 7 ∷ (for_all 1 7 ∷ []))
-  from_one_law : Reads (names_line ++ from_one) (row_of 1 3652058 1 7 ∷ [])
-  to_less_law : Reads (names_line ++ to_less) (row_of 0 3652057 1 7 ∷ [])
-  ones : Reads (names_line ++ from_one ++ from_one) (row_of 1 3652058 1 7 ∷ (row_of 1 3652058 1 7 ∷ []))
-  days : Reads (names_line ++ all_second_days) (for_all 1 2 ∷ [])
-  years : Reads (names_line ++ all_second_years) (for_all 3 2 ∷ [])
-  long : Reads (names_line ++ long_numbers) (for_all 1 1000 ∷ [])
-  two : Reads (names_line ++ short_daily ++ long_second_days) (row_of 0 2 1 1 ∷ (row_of 3 3652058 1 2 ∷ []))
+  weekly : Reads (names_line ++ all_weekly) (for_all unit.Day 7 ∷ [])
+  twice : Reads (names_line ++ all_weekly ++ all_weekly) (for_all unit.Day 7 ∷ (for_all unit.Day 7 ∷ []))
+  from_one_law : Reads (names_line ++ from_one) (row_of 1 3652058 unit.Day 7 ∷ [])
+  to_less_law : Reads (names_line ++ to_less) (row_of 0 3652057 unit.Day 7 ∷ [])
+  ones : Reads (names_line ++ from_one ++ from_one) (row_of 1 3652058 unit.Day 7 ∷ (row_of 1 3652058 unit.Day 7 ∷ []))
+  days : Reads (names_line ++ all_second_days) (for_all unit.Day 2 ∷ [])
+  years : Reads (names_line ++ all_second_years) (for_all unit.Year 2 ∷ [])
+  long : Reads (names_line ++ long_numbers) (for_all unit.Day 1000 ∷ [])
+  two : Reads (names_line ++ short_daily ++ long_second_days) (row_of 0 2 unit.Day 1 ∷ (row_of 3 3652058 unit.Day 2 ∷ []))
 
 reads : AllRead
-unfolding fields.until_of fields.digits_from fields.digits_of fields.read_number lines.lines_of lines.same_as lines.occurrences
-    lines.in_form rows.unit_of rows.in_range rows.row_read rows.read_row rows_of_lines table_of
+unfolding fields.until_of fields.digits_from fields.digits_of fields.read_number lines.lines_of lines.occurrences
+    lines.in_form rows.in_range rows.row_read rows.read_row rows_of_lines table_of
 reads = record {
   nothing = refl;
   names = refl;
@@ -101,15 +106,15 @@ at_most : (l : ℕ) → l < lengths → l ≤ 3652058
 unfolding lengths
 at_most l h = omega arith
 
-one_each : (unit step : ℕ) → EachLength (λ l. rows_for (for_all unit step ∷ []) l ≡ 1)
+one_each : (u : Unit) (step : ℕ) → EachLength (λ l. rows_for (for_all u step ∷ []) l ≡ 1)
 unfolding rows_for
-one_each unit step l h = rw (le-leb 0 l (omega arith), le-leb l 3652058 (at_most l h))
+one_each u step l h = rw (le-leb 0 l (omega arith), le-leb l 3652058 (at_most l h))
 
-two_each : (unit step : ℕ) → EachLength (λ l. rows_for (for_all unit step ∷ (for_all unit step ∷ [])) l ≡ 2)
+two_each : (u : Unit) (step : ℕ) → EachLength (λ l. rows_for (for_all u step ∷ (for_all u step ∷ [])) l ≡ 2)
 unfolding rows_for
-two_each unit step l h = rw (le-leb 0 l (omega arith), le-leb l 3652058 (at_most l h))
+two_each u step l h = rw (le-leb 0 l (omega arith), le-leb l 3652058 (at_most l h))
 
-one_of_two : EachLength (λ l. rows_for (row_of 0 2 1 1 ∷ (row_of 3 3652058 1 2 ∷ [])) l ≡ 1)
+one_of_two : EachLength (λ l. rows_for (row_of 0 2 unit.Day 1 ∷ (row_of 3 3652058 unit.Day 2 ∷ [])) l ≡ 1)
 unfolding rows_for
 one_of_two l h =
     elim (dec_le l 2) [
@@ -123,123 +128,134 @@ one_of_two l h =
     ]
 
 -- ---- the verdicts
-lacks : (s : List ℕ) (ws : List Row) (l : ℕ) → Reads s ws → l < lengths → rows_for ws l ≡ 0 → verdict s ≡ 15
+abbrev fine : Result ⊤ Refusal
+fine = Ok tt
+
+lacks : (s : List ℕ) (ws : List Row) (l : ℕ) → Reads s ws → l < lengths → rows_for ws l ≡ 0 → verdict s ≡ Err refusal.Gap
 lacks s ws l e h z = ((judges s).others ws e).fifteen.1 (l, h, z)
 
-accepts : (s : List ℕ) (unit step : ℕ) → Reads s (for_all unit step ∷ []) → verdict s ≡ 0
-accepts s unit step e = ((judges s).others (for_all unit step ∷ []) e).accepted.1 (one_each unit step)
+accepts : (s : List ℕ) (u : Unit) (step : ℕ) → Reads s (for_all u step ∷ []) → verdict s ≡ fine
+accepts s u step e = ((judges s).others (for_all u step ∷ []) e).accepted.1 (one_each u step)
 
-has_two : (s : List ℕ) (unit step : ℕ) → Reads s (for_all unit step ∷ (for_all unit step ∷ [])) → verdict s ≡ 16
-has_two s unit step e =
-    ((judges s).others (for_all unit step ∷ (for_all unit step ∷ [])) e).sixteen.1
-    (λ l h. omega (arith, two_each unit step l h), (0, least, omega (arith, two_each unit step 0 least)))
+has_two : (s : List ℕ) (u : Unit) (step : ℕ) → Reads s (for_all u step ∷ (for_all u step ∷ [])) →
+    verdict s ≡ Err refusal.Overlap
+has_two s u step e =
+    ((judges s).others (for_all u step ∷ (for_all u step ∷ [])) e).sixteen.1
+    (λ l h. omega (arith, two_each u step l h), (0, least, omega (arith, two_each u step 0 least)))
 
-verdict_on_law : (s : List ℕ) (o : Option (List Row)) (q : ℕ) → table_of s ≡ o → verdict s ≡ q →
-    verdict_on s ≡ count_numbers (rules_reply (unless q rules.Refused (rules.Rows (length (rows_read o)))))
+verdict_on_law : (s : List ℕ) (o : Option (List Row)) (v : Result ⊤ Refusal) → table_of s ≡ o → verdict s ≡ v →
+    verdict_on s ≡ count_numbers (number_reply (result_and v (Ok (length (rows_read o)))))
 unfolding rules_answer
-verdict_on_law s o q e v = λ i. count_numbers (rules_reply (unless (v i) rules.Refused (rules.Rows (length (rows_read (e i))))))
+verdict_on_law s o v e f =
+    ap (λ (r : Result ℕ Refusal). count_numbers (number_reply r)) (behind (table_questions s) (Ok (length (rows_in s))))
+    ∙ (λ i. count_numbers (number_reply (result_and (f i) (Ok (length (rows_read (e i)))))))
 
 -- ---- after the verdict, the questions of the axis and the list
-module _ (table : List ℕ) (a : Axis) (q : ℕ) (v : verdict table ≡ q) where
-  by_table : {A : Type 0} (refused : ℕ → A) (x : A) →
-      asked (ruled_questions table a) refused x ≡ unless q refused (asked (plain_questions (has_rules a) a) refused x)
-  by_table refused x =
-      in_two refused x (table_questions table) (plain_questions (has_rules a) a)
-      ∙ ap (λ (n : ℕ). unless n refused (asked (plain_questions (has_rules a) a) refused x)) v
-
-  count_by : ruled_count table a ≡ count_numbers (count_reply (unless q listed.Refused
-      (asked (plain_questions (has_rules a) a) listed.Refused (listed_of (ruled_on table a) (length sevens)))))
+module _ (table : List ℕ) (a : Axis) (v : Result ⊤ Refusal) (f : verdict table ≡ v) where
+  count_by : ruled_count table a ≡ count_numbers (number_reply (result_and v
+      (asked (plain_questions (has_rules a) a) (listed_of (ruled_on table a) (length sevens)))))
   unfolding ruled_answer
-  count_by = ap (λ r. count_numbers (count_reply r)) (by_table listed.Refused (listed_of (ruled_on table a) (length sevens)))
+  count_by =
+      let row = plain_questions (has_rules a) a in
+      let list = listed_of (ruled_on table a) (length sevens) in
+      ap (λ (r : Result ℕ Refusal). count_numbers (number_reply r))
+      (asked_append (table_questions table) row list ∙ behind (table_questions table) (asked row list)
+      ∙ ap (λ (x : Result ⊤ Refusal). result_and x (asked row list)) f)
 
-  into_by : ruled_into table a ≡ count_numbers (count_reply (unless q listed.Refused
-      (asked (plain_questions (has_rules a) a) listed.Refused (listed_of (ruled_on table a) (length sevens)))))
-      ++ unless q (λ n. sevens) (asked (plain_questions (has_rules a) a) (λ n. sevens) (lent_after (ruled_on table a) sevens))
+  into_by : ruled_into table a ≡ count_numbers (number_reply (result_and v
+      (asked (plain_questions (has_rules a) a) (listed_of (ruled_on table a) (length sevens)))))
+      ++ cond (is_ok v && passes (plain_questions (has_rules a) a)) (lent_after (ruled_on table a) sevens) sevens
   unfolding ruled_written
-  into_by = λ i. count_by i ++ by_table (λ n. sevens) (lent_after (ruled_on table a) sevens) i
+  into_by =
+      let row = plain_questions (has_rules a) a in
+      let let_through =
+      passes_append (table_questions table) row
+      ∙ ap (λ b. b && passes row) (passes_ok (table_questions table) ∙ ap (λ (x : Result ⊤ Refusal). is_ok x) f) in
+      λ i. count_by i ++ cond (let_through i) (lent_after (ruled_on table a) sevens) sevens
 
 -- ---- tables
-not_read : (s : List ℕ) → table_of s ≡ none → Holds (examples.unread s)
-not_read s e = verdict_on_law s none 12 e ((judges s).twelve.1 e)
+not_read : (s : List ℕ) → table_of s ≡ None → Holds (examples.unread s)
+not_read s e = verdict_on_law s None (Err refusal.Table) e ((judges s).twelve.1 e)
 
 empty : Holds examples.empty
 empty = not_read [] reads.nothing
 
 pub names_alone : Holds examples.names_alone
 unfolding rows_for
-names_alone = verdict_on_law names_line (some []) 15 reads.names (lacks names_line [] 0 reads.names least refl)
+names_alone = verdict_on_law names_line (Some []) (Err refusal.Gap) reads.names (lacks names_line [] 0 reads.names least refl)
 
 one_row : Holds examples.one_row
 one_row =
     let s = names_line ++ all_weekly in
-    verdict_on_law s _ 0 reads.weekly (accepts s 1 7 reads.weekly)
+    verdict_on_law s _ fine reads.weekly (accepts s unit.Day 7 reads.weekly)
 
 pub row_twice : Holds examples.row_twice
 row_twice =
     let s = names_line ++ all_weekly ++ all_weekly in
-    verdict_on_law s _ 16 reads.twice (has_two s 1 7 reads.twice)
+    verdict_on_law s _ (Err refusal.Overlap) reads.twice (has_two s unit.Day 7 reads.twice)
 
 long_numbers_law : Holds examples.long_numbers_law
 long_numbers_law =
     let s = names_line ++ long_numbers in
-    verdict_on_law s _ 0 reads.long (accepts s 1 1000 reads.long)
+    verdict_on_law s _ fine reads.long (accepts s unit.Day 1000 reads.long)
 
 none_for_least : Holds examples.none_for_least
 unfolding rows_for
 none_for_least =
     let s = names_line ++ from_one in
-    verdict_on_law s _ 15 reads.from_one_law (lacks s _ 0 reads.from_one_law least refl)
+    verdict_on_law s _ (Err refusal.Gap) reads.from_one_law (lacks s _ 0 reads.from_one_law least refl)
 
 none_for_greatest : Holds examples.none_for_greatest
 unfolding rows_for
 none_for_greatest =
     let s = names_line ++ to_less in
-    verdict_on_law s _ 15 reads.to_less_law (lacks s _ 3652058 reads.to_less_law greatest refl)
+    verdict_on_law s _ (Err refusal.Gap) reads.to_less_law (lacks s _ 3652058 reads.to_less_law greatest refl)
 
 none_and_two : Holds examples.none_and_two
 unfolding rows_for
 none_and_two =
     let s = names_line ++ from_one ++ from_one in
-    verdict_on_law s _ 15 reads.ones (lacks s _ 0 reads.ones least refl)
+    verdict_on_law s _ (Err refusal.Gap) reads.ones (lacks s _ 0 reads.ones least refl)
 
 -- ---- lists
 table_first : Holds examples.table_first
-table_first = count_by [] (between 0 1 5) 12 ((judges []).twelve.1 reads.nothing)
+table_first = count_by [] (between 0 1 5) (Err refusal.Table) ((judges []).twelve.1 reads.nothing)
 
-by_days_law : verdict (names_line ++ all_second_days) ≡ 0
-by_days_law = accepts (names_line ++ all_second_days) 1 2 reads.days
+by_days_law : verdict (names_line ++ all_second_days) ≡ fine
+by_days_law = accepts (names_line ++ all_second_days) unit.Day 2 reads.days
 
 pub date_times : Holds examples.date_times
 unfolding over_dates is_value earlier asks.known asks.ends asks.in_order asks.excludable has_rules
-date_times = count_by (names_line ++ all_second_days) (between 4 1 5) 0 by_days_law
+date_times = count_by (names_line ++ all_second_days) (between 4 1 5) fine by_days_law
 
 pub days_listed : Holds examples.second_days × Holds examples.row_before_end
 unfolding closed over_dates is_value earlier asks.known asks.ends asks.in_order asks.excludable has_rules from_day to_day
-    fields.until_of fields.digits_from fields.digits_of fields.read_number lines.lines_of lines.same_as lines.occurrences
-    lines.in_form rows.unit_of rows.in_range rows.row_read rows.read_row rows_of_lines table_of first_for every.days_from
+    fields.until_of fields.digits_from fields.digits_of fields.read_number lines.lines_of lines.occurrences
+    lines.in_form rows.in_range rows.row_read rows.read_row rows_of_lines table_of first_for every.days_from
     every.days_on
     weekly.every_after is_of ruled_ticks ruled_on
 days_listed =
     let s = names_line ++ short_daily ++ long_second_days in
     let v = ((judges s).others _ reads.two).accepted.1 one_of_two in
-    (into_by (names_line ++ all_second_days) (between 1 1 5) 0 by_days_law, into_by s (before 1 1 4) 0 v)
+    (into_by (names_line ++ all_second_days) (between 1 1 5) fine by_days_law, into_by s (before 1 1 4) fine v)
 
 -- by the plan that has the same ticks: the definition looks at each day
 pub second_januaries : Holds examples.second_januaries
 unfolding closed over_dates is_value earlier asks.known asks.ends asks.in_order asks.excludable has_rules calendar.leap
     calendar.leap_day calendar.month_length calendar.months calendar.year_length calendar.years calendar.day_number
     calendar.next_day calendar.days_later calendar.date_of from_day to_day fields.until_of fields.digits_from fields.digits_of
-    fields.read_number lines.lines_of lines.same_as lines.occurrences lines.in_form rows.unit_of rows.in_range rows.row_read
+    fields.read_number lines.lines_of lines.occurrences lines.in_form rows.in_range rows.row_read
     rows.read_row rows_of_lines table_of first_for steps.month_of steps.whole_month steps.first_day from_month to_month ruled_plan
 second_januaries =
     let s = names_line ++ all_second_years in
     let a = between 3 2 1096 in
-    let v = accepts s 3 2 reads.years in
+    let v = accepts s unit.Year 2 reads.years in
     let row = plain_questions (has_rules a) a in
-    let z : first_no (ruled_questions s a) ≡ 0 =
-    first_of_two (table_questions s) row ∙ ap (λ (n : ℕ). unless n (λ m. m) (first_no row)) v in
-    count_by s a 0 v
-    ∙ ap (λ (l : List Value). count_numbers (count_reply (asked row listed.Refused (listed_of l (length sevens))))) (same s a z)
+    let z : passes (ruled_questions s a) ≡ true =
+    passes_append (table_questions s) row ∙ ap (λ b. b && passes row) (all_pass (table_questions s) tt v) in
+    let listed = same s a z {w = for_all unit.Year 2} refl in
+    count_by s a fine v
+    ∙ ap (λ (l : List Value). count_numbers (number_reply (asked row (listed_of l (length sevens))))) listed
 
 -- ---- THE THEOREMS, of all rows
 pub verdicts_settled : AllHold verdict_table
@@ -247,8 +263,8 @@ verdicts_settled =
     (empty, (names_alone, (one_row, (long_numbers_law, (row_twice, (none_for_least, (none_for_greatest, (none_and_two, tt))))))))
 
 pub unread_settled : AllHold unread_table
-unfolding fields.until_of fields.digits_from fields.digits_of fields.read_number lines.lines_of lines.same_as lines.occurrences
-    lines.in_form rows.unit_of rows.in_range rows.row_read rows.read_row rows_of_lines table_of
+unfolding fields.until_of fields.digits_from fields.digits_of fields.read_number lines.lines_of lines.occurrences
+    lines.in_form rows.in_range rows.row_read rows.read_row rows_of_lines table_of
 unread_settled = (
   not_read (other_names ++ all_weekly) refl,
   (

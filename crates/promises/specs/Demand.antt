@@ -15,7 +15,7 @@ use Rattle.ticks.specs.Answers.{ticks_answer, ticks_written, ticks_handed}
 use Rattle.segmented.specs.Answers.{segment_ticks_answer, segment_ticks_written}
 use Rattle.ordered.specs.declared.OrderedNumber.{OrderedNumber}
 use Rattle.ordered.specs.declared.OrderedPixel.{OrderedPixel}
-use Rattle.ordered.specs.Replies.{count_reply, pixel_reply}
+use Rattle.ordered.specs.Replies.{number_reply, pixel_reply}
 
 -- a count that is answered, where N is n and l are the lent numbers after the call: at most N + 1, the lent numbers hold two
 -- for each tick, and these are later each, none after the last value of the axis, none before the whole second of the start
@@ -45,7 +45,7 @@ DaysApart a l i j x y =
 -- the demand, of an axis, a hint, lent numbers, limits and two days: `ordered_ticks_bold` and `_light`, the same of segments,
 -- `key_points`, and `ordered_map`; only pixels of segment values are apart
 pub record Demand3 (a : Axis) (h : Hint) (d : List ℤ) (l : Limits) (i j : ℤ) : Type 0 where
-  pub listed : FineList a h (count_reply (ticks_answer a h (length d))) (ticks_written a h d)
-  pub segments : FineList a h (count_reply (segment_ticks_answer a h (length d))) (segment_ticks_written a h d)
+  pub listed : FineList a h (number_reply (ticks_answer a h (length d))) (ticks_written a h d)
+  pub segments : FineList a h (number_reply (segment_ticks_answer a h (length d))) (segment_ticks_written a h d)
   pub handed : FinePart a h (ticks_handed a h (length d))
   pub apart : DaysApart a l i j (pixel_reply (mapped a l (midnight i))) (pixel_reply (mapped a l (midnight j)))

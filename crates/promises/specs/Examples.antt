@@ -19,7 +19,7 @@ use Rattle.ordered.specs.declared.OrderedNumber.{OrderedNumber}
 use Rattle.ordered.specs.declared.OrderedPixel.{OrderedPixel}
 use Rattle.ordered.specs.declared.OrderedPeriod.{OrderedPeriod}
 use Rattle.ordered.specs.declared.OrderedValue.{OrderedValue}
-use Rattle.ordered.specs.Replies.{day_reply, count_reply, period_reply, value_reply, number_reply, pixel_reply}
+use Rattle.ordered.specs.Replies.{number_reply, index_reply, period_reply, value_reply, pixel_reply}
 
 -- ---- the numbers of an answer, its status first
 abbrev pub count_numbers : OrderedNumber → List ℤ
@@ -71,7 +71,7 @@ centre_at v = record { case = pos 2; head = v.head; tail = v.tail }
 
 -- the count of ticks, and all lent numbers after the call, where d are those before it
 abbrev pub listed_into : Axis → Hint → List ℤ → List ℤ
-listed_into a h d = count_numbers (count_reply (ticks_answer a h (length d))) ++ ticks_written a h d
+listed_into a h d = count_numbers (number_reply (ticks_answer a h (length d))) ++ ticks_written a h d
 
 -- six lent numbers before a call
 abbrev pub sevens : List ℤ
@@ -84,15 +84,15 @@ pub record Example : Type 0 where
 
 -- 1970-01-01: day 719,163
 abbrev pub day_1970 : Example
-day_1970 = record { answer = count_numbers (day_reply (number_of (ymd 1970 1 1))); settled = pos 0 ∷ (pos 719163 ∷ []) }
+day_1970 = record { answer = count_numbers (number_reply (number_of (ymd 1970 1 1))); settled = pos 0 ∷ (pos 719163 ∷ []) }
 
 -- 1900-02-29: 8
 abbrev pub no_leap_year : Example
-no_leap_year = record { answer = count_numbers (day_reply (number_of (ymd 1900 2 29))); settled = pos 8 ∷ (pos 0 ∷ []) }
+no_leap_year = record { answer = count_numbers (number_reply (number_of (ymd 1900 2 29))); settled = pos 8 ∷ (pos 0 ∷ []) }
 
 -- 2000-02-29: accepted
 abbrev pub leap_year : Example
-leap_year = record { answer = count_numbers (day_reply (number_of (ymd 2000 2 29))); settled = pos 0 ∷ (pos 730179 ∷ []) }
+leap_year = record { answer = count_numbers (number_reply (number_of (ymd 2000 2 29))); settled = pos 0 ∷ (pos 730179 ∷ []) }
 
 -- dates 6 days apart, N 0: start
 abbrev pub six_days : Example
@@ -157,7 +157,7 @@ high_limit =
 abbrev pub earlier_year : Example
 earlier_year =
     record {
-      answer = count_numbers (number_reply (index_answer (axis_from (pos 2) (midnight (pos 737425)) (midnight (pos 737790)))
+      answer = count_numbers (index_reply (index_answer (axis_from (pos 2) (midnight (pos 737425)) (midnight (pos 737790)))
           (midnight (pos 737424))));
       settled = pos 0 ∷ (pos 11 ∷ []);
     }
@@ -186,7 +186,7 @@ first_centre =
 
 -- ---- the days of the rows, by the calendar
 abbrev pub is_day_law : ℕ → ℕ → ℕ → ℕ → Example
-is_day_law y m d n = record { answer = count_numbers (day_reply (number_of (ymd y m d))); settled = pos 0 ∷ (pos n ∷ []) }
+is_day_law y m d n = record { answer = count_numbers (number_reply (number_of (ymd y m d))); settled = pos 0 ∷ (pos n ∷ []) }
 
 -- the published days
 abbrev pub published_days : List Example

@@ -1,33 +1,27 @@
 -- An end that is not in the span: what each operation answers of an excluded end, as an equation with the axis that ends a day
 -- earlier, or with the end as written. Over raw numbers, refused calls too. Definitions only.
-use Rattle.std.specs.Prelude.{◌≡◌, true, false, ◌&&◌, List, [], ◌∷◌, ◌++◌, ℕ, ◌*◌, ◌≤◌, ◌<◌, ℤ, pos, nat_abs, ◌-ℤ◌, length, take}
-use Rattle.laws.specs.Asking.{asked}
+use Rattle.std.specs.Prelude.{◌≡◌, true, false, cond, ◌&&◌, Option, Some, None, Ok, List, [], ◌∷◌, ◌++◌, length, take}
+use Rattle.std.specs.Prelude.{ℕ, ◌*◌, ◌≤◌, ◌<◌, ℤ, pos, nat_abs, ◌-ℤ◌}
+use Rattle.asking.specs.Asking.{asked, passes}
 use Rattle.calendar.specs.Questions.{is_day}
 use Rattle.values.specs.declared.Value.{Value}
 use Rattle.values.specs.Values.{midnight}
 use Rattle.axis.specs.declared.Axis.{Axis}
 use Rattle.axis.specs.declared.Hint.{Hint}
 use Rattle.axis.specs.declared.Limits.{Limits}
-use Rattle.axis.specs.declared.ValueAnswer.{ValueAnswer}
-use Rattle.axis.specs.declared.ValueAnswer.TheVariants as value
 use Rattle.axis.specs.Axes.{axis_of, end, excluded}
 use Rattle.axis.specs.Questions.{has_index, has_unmap, plain_questions, axis_questions}
-use Rattle.mapping.specs.declared.Pixel.TheVariants as pixel
 use Rattle.mapping.specs.declared.Hairline.{Hairline}
 use Rattle.mapping.specs.Mapping.{hairline, mapped}
 use Rattle.mapping.specs.Days.{DayOf}
 use Rattle.counting.specs.Counting.{size_of}
-use Rattle.steps.specs.declared.Listed.TheVariants as listed
 use Rattle.steps.specs.Promise.{Later, nth}
 use Rattle.ticks.specs.Answers.{ticks_answer, ticks_written, ticks_handed}
 use Rattle.ruled.specs.Answers.{ruled_questions, ruled_answer, ruled_written}
 use Rattle.discrete.specs.declared.Cursor.{Cursor}
-use Rattle.discrete.specs.declared.NumberAnswer.TheVariants as number
-use Rattle.discrete.specs.declared.StepAnswer.TheVariants as step
 use Rattle.discrete.specs.Answers.{size_questions, size_answer, index_answer, from_index_answer, next_answer, previous_answer}
 use Rattle.discrete.specs.Answers.{next_in, values_answer, unmap_answer}
 use Rattle.segmented.specs.declared.Segment.{Segment}
-use Rattle.segmented.specs.declared.SegmentAnswer.TheVariants as segment
 use Rattle.segmented.specs.declared.SegmentValue.{SegmentValue}
 use Rattle.segmented.specs.declared.SegmentValue.TheVariants.{Exact, CenterOf, Last}
 use Rattle.segmented.specs.Segments.{margin_of, inner, Worked, worked, alone, between, beside, segment_worked}
@@ -39,30 +33,30 @@ use Rattle.promises.specs.Examples.{Example, count_numbers, pixel_numbers, bold_
 -- ---- "ticks, size and indices are those of the axis ending a day earlier and unmapping goes by that size"
 -- each operation asks the questions of the axis first, and then answers what it answers of the other
 pub record AsOf (a b : Axis) : Type 0 where
-  pub size : size_answer a ≡ asked (size_questions a) number.Refused (size_answer b)
-  pub index : (v : Value) → index_answer a v ≡ asked (size_questions a) number.Refused (index_answer b v)
-  pub from_index : (i : ℤ) → from_index_answer a i ≡ asked (size_questions a) value.Refused (from_index_answer b i)
-  pub next : (v : Value) → next_answer a v ≡ asked (size_questions a) value.Refused (next_answer b v)
-  pub previous : (v : Value) → previous_answer a v ≡ asked (size_questions a) value.Refused (previous_answer b v)
-  pub values : (c : Cursor) → values_answer a c ≡ asked (size_questions a) step.Refused (values_answer b c)
+  pub size : size_answer a ≡ asked (size_questions a) (size_answer b)
+  pub index : (v : Value) → index_answer a v ≡ asked (size_questions a) (index_answer b v)
+  pub from_index : (i : ℤ) → from_index_answer a i ≡ asked (size_questions a) (from_index_answer b i)
+  pub next : (v : Value) → next_answer a v ≡ asked (size_questions a) (next_answer b v)
+  pub previous : (v : Value) → previous_answer a v ≡ asked (size_questions a) (previous_answer b v)
+  pub values : (c : Cursor) → values_answer a c ≡ asked (size_questions a) (values_answer b c)
   pub unmap : (l : Limits) (p : ℤ) →
-      unmap_answer a l p ≡ asked (plain_questions (has_unmap a) a) value.Refused (unmap_answer b l p)
-  pub count : (h : Hint) (k : ℕ) → ticks_answer a h k ≡ asked (axis_questions true a) listed.Refused (ticks_answer b h k)
-  pub written : (h : Hint) (d : List ℤ) → ticks_written a h d ≡ asked (axis_questions true a) (λ q. d) (ticks_written b h d)
-  pub handed : (h : Hint) (k : ℕ) → ticks_handed a h k ≡ asked (axis_questions true a) (λ q. []) (ticks_handed b h k)
-  pub segment_size : segment_size_answer a ≡ asked (size_questions a) number.Refused (segment_size_answer b)
-  pub segment_index : (s : Segment) → segment_index_answer a s ≡ asked (size_questions a) number.Refused
+      unmap_answer a l p ≡ asked (plain_questions (has_unmap a) a) (unmap_answer b l p)
+  pub count : (h : Hint) (k : ℕ) → ticks_answer a h k ≡ asked (axis_questions true a) (ticks_answer b h k)
+  pub written : (h : Hint) (d : List ℤ) → ticks_written a h d ≡ cond (passes (axis_questions true a)) (ticks_written b h d) d
+  pub handed : (h : Hint) (k : ℕ) → ticks_handed a h k ≡ cond (passes (axis_questions true a)) (ticks_handed b h k) []
+  pub segment_size : segment_size_answer a ≡ asked (size_questions a) (segment_size_answer b)
+  pub segment_index : (s : Segment) → segment_index_answer a s ≡ asked (size_questions a)
       (segment_index_answer b s)
-  pub segment_from : (i : ℤ) → segment_from_answer a i ≡ asked (size_questions a) segment.Refused (segment_from_answer b i)
+  pub segment_from : (i : ℤ) → segment_from_answer a i ≡ asked (size_questions a) (segment_from_answer b i)
   pub segment_count : (h : Hint) (k : ℕ) →
-      segment_ticks_answer a h k ≡ asked (axis_questions (has_index a) a) listed.Refused (segment_ticks_answer b h k)
+      segment_ticks_answer a h k ≡ asked (axis_questions (has_index a) a) (segment_ticks_answer b h k)
   pub segment_written : (h : Hint) (d : List ℤ) →
-      segment_ticks_written a h d ≡ asked (axis_questions (has_index a) a) (λ q. d) (segment_ticks_written b h d)
+      segment_ticks_written a h d ≡ cond (passes (axis_questions (has_index a) a)) (segment_ticks_written b h d) d
   -- t is a table of house rules, which is asked before the axis
   pub ruled_count : (t : List ℕ) (k : ℕ) →
-      ruled_answer t a k ≡ asked (ruled_questions t a) listed.Refused (ruled_answer t b k)
+      ruled_answer t a k ≡ asked (ruled_questions t a) (ruled_answer t b k)
   pub ruled_written_law : (t : List ℕ) (d : List ℤ) →
-      ruled_written t a d ≡ asked (ruled_questions t a) (λ q. d) (ruled_written t b d)
+      ruled_written t a d ≡ cond (passes (ruled_questions t a)) (ruled_written t b d) d
 
 -- of any six numbers that exclude the end
 abbrev pub AsDayEarlier : Type 0
@@ -75,15 +69,14 @@ abbrev pub ToWrittenEnd : Type 0
 ToWrittenEnd =
     (k sh st eh et x : ℤ) (l : Limits) (v : Value)
     → mapped (axis_of k sh st eh et x) l v
-    ≡ asked (axis_questions true (axis_of k sh st eh et x)) pixel.Refused (mapped (axis_of k sh st eh et (pos 0)) l v)
+    ≡ asked (axis_questions true (axis_of k sh st eh et x)) (mapped (axis_of k sh st eh et (pos 0)) l v)
 
 -- ---- "segments' pixels mix both": margin and follower of the axis b that ends a day earlier, pixels of the axis w with its end
 -- the centre of a segment that begins at a hairline, by the next value
-abbrev pub midway : Axis → Limits → ℤ → Hairline → ValueAnswer → Worked
-midway w inside margin left (value.At u) =
+abbrev pub midway : Axis → Limits → ℤ → Hairline → Option Value → Worked
+midway w inside margin left (Some u) =
     let c = between left (hairline w inside u) in worked c.hairline (is_day u.head && c.fits)
-midway w inside margin left value.None = beside left margin
-midway w inside margin left (value.Refused q) = beside left margin
+midway w inside margin left None = beside left margin
 
 -- the pixel of a segment value; the last is at the high limit
 abbrev pub mixed : Axis → Axis → Limits → SegmentValue → Worked
@@ -102,7 +95,7 @@ SegmentsMix =
 -- ---- demand 3: no tick on or after an excluded end
 abbrev pub NoneFromEnd : Type 0
 NoneFromEnd =
-    (a : Axis) (h : Hint) (d : List ℤ) (c i : ℕ) → excluded a ≡ true → ticks_answer a h (length d) ≡ listed.Ticks c
+    (a : Axis) (h : Hint) (d : List ℤ) (c i : ℕ) → excluded a ≡ true → ticks_answer a h (length d) ≡ Ok c
     → let l = take (2 * c) (ticks_written a h d) in
     2 * i < length l → Later (nth l i) (end a)
 
@@ -112,7 +105,7 @@ abbrev pub AsManyPixels : Type 0
 AsManyPixels =
     (a : Axis) (l : Limits) (i j : ℤ) (p q : Hairline) → excluded a ≡ true
     → nat_abs (a.end_head -ℤ a.start_head) ≤ nat_abs (l.high -ℤ l.low) → DayOf a i → DayOf a j
-    → mapped a l (midnight i) ≡ pixel.At p → mapped a l (midnight j) ≡ pixel.At q → p.pixel ≡ q.pixel → i ≡ j
+    → mapped a l (midnight i) ≡ Ok p → mapped a l (midnight j) ≡ Ok q → p.pixel ≡ q.pixel → i ≡ j
 
 -- ---- rows
 -- an axis of dates to a day that is not in it

@@ -1,6 +1,6 @@
 -- Hairlines: how a pixel is drawn, of what `ordered_map` and `ordered_segment_map` answer. What a yes says of the exact position
 -- is defined in mapping/specs/Drawn.antt. Definitions only.
-use Rattle.std.specs.Prelude.{◌≡◌, ◌⊎◌, true, false, List, [], ◌∷◌, ℕ, ℤ, pos}
+use Rattle.std.specs.Prelude.{◌≡◌, ◌⊎◌, true, false, List, [], ◌∷◌, ℕ, ℤ, pos, Ok}
 use Rattle.laws.specs.Numbers.{minus}
 use Rattle.values.specs.declared.Value.{Value}
 use Rattle.values.specs.Values.{over_dates, earlier, midnight}
@@ -10,7 +10,6 @@ use Rattle.axis.specs.declared.Limits.{Limits}
 use Rattle.axis.specs.Axes.{start, end, span_of}
 use Rattle.axis.specs.Questions.{equals}
 use Rattle.mapping.specs.declared.Hairline.{Hairline}
-use Rattle.mapping.specs.declared.Pixel.TheVariants as pixel
 use Rattle.mapping.specs.Hairlines.{in_nanoseconds, divides_nothing}
 use Rattle.mapping.specs.Mapping.{mapped}
 use Rattle.mapping.specs.Position.{WholePosition}
@@ -72,15 +71,15 @@ pub record NotExpected : Type 0 where
   -- "a whole position is drawn exact", on dates: the pixel may be one short of it
   pub whole_exact :
       ((a : Axis) (l : Limits) (v : Value) (h : Hairline) → over_dates a.kind ≡ true
-      → WholePosition a l v → mapped a l v ≡ pixel.At h → h.exact ≡ true)
+      → WholePosition a l v → mapped a l v ≡ Ok h → h.exact ≡ true)
       → ⊥
   -- "what lost something is not exact"
   pub lost_not_exact :
-      ((a : Axis) (l : Limits) (v : Value) (h : Hairline) → mapped a l v ≡ pixel.At h → h.lost ≡ true → h.exact ≡ false) → ⊥
+      ((a : Axis) (l : Limits) (v : Value) (h : Hairline) → mapped a l v ≡ Ok h → h.lost ≡ true → h.exact ≡ false) → ⊥
   -- "where start equals end, everything is exact": a centre is halved
   pub centre_exact :
       ((a : Axis) (l : Limits) (s : Segment) (h : Hairline) → equals (end a) (start a) ≡ true
-      → segment_map_answer a l s ≡ pixel.At h → h.exact ≡ true)
+      → segment_map_answer a l s ≡ Ok h → h.exact ≡ true)
       → ⊥
 
 -- ---- rows: status, pixel, exact, lost

@@ -1,8 +1,7 @@
 -- House rules: what the verdict on a table says of all span lengths, and what a ruled list is, of the numbers that the calls
 -- answer and leave. Definitions only.
 -- Their words are defined where they belong: tables in rules/specs/Claims.antt, lists in ruled/specs/Claims.antt.
-use Rattle.std.specs.Prelude.{◌≡◌, List, ◌↔◌, ℕ, ◌-◌, ◌*◌, ◌≤◌, ◌<◌, ℤ, pos, length, take}
-use Rattle.std.proofs.Math.Option.{none, some}
+use Rattle.std.specs.Prelude.{◌≡◌, List, ◌↔◌, ℕ, ◌-◌, ◌*◌, ◌≤◌, ◌<◌, ℤ, pos, length, take, Some, None}
 use Rattle.laws.specs.Numbers.{pos_part}
 use Rattle.axis.specs.declared.Axis.{Axis}
 use Rattle.axis.specs.Axes.{start, last}
@@ -25,8 +24,8 @@ pub record Verdict (ws : List Row) (r : OrderedNumber) : Type 0 where
 
 -- of any bytes: 12 just when they do not read
 pub record TableClaim (table : List ℕ) (r : OrderedNumber) : Type 0 where
-  pub twelve : r.status ≡ pos 12 ↔ (table_of table ≡ none)
-  pub others : (ws : List Row) → table_of table ≡ some ws → Verdict ws r
+  pub twelve : r.status ≡ pos 12 ↔ (table_of table ≡ None)
+  pub others : (ws : List Row) → table_of table ≡ Some ws → Verdict ws r
 
 -- ---- a ruled list
 -- the first day of an axis over dates, and the last that belongs to it
@@ -40,7 +39,7 @@ last_day a = pos_part (last a).head
 -- the table has a row for the span's length, and no other is for it
 pub record OnlyRow (table : List ℕ) (days : ℕ) (w : Row) : Type 0 where
   pub rows : List Row
-  pub read : table_of table ≡ some rows
+  pub read : table_of table ≡ Some rows
   pub place : ℕ
   pub fits : Fitting rows days place
   pub only : (i : ℕ) → Fitting rows days i → i ≡ place

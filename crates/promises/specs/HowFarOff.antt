@@ -1,13 +1,12 @@
 -- How far a pixel may be off, of what `ordered_map` answers; and the narrower claims that one could make, each of them false.
 -- Positions and what a pixel may be beside them are defined in mapping/specs/Position.antt. Definitions only.
-use Rattle.std.specs.Prelude.{◌≡◌, ◌⊎◌, Bool, true, suc, ◌≤◌, ℤ, pos, negsuc, nat_abs, ◌+ℤ◌, ◌-ℤ◌, ◌*ℤ◌}
+use Rattle.std.specs.Prelude.{◌≡◌, ◌⊎◌, Bool, true, suc, ◌≤◌, ℤ, pos, negsuc, nat_abs, ◌+ℤ◌, ◌-ℤ◌, ◌*ℤ◌, Ok}
 use Rattle.values.specs.declared.Value.{Value}
 use Rattle.values.specs.Values.{over_dates, over_date_times, earlier}
 use Rattle.axis.specs.declared.Axis.{Axis}
 use Rattle.axis.specs.declared.Limits.{Limits}
 use Rattle.axis.specs.Axes.{start, end, span_of, offset_of}
 use Rattle.mapping.specs.declared.Hairline.{Hairline}
-use Rattle.mapping.specs.declared.Pixel.TheVariants as pixel
 use Rattle.mapping.specs.Hairlines.{hairline_at}
 use Rattle.mapping.specs.Mapping.{mapped, answered_at}
 use Rattle.mapping.specs.Position.{Inside, width, cut_position, WholePosition, one_nearer, CutOrNearer, HowFarOff}
@@ -37,7 +36,7 @@ pub record Off (a : Axis) (l : Limits) (v : Value) : Type 0 where
 abbrev pub Claimed : (ℤ → Bool) → (Axis → Limits → Value → ℤ → Type 0) → Type 0
 Claimed kinds claim =
     (a : Axis) (l : Limits) (v : Value) (h : Hairline)
-    → kinds a.kind ≡ true → Inside a v → mapped a l v ≡ pixel.At h → claim a l v h.pixel
+    → kinds a.kind ≡ true → Inside a v → mapped a l v ≡ Ok h → claim a l v h.pixel
 
 -- it is the cut position
 abbrev pub AtCut : Axis → Limits → Value → ℤ → Type 0

@@ -1,7 +1,7 @@
 -- One list, not two: where a date-time axis lists dates, the calls answer and leave what they answer and leave of the axis of
 -- these dates. Definitions only.
-use Rattle.std.specs.Prelude.{◌≡◌, true, List, ℕ, ◌*◌, ◌^◌, ◌≤◌, ℤ, pos}
-use Rattle.laws.specs.Asking.{first_no}
+use Rattle.std.specs.Prelude.{◌≡◌, true, List, ℕ, ◌*◌, ◌^◌, ◌≤◌, ℤ, pos, None, Ok}
+use Rattle.asking.specs.Asking.{passes}
 use Rattle.laws.specs.Numbers.{minus, pos_part}
 use Rattle.calendar.specs.DateTimes.{date_floor, date_ceil}
 use Rattle.values.specs.Values.{midnight}
@@ -13,7 +13,6 @@ use Rattle.axis.specs.Axes.{axis_of, start, end, span_of}
 use Rattle.axis.specs.Questions.{has_index}
 use Rattle.counting.specs.Counting.{date_time}
 use Rattle.keypoints.specs.AsDates.{date_times, ListsTimes, bold_points}
-use Rattle.ticks.specs.declared.PeriodAnswer.TheVariants as period
 use Rattle.ticks.specs.Answers.{tick_questions, ticks_answer, ticks_written, ticks_handed, period_questions, period_answer}
 use Rattle.segmented.specs.Answers.{segment_ticks_answer, segment_ticks_written}
 use Rattle.promises.specs.declared.Lists.{Lists}
@@ -21,9 +20,9 @@ use Rattle.promises.specs.Examples.{axis_from, bold_of, light_of}
 
 -- where dates are listed: the questions before 11 accept the axis and the hint, it lists as kind 4, and there the period is none
 pub record ListsDates (a : Axis) (h : Hint) : Type 0 where
-  pub accepted : first_no (tick_questions a h) ≡ 0
+  pub accepted : passes (tick_questions a h) ≡ true
   pub as_times : ListsTimes a h
-  pub no_period : period_answer (date_times a) (bold_points h) ≡ period.None
+  pub no_period : period_answer (date_times a) (bold_points h) ≡ Ok None
 
 -- kind 1 between two days; the last is excluded where x is not 0
 abbrev pub days : ℤ → ℤ → ℤ → Axis
@@ -49,7 +48,7 @@ by_count (Light h) = Bold (record { n = h.bold })
 -- an axis and a hint answer as others do, which the questions accept: the count of ticks for any number of lent ones, all lent
 -- numbers after the list, what is handed back, and the lists of segments, where the kind has them
 pub record Alike (a : Axis) (h : Hint) (b : Axis) (g : Hint) : Type 0 where
-  pub accepted : first_no (tick_questions b g) ≡ 0
+  pub accepted : passes (tick_questions b g) ≡ true
   pub count : (k : ℕ) → ticks_answer a h k ≡ ticks_answer b g k
   pub written : (d : List ℤ) → ticks_written a h d ≡ ticks_written b g d
   pub handed : (k : ℕ) → ticks_handed a h k ≡ ticks_handed b g k
@@ -67,16 +66,16 @@ OneList =
 -- answered; d and e were lent to the two lists, l and m are what they left
 abbrev pub SameLists : Axis → Hint → ℤ → ℤ → List ℤ → List ℤ → Lists → List ℤ → List ℤ → Type 0
 SameLists a h from to d e r l m =
-    first_no (tick_questions a h) ≡ 0 → ListsTimes a h → r.period.status ≡ minus 1
+    passes (tick_questions a h) ≡ true → ListsTimes a h → r.period.status ≡ minus 1
     → from ≡ ceil_of_start a → to ≡ floor_of_end a → d ≡ e → (r.times ≡ r.dates) × (l ≡ m)
 
 -- ---- where that is, in numbers: on kind 4 the period is none just from 10^14 ns for each of the N on
 abbrev pub NoneFrom : Type 0
 NoneFrom =
     (sh st eh et x : ℤ) (h : BoldPoints) → let a = axis_of (pos 4) sh st eh et x in
-    let none = period_answer a h ≡ period.None in
+    let none = period_answer a h ≡ Ok None in
     let long = 10 ^ 14 * pos_part h.n ≤ pos_part (span_of a) in
-    first_no (period_questions a h) ≡ 0 → (none → long) × (long → none)
+    passes (period_questions a h) ≡ true → (none → long) × (long → none)
 
 -- ---- the claim of other dates or another hint, each of them false
 abbrev pub Writes : (Axis → Axis) → (Hint → Hint) → Type 0

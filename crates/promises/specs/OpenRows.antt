@@ -1,14 +1,12 @@
 -- The settled examples that leave something open, said of all of it: every start, every end, every N that has room.
 -- Definitions only.
-use Rattle.std.specs.Prelude.{◌≡◌, true, false, List, ◌∷◌, ℕ, ◌+◌, ◌*◌, ◌^◌, ◌≤◌, ℤ, pos, length, drop}
+use Rattle.std.specs.Prelude.{◌≡◌, true, false, List, ◌∷◌, ℕ, ◌+◌, ◌*◌, ◌^◌, ◌≤◌, ℤ, pos, length, drop, Some, Ok}
 use Rattle.laws.specs.Units.{per_hour}
 use Rattle.values.specs.Values.{midnight}
 use Rattle.axis.specs.declared.Axis.{Axis}
 use Rattle.axis.specs.Axes.{span_of, excluded}
 use Rattle.axis.specs.Questions.{ends, in_order}
 use Rattle.ticks.specs.Answers.{period_answer}
-use Rattle.ticks.specs.declared.PeriodAnswer.TheVariants as period
-use Rattle.discrete.specs.declared.NumberAnswer.TheVariants as number
 use Rattle.discrete.specs.Answers.{index_answer}
 use Rattle.promises.specs.Examples.{axis_from, bold_of, listed_into, new_year}
 
@@ -33,7 +31,7 @@ TwoWeeks =
 abbrev pub PeriodOf : ℕ → ℕ → Type 0
 PeriodOf span k =
     (a : Axis) → a.kind ≡ pos 4 → ends a ≡ true → in_order a ≡ true → excluded a ≡ false → span_of a ≡ pos span
-    → period_answer a (record { n = pos 100 }) ≡ period.Is k
+    → period_answer a (record { n = pos 100 }) ≡ Ok (Some k)
 
 -- 'span 10^15 − 1 ns, N 100, kind 4': 5 h
 abbrev pub BelowThePower : Type 0
@@ -47,7 +45,7 @@ AtThePower = PeriodOf (10 ^ 15) (4 * per_hour)
 abbrev pub EarlierYear : Type 0
 EarlierYear =
     (last : ℕ) → 737425 ≤ last → last ≤ 3652059
-    → index_answer (axis_from (pos 2) (midnight (pos 737425)) (midnight (pos last))) (midnight (pos 737424)) ≡ number.Is 11
+    → index_answer (axis_from (pos 2) (midnight (pos 737425)) (midnight (pos last))) (midnight (pos 737424)) ≡ Ok (Some 11)
 
 -- 'kind 5, 2021-12-31 10:00 to 12:00': no bold ticks, for every N from 1 to 4,096
 abbrev pub NoWholeMonth : Type 0

@@ -5,7 +5,7 @@ use Rattle.values.specs.Values.{midnight}
 use Rattle.axis.specs.declared.Axis.{Axis}
 use Rattle.rules.specs.Table.{rules_answer}
 use Rattle.ruled.specs.Answers.{ruled_answer, ruled_written}
-use Rattle.ordered.specs.Replies.{rules_reply, count_reply}
+use Rattle.ordered.specs.Replies.{number_reply}
 use Rattle.promises.specs.Examples.{Example, count_numbers, axis_from, sevens}
 use Rattle.promises.specs.ExcludedEnds.{before}
 
@@ -102,11 +102,11 @@ other_names = 114 ∷ 111 ∷ 109 ∷ 32 ∷ 116 ∷ 111 ∷ 32 ∷ 117 ∷ 110 
 -- ---- what is asked
 -- the verdict on a table
 abbrev pub verdict_on : List ℕ → List ℤ
-verdict_on table = count_numbers (rules_reply (rules_answer table))
+verdict_on table = count_numbers (number_reply (rules_answer table))
 
 -- a count, where six numbers are lent
 abbrev pub ruled_count : List ℕ → Axis → List ℤ
-ruled_count table a = count_numbers (count_reply (ruled_answer table a (length sevens)))
+ruled_count table a = count_numbers (number_reply (ruled_answer table a (length sevens)))
 
 -- a list in six lent numbers
 abbrev pub ruled_into : List ℕ → Axis → List ℤ

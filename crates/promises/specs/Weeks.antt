@@ -1,6 +1,7 @@
 -- Week dates: what is claimed of the two calls, and a second table of settled examples, said of the numbers that C gets. And
 -- what one may not expect of a week axis. Definitions only.
 use Rattle.std.specs.Prelude.{◌≡◌, Bool, true, cond, ◌&&◌, ◌||◌, List, [], ◌∷◌, ◌++◌, ℕ, ◌≤◌, eqb, leb, ℤ, pos, ◌+ℤ◌, ◌-ℤ◌}
+use Rattle.std.specs.Prelude.{Some, Ok}
 use Rattle.laws.specs.Numbers.{pos_part}
 use Rattle.calendar.specs.Gregorian.{leap, day_number}
 use Rattle.calendar.specs.Questions.{is_day, number_of}
@@ -9,13 +10,11 @@ use Rattle.weeks.specs.Weeks.{weekday}
 use Rattle.weeks.specs.Questions.{week_day_number, week_date_at}
 use Rattle.values.specs.declared.Value.{Value}
 use Rattle.axis.specs.declared.Axis.{Axis}
-use Rattle.axis.specs.declared.ValueAnswer.TheVariants as value
 use Rattle.counting.specs.Counting.{weekly}
-use Rattle.discrete.specs.declared.NumberAnswer.TheVariants as number
 use Rattle.discrete.specs.Answers.{index_answer, from_index_answer}
 use Rattle.ordered.specs.declared.OrderedNumber.{OrderedNumber}
 use Rattle.ordered.specs.declared.OrderedWeekDate.{OrderedWeekDate}
-use Rattle.ordered.specs.Replies.{day_reply, week_reply}
+use Rattle.ordered.specs.Replies.{number_reply, week_reply}
 use Rattle.promises.specs.Examples.{count_numbers, ymd, Example}
 
 -- a year, a week and a weekday
@@ -24,7 +23,7 @@ ywd y w d = record { year = y; week = w; weekday = d }
 
 -- what `ordered_week_day_number` answers
 abbrev pub day_of_week_date : ℤ → ℤ → ℤ → OrderedNumber
-day_of_week_date y w d = day_reply (week_day_number (ywd y w d))
+day_of_week_date y w d = number_reply (week_day_number (ywd y w d))
 
 -- what `ordered_week_date_of` answers
 abbrev pub week_date_of_day : ℤ → OrderedWeekDate
@@ -78,13 +77,13 @@ WeeksOfYear = (y w : ℕ) → 1 ≤ y → y ≤ 9999 →
 abbrev pub IndexInverts : Type 0
 IndexInverts =
     (a : Axis) (v w : Value) (i : ℕ) → weekly a ≡ true
-    → index_answer a v ≡ number.Is i → from_index_answer a (pos i) ≡ value.At w → w ≡ v
+    → index_answer a v ≡ Ok (Some i) → from_index_answer a (pos i) ≡ Ok w → w ≡ v
 
 -- 'every index gives a Monday'
 abbrev pub AlwaysMondays : Type 0
 AlwaysMondays =
     (a : Axis) (w : Value) (i : ℕ) → weekly a ≡ true
-    → from_index_answer a (pos i) ≡ value.At w → weekday (pos_part w.head) ≡ 1
+    → from_index_answer a (pos i) ≡ Ok w → weekday (pos_part w.head) ≡ 1
 
 -- ---- settled examples
 abbrev pub week_numbers : OrderedWeekDate → List ℤ
@@ -94,7 +93,7 @@ week_numbers r = r.status ∷ (r.year ∷ (r.week ∷ (r.weekday ∷ [])))
 abbrev pub is_week : ℕ → ℕ → ℕ → ℕ → ℕ → ℕ → ℕ → Example
 is_week y m d n wy w wd =
     record {
-      answer = count_numbers (day_reply (number_of (ymd y m d)))
+      answer = count_numbers (number_reply (number_of (ymd y m d)))
           ++ week_numbers (week_date_of_day (pos n))
           ++ count_numbers (day_of_week_date (pos wy) (pos w) (pos wd));
       settled = pos 0 ∷ (pos n ∷ (pos 0 ∷ (pos wy ∷ (pos w ∷ (pos wd ∷ (pos 0 ∷ (pos n ∷ [])))))));

@@ -16,8 +16,8 @@ use Rattle.segmented.specs.Answers.{segment_index_answer, segment_from_answer}
 use Rattle.ordered.specs.declared.OrderedDate.{OrderedDate}
 use Rattle.ordered.specs.declared.OrderedStep.{OrderedStep}
 use Rattle.ordered.specs.declared.OrderedSegment.{OrderedSegment}
-use Rattle.ordered.specs.Replies.{day_reply, date_reply, pixel_reply, count_reply, period_reply, number_reply, value_reply}
-use Rattle.ordered.specs.Replies.{step_reply, segment_reply}
+use Rattle.ordered.specs.Replies.{number_reply, index_reply, period_reply, date_reply, pixel_reply}
+use Rattle.ordered.specs.Replies.{value_reply, value_if_reply, step_reply, segment_reply}
 use Rattle.promises.specs.Examples.{count_numbers, pixel_numbers, period_numbers, value_numbers, ymd, at_nano}
 use Rattle.promises.specs.Examples.{axis_from, bold_of, light_of, limits_of, centre_at, listed_into, sevens}
 use Rattle.promises.specs.ExcludedEnds.{before, segment_pixel}
@@ -40,7 +40,7 @@ segment_numbers r = r.status ∷ (r.segment ∷ (r.head ∷ (r.tail ∷ [])))
 
 -- a list of segments in six lent numbers
 abbrev pub segments_into : Axis → Hint → List ℤ
-segments_into a h = count_numbers (count_reply (segment_ticks_answer a h (length sevens))) ++ segment_ticks_written a h sevens
+segments_into a h = count_numbers (number_reply (segment_ticks_answer a h (length sevens))) ++ segment_ticks_written a h sevens
 
 -- ---- the rows
 pub record Row : Type 0 where
@@ -51,7 +51,7 @@ pub record Row : Type 0 where
 -- ordered_day_number, 2000-02-29: refused as if 2000 were no leap year; one day less
 abbrev pub ordered_day_number : Row
 ordered_day_number = record {
-  answer = count_numbers (day_reply (number_of (ymd 2000 2 29)));
+  answer = count_numbers (number_reply (number_of (ymd 2000 2 29)));
   wrong = pos 8 ∷ (pos 0 ∷ []);
   other =
       pos 0 ∷ (pos 730178 ∷ []);
@@ -118,7 +118,7 @@ abbrev pub ordered_count_bold : Row
 ordered_count_bold =
     record {
       answer =
-          count_numbers (count_reply (ticks_answer (axis_from (pos 1) (midnight (pos 1)) (midnight (pos 15))) (bold_of 1) 2));
+          count_numbers (number_reply (ticks_answer (axis_from (pos 1) (midnight (pos 1)) (midnight (pos 15))) (bold_of 1) 2));
       wrong = pos 0 ∷ (pos 2 ∷ []);
       other = pos 0 ∷ (pos 1 ∷ []);
     }
@@ -128,7 +128,7 @@ abbrev pub ordered_count_light : Row
 ordered_count_light =
     record {
       answer =
-          count_numbers (count_reply (ticks_answer (axis_from (pos 1) (midnight (pos 1)) (midnight (pos 15))) (light_of 0 1) 4));
+          count_numbers (number_reply (ticks_answer (axis_from (pos 1) (midnight (pos 1)) (midnight (pos 15))) (light_of 0 1) 4));
       wrong = pos 11 ∷ (pos 0 ∷ []);
       other = pos 0 ∷ (pos 3 ∷ []);
     }
@@ -167,7 +167,7 @@ ordered_size = record {
 abbrev pub ordered_index_of : Row
 ordered_index_of =
     record {
-      answer = count_numbers (number_reply (index_answer (axis_from (pos 2) (midnight (pos 366)) (midnight (pos 730)))
+      answer = count_numbers (index_reply (index_answer (axis_from (pos 2) (midnight (pos 366)) (midnight (pos 730)))
           (midnight (pos 365))));
       wrong = minus 1 ∷ (pos 0 ∷ []);
       other = pos 0 ∷ (pos 0 ∷ []);
@@ -187,7 +187,7 @@ ordered_from_index =
 abbrev pub ordered_next : Row
 ordered_next =
     record {
-      answer = value_numbers (value_reply (next_answer (axis_from (pos 2) (midnight (pos 1)) (midnight (pos 32)))
+      answer = value_numbers (value_if_reply (next_answer (axis_from (pos 2) (midnight (pos 1)) (midnight (pos 32)))
           (midnight (pos 2))));
       wrong = pos 0 ∷ (pos 33 ∷ (pos 0 ∷ []));
       other = minus 1 ∷ (pos 0 ∷ (pos 0 ∷ []));
@@ -197,7 +197,7 @@ ordered_next =
 abbrev pub ordered_previous : Row
 ordered_previous =
     record {
-      answer = value_numbers (value_reply (previous_answer (axis_from (pos 2) (midnight (pos 1)) (midnight (pos 32)))
+      answer = value_numbers (value_if_reply (previous_answer (axis_from (pos 2) (midnight (pos 1)) (midnight (pos 32)))
           (midnight (pos 32))));
       wrong = pos 0 ∷ (pos 31 ∷ (pos 0 ∷ []));
       other = minus 1 ∷ (pos 0 ∷ (pos 0 ∷ []));
@@ -255,7 +255,7 @@ abbrev pub ordered_segment_index_of : Row
 ordered_segment_index_of =
     record {
       answer =
-          count_numbers (number_reply (segment_index_answer (axis_from (pos 1) (midnight (pos 5)) (midnight (pos 6))) (record {
+          count_numbers (index_reply (segment_index_answer (axis_from (pos 1) (midnight (pos 5)) (midnight (pos 6))) (record {
             case = pos 3;
             head =
                 pos 0;
@@ -293,7 +293,7 @@ ticks_of_weeks =
 abbrev pub index_of_weeks : Row
 index_of_weeks =
     record {
-      answer = count_numbers (number_reply (index_answer (weeks_from 10 20) (midnight (pos 7))));
+      answer = count_numbers (index_reply (index_answer (weeks_from 10 20) (midnight (pos 7))));
       wrong = pos 0 ∷ (pos 0 ∷ []);
       other = pos 8 ∷ (pos 0 ∷ []);
     }

@@ -7,7 +7,7 @@ use Rattle.laws.proofs.Signed.{count_fits}
 use Rattle.axis.specs.declared.Hint.TheVariants.{Bold}
 use Rattle.axis.specs.Axes.{axis_of}
 use Rattle.ticks.specs.Answers.{ticks_answer, ticks_written, period_answer}
-use Rattle.ordered.specs.Replies.{count_reply, period_reply}
+use Rattle.ordered.specs.Replies.{number_reply, period_reply}
 use Rattle.axis.proofs.Axes.{axis_read}
 use Rattle.ordered.proofs.Axes.{bold_read, both_read}
 use Rattle.promises.proofs.OneList.{lists_as}
@@ -25,8 +25,8 @@ returns c = let x = c.args in
     (c.ordered_period_per_point.ensures
     ∙ (λ i. period_reply (period_answer (axis_read (count_fits 4 (omega arith)) f.start_head f.start_tail f.end_head
     f.end_tail f.end_excluded i) (record { n = to_z-of_z f.n i }))))
-    (both_read (λ y h. count_reply (ticks_answer y h (length d))) (λ y h. ticks_written y h d)
+    (both_read (λ y h. number_reply (ticks_answer y h (length d))) (λ y h. ticks_written y h d)
     axis (bold_read f.n) (c.ordered_ticks_bold.ensures.value, c.ordered_ticks_bold.ensures.after_call))
-    (both_read (λ y h. count_reply (ticks_answer y h (length e))) (λ y h. ticks_written y h e)
+    (both_read (λ y h. number_reply (ticks_answer y h (length e))) (λ y h. ticks_written y h e)
     (axis_read (count_fits 1 (omega arith)) f.from zero f.to zero zero) (bold_read f.n)
     (c.ordered_ticks_bold-2.ensures.value, c.ordered_ticks_bold-2.ensures.after_call))

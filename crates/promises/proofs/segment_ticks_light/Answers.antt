@@ -3,7 +3,7 @@ use lib.ListN.{length}
 use Rattle.axis.specs.declared.Hint.TheVariants.{Light}
 use Rattle.axis.specs.Axes.{axis_of}
 use Rattle.segmented.specs.Answers.{segment_ticks_answer, segment_ticks_written}
-use Rattle.ordered.specs.Replies.{count_reply}
+use Rattle.ordered.specs.Replies.{number_reply}
 use Rattle.axis.proofs.Axes.{axis_read}
 use Rattle.ordered.proofs.Axes.{light_read, both_read}
 use Rattle.promises.proofs.Demand.{segments_fine, list_as}
@@ -16,7 +16,7 @@ returns c = let x = c.args in
     let d = x.lent.now in
     let h = Light (record { bold = x.bold; n = x.n }) in
     list_as a h
-    (both_read (λ y h. count_reply (segment_ticks_answer y h (length d))) (λ y h. segment_ticks_written y h d)
+    (both_read (λ y h. number_reply (segment_ticks_answer y h (length d))) (λ y h. segment_ticks_written y h d)
     (axis_read f.kind f.start_head f.start_tail f.end_head f.end_tail f.end_excluded)
     (light_read f.bold f.n)
     (c.ordered_segment_ticks_light.ensures.value, c.ordered_segment_ticks_light.ensures.after_call)) (segments_fine a h d)

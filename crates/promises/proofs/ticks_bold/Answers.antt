@@ -3,7 +3,7 @@ use lib.ListN.{length}
 use Rattle.axis.specs.declared.Hint.TheVariants.{Bold}
 use Rattle.axis.specs.Axes.{axis_of}
 use Rattle.ticks.specs.Answers.{ticks_answer, ticks_written}
-use Rattle.ordered.specs.Replies.{count_reply}
+use Rattle.ordered.specs.Replies.{number_reply}
 use Rattle.axis.proofs.Axes.{axis_read}
 use Rattle.ordered.proofs.Axes.{bold_read, both_read}
 use Rattle.promises.proofs.Demand.{ticks_fine, list_as}
@@ -16,6 +16,6 @@ returns c = let x = c.args in
     let d = x.lent.now in
     let h = Bold (record { n = x.n }) in
     list_as a h
-    (both_read (λ y h. count_reply (ticks_answer y h (length d))) (λ y h. ticks_written y h d)
+    (both_read (λ y h. number_reply (ticks_answer y h (length d))) (λ y h. ticks_written y h d)
     (axis_read f.kind f.start_head f.start_tail f.end_head f.end_tail f.end_excluded) (bold_read f.n)
     (c.ordered_ticks_bold.ensures.value, c.ordered_ticks_bold.ensures.after_call)) (ticks_fine a h d)
