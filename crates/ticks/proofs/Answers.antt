@@ -94,3 +94,10 @@ module _ (a : Axis) (h : Hint) (d : List ℤ) where
       by_row (tick_questions a h) answer
       (λ (b : Bool) (r : Result ℕ Refusal). length (cond b (lent_after (ticks_of a h) d) d) ≡ length d)
       (length_after (ticks_of a h) d) (λ _. refl)
+
+-- what a count, a list and the part that is handed back rest on
+pub ruleset counting = (made_answer, refused_answer)
+
+pub ruleset listing = (made_sound, made_answer, made_written, refused_answer, refused_written)
+
+pub ruleset handing = (in_lent, handed_is)

@@ -36,7 +36,7 @@ use Rattle.plans.specs.Plans.{Accepted}
 use Rattle.plans.proofs.Cases.{choose}
 use Rattle.keypoints.specs.Hints.{limit, finer}
 use Rattle.ticks.specs.Answers.{tick_questions, period_questions}
-use Rattle.ticks.specs.Plans.{refined, axis_for}
+use Rattle.ticks.specs.Plans.{refined, axis_for, points}
 
 -- ---- the kinds that have a finer one, which is over the same values
 record Coarse (k : ℤ) : Type 0 where
@@ -153,6 +153,10 @@ row_accepted a has hint n e f =
       some = r.some;
     }
 
+pub limit_is : (h : Hint) → pos_part (points h) ≡ limit h
+limit_is (Bold h) = refl
+limit_is (Light h) = refl
+
 module _ (a : Axis) where
   pub accepted : (h : Hint) → passes (tick_questions a h) ≡ true → Accepted a (limit h)
   accepted (Bold h) e = row_accepted a true (hint_on a (Bold h)) h.n e (bold_range a h)
@@ -177,6 +181,11 @@ module _ (a : Axis) where
   pub light_counts : (h : LightPoints) → passes (tick_questions a (Light h)) ≡ true →
       (neg_part h.n ≡ 0) × (neg_part h.bold ≡ 0) × (pos_part h.bold ≤ 4096)
   light_counts h e = let (r, z, m) = light_range a h (told 6 (tick_questions a (Light h)) e) in (r.none_below, z, m)
+
+  -- N, which is the limit
+  pub count_of_points : (h : Hint) → passes (tick_questions a h) ≡ true → neg_part (points h) ≡ 0
+  count_of_points (Bold h) e = bold_count h e
+  count_of_points (Light h) e = (light_counts h e).0
 
   -- the axis that lists
   pub listing_accepted : (h : Hint) → passes (tick_questions a h) ≡ true → Accepted (axis_for a h) (limit h)
@@ -214,3 +223,8 @@ module _ (a : Axis) where
       let row = period_questions a h in
       let q = row_accepted a (has_period a) (hint_on a (Bold h)) h.n e (bold_range a h) in
       (q, q.some (many (told 2 row e)), (bold_range a h (told 6 row e)).none_below)
+
+-- what going to a finer axis rests on
+pub ruleset coarse_kinds = (no_duration, kind_fits)
+
+pub ruleset light_hints = (accepted, light_counts, refined_accepted)

@@ -8,31 +8,26 @@ ghost use Rattle.axis.specs.Axes.{closed};
 ghost use Rattle.axis.specs.Questions.{ends};
 ghost use Rattle.ticks.specs.Answers.{tick_questions, ticks_answer, ticks_written, ticks_handed};
 ghost use Rattle.ticks.specs.Answers.{period_questions, period_answer};
-ghost use Rattle.ticks.specs.Plans.{refined, axis_for, plan_for};
+ghost use Rattle.ticks.specs.Plans.{refined, axis_for, points, plan_for};
 
 use asking::{Refusal, ask};
 use axis::{Axis, BoldPoints, Hint};
 use steps::Steps;
 
 // The finer axis, if the size is at most twice the bold count.
+#[tactic(auto, using(crate::proofs::Hints::coarse_kinds), unfolding(crate::specs::Plans::refined))]
 fn refined(bold: u64, a: Axis) -> Axis
     requires { (bold ≤ 4096) × (ends a ≡ true) }
     ensures { result ≡ refined bold a }
 {
-    if !(counting::monthly(a) | counting::yearly(a)) {
-        return a;
+    if (counting::monthly(a) || counting::yearly(a)) && counting::size_of(a) <= 2 * bold {
+        Axis {
+            kind: a.kind - 1,
+            ..a
+        }
+    } else {
+        a
     }
-    if 2 * bold < counting::size_of(a) {
-        return a;
-    }
-    axis::axis_of(
-        a.kind - 1,
-        a.start_head,
-        a.start_tail,
-        a.end_head,
-        a.end_tail,
-        a.end_excluded,
-    )
 }
 
 // The questions before the list's length is known.
@@ -44,6 +39,7 @@ pub fn ask_ticks(a: Axis, h: Hint) -> Result<(), Refusal>
 }
 
 // The axis that lists: with a light hint years may go to months, and these to dates or date-times.
+#[tactic(auto, using(crate::proofs::Hints::light_hints))]
 fn axis_for(a: Axis, h: Hint) -> Axis
     requires { passes (tick_questions a h) ≡ true }
     ensures { result ≡ axis_for a h }
@@ -58,16 +54,22 @@ fn axis_for(a: Axis, h: Hint) -> Axis
     }
 }
 
+// N of a hint.
+fn points(h: Hint) -> i64
+    ensures { result ≡ points h }
+{
+    match h {
+        Hint::Bold(b) => b.n,
+        Hint::Light(l) => l.n,
+    }
+}
+
 // The plan of that axis, by N.
 fn plan_for(a: Axis, h: Hint) -> Steps
     requires { passes (tick_questions a h) ≡ true }
     ensures { result ≡ plan_for a h }
 {
-    let f = axis_for(a, h);
-    match h {
-        Hint::Bold(b) => plans::plan_of(f, calendar::as_count(b.n)),
-        Hint::Light(l) => plans::plan_of(f, calendar::as_count(l.n)),
-    }
+    plans::plan_of(axis_for(a, h), calendar::as_count(points(h)))
 }
 
 // Asks the questions before the list's length is known, and makes the plan of the axis by which the axis lists.
@@ -79,30 +81,30 @@ pub fn plan(a: Axis, h: Hint) -> Result<Steps, Refusal>
 }
 
 // How many ticks a hint gets, where lent_len numbers are lent.
+#[tactic(auto, using(crate::proofs::Answers::counting))]
 pub fn count(a: Axis, h: Hint, lent_len: u64) -> Result<u64, Refusal>
     ensures { result ≡ ticks_answer a h lent_len }
 {
-    let steps = plan(a, h)?;
-    steps::count(steps, lent_len)
+    steps::count(plan(a, h)?, lent_len)
 }
 
 // How many ticks a hint gets, and the list at the front of the lent numbers.
+#[tactic(auto, using(crate::proofs::Answers::listing))]
 pub fn list(a: Axis, h: Hint, lent: &mut [i64]) -> Result<u64, Refusal>
     ensures value { result ≡ ticks_answer a h (length lent.old) }
     ensures after_call { lent.new ≡ ticks_written a h lent.old }
 {
-    let steps = plan(a, h)?;
-    steps::list(steps, lent)
+    steps::list(plan(a, h)?, lent)
 }
 
 // The part of the lent numbers that holds the list; empty when refused.
+#[tactic(auto, using(crate::proofs::Answers::handing))]
 pub fn key_points(a: Axis, h: Hint, lent: &mut [i64]) -> &mut [i64]
     ensures value { result.now ≡ ticks_handed a h (length lent.old) }
     ensures place { result.ref_ptr ≡ lent.entry.ref_ptr }
 {
     let n = list(a, h, lent).unwrap_or(0);
-    let k = (2 * n) as usize;
-    &mut lent[..k]
+    &mut lent[..2 * n as usize]
 }
 
 fn ask_period(a: Axis, h: BoldPoints) -> Result<(), Refusal>

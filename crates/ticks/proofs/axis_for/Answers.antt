@@ -8,7 +8,6 @@ use mir.Facts.{to_z-of_z}
 use Rattle.asking.specs.Asking.{passes}
 use Rattle.laws.specs.Numbers.{pos_part}
 use Rattle.axis.specs.declared.Hint.TheVariants.{Light}
-use Rattle.counting.proofs.Counting.{no_less}
 use Rattle.ticks.specs.Plans.{refined}
 use Rattle.ticks.specs.Answers.{tick_questions}
 use Rattle.ticks.proofs.Hints.{accepted, light_counts, refined_accepted}
@@ -27,19 +26,6 @@ count c = c.as_count-bold.ensures ∙ ap pos_part (to_z-of_z (count_fits (goal.a
 
 once : (c : After-refined-once) → c.refined-once.result ≡ refined (pos_part c.in-Light.l.bold) c.args.a
 once c = c.refined-once.ensures ∙ rw (count (goal.at.After-refined-once c).After-as_count-bold)
-
-pub as_count-bold-requires : goal.as_count-bold-requires
-as_count-bold-requires c = let h = c.in-Light.l in
-    rw (to_z-of_z (count_fits (goal.at.as_count-bold-requires c).In-Light))
-    (no_less h.bold (light_counts c.args.a h (light (goal.at.as_count-bold-requires c).In-Light)).1)
-
-pub refined-once-requires : goal.refined-once-requires
-refined-once-requires c = let a = c.args.a in
-    let h = c.in-Light.l in (
-      rw (count (goal.at.refined-once-requires c).After-as_count-bold)
-          (light_counts a h (light (goal.at.refined-once-requires c).In-Light)).2,
-      (accepted a (Light h) (light (goal.at.refined-once-requires c).In-Light)).real,
-    )
 
 pub refined-requires : goal.refined-requires
 refined-requires c = let a = c.args.a in
