@@ -186,6 +186,7 @@ fn month_plan(a: Axis, n: u64) -> Steps
     months_by(m, month_step(m.last.saturating_sub(m.first), n))
 }
 
+// The same by years alone. One function of both would take a flag, which is no plainer.
 #[tactic(auto, using(crate::proofs::Months::steps_wide), unfolding(crate::specs::Months::year_plan))]
 fn year_plan(a: Axis, n: u64) -> Steps
     requires { Dated a }
