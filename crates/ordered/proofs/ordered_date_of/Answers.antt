@@ -1,37 +1,36 @@
 -- `ordered::ordered_date_of` meets its contract: each number, read back from its bits, is itself. Assumes nothing.
 use mathlib.Core.Path.{◌≡◌, ◌∙◌, sym, ap}
 use native.Mathlib.Omega.{arith}
-use lib.IntN.{pos}
+use lib.IntN.{ℤ, pos}
 use mir.Facts.{to_z-of_z}
+use Rattle.std.specs.Prelude.{Result, Ok}
 use Rattle.laws.proofs.Signed.{count_fits, read_count}
+use Rattle.asking.specs.declared.Refusal.{Refusal}
+use Rattle.calendar.specs.declared.Date.{Date}
 use Rattle.calendar.specs.Questions.{date_at}
 use Rattle.calendar.proofs.Questions.{InRange, date_range}
 use Rattle.ordered.specs.Replies.{date_reply}
 use Rattle.ordered.proofs.ordered_date_of.Goals as goal
-use Rattle.ordered.proofs.ordered_date_of.Goals.{After-date_at, After-struct_known-1}
-
-said : (c : After-date_at) → c.date_at.result ≡ date_at c.args.day_number
-said c = rw (to_z-of_z c.ranges.day_number) at c.date_at.ensures
 
 -- the answer's numbers are a date's
-ranges : (c : After-struct_known-1) → InRange c.in-Ok.t
-ranges c = date_range _ c.in-Ok.t (sym (said (goal.at.After-struct_known-1 c).After-date_at) ∙ c.in-Ok.is)
+ranges : (n : ℤ) (t : Date) {r : Result Date Refusal} → r ≡ date_at n → r ≡ Ok t → InRange t
+ranges n t said is = date_range n t (sym said ∙ is)
 
 pub overflow_cast-result : goal.overflow_cast-result
-overflow_cast-result c = count_fits _ (omega (arith, ranges (goal.at.overflow_cast-result c).After-struct_known-1))
+overflow_cast-result c = count_fits _ (omega (arith, ranges _ _ c.date_at.ensures c.in-Ok.is))
 
 pub overflow_cast-result-in-Ok : goal.overflow_cast-result-in-Ok
-overflow_cast-result-in-Ok c =
-    count_fits _ (omega (arith, ranges (goal.at.overflow_cast-result-in-Ok c).After-struct_known-1))
+overflow_cast-result-in-Ok c = count_fits _ (omega (arith, ranges _ _ c.date_at.ensures c.in-Ok.is))
 
 pub overflow_cast-result-in-Ok-2 : goal.overflow_cast-result-in-Ok-2
-overflow_cast-result-in-Ok-2 c =
-    count_fits _ (omega (arith, ranges (goal.at.overflow_cast-result-in-Ok-2 c).After-struct_known-1))
+overflow_cast-result-in-Ok-2 c = count_fits _ (omega (arith, ranges _ _ c.date_at.ensures c.in-Ok.is))
 
 pub returns-in-Ok : goal.returns-in-Ok
-returns-in-Ok c = let t = c.in-Ok.t in
-    let y = read_count t.year (omega (arith, ranges (goal.at.returns-in-Ok c).After-struct_known-1)) in
-    let m = read_count t.month (omega (arith, ranges (goal.at.returns-in-Ok c).After-struct_known-1)) in
-    let d = read_count t.day (omega (arith, ranges (goal.at.returns-in-Ok c).After-struct_known-1)) in
-    (λ i. record { status = pos 0; year = y i; month = m i; day = d i })
-    ∙ ap date_reply (sym c.in-Ok.is ∙ said (goal.at.returns-in-Ok c).After-date_at)
+returns-in-Ok c =
+    let t = c.in-Ok.t in
+    let r = ranges _ _ c.date_at.ensures c.in-Ok.is in
+    let year = read_count t.year (omega arith) in
+    let month = read_count t.month (omega arith) in
+    let day = read_count t.day (omega arith) in
+    (λ i. record { status = pos 0; year = year i; month = month i; day = day i })
+    ∙ ap date_reply (sym c.in-Ok.is ∙ c.date_at.ensures ∙ ap date_at (to_z-of_z c.ranges.day_number))
