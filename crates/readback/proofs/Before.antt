@@ -21,24 +21,21 @@ use Rattle.values.proofs.Numbers.{not_below, not_above}
 use Rattle.values.proofs.Values.{dates_no_times, dates_no_duration, duration_no_times, by_form, duration_value}
 use Rattle.axis.specs.declared.Hint.TheVariants.{Bold}
 use Rattle.steps.specs.Promise.{nth}
-use Rattle.steps.specs.declared.Listed.{Listed}
-use Rattle.steps.specs.declared.Listed.TheVariants as listed
+use Rattle.std.specs.Prelude.{Option, Some, None, Result, Ok, Err}
+use Rattle.std.specs.Option.{option_and_then}
+use Rattle.asking.specs.declared.Refusal.{Refusal}
 use Rattle.ticks.specs.Answers.{ticks_answer}
 use Rattle.text_read.specs.Bytes.{space_byte, minus_byte, point_byte, t_byte}
 use Rattle.text_read.specs.Fields.{until_of, field_of, digits_of, fraction_of, read_stamp, plus_of, minus_of, read_number}
 use Rattle.text_read.specs.Fields.{span_read, seconds_of, read_span}
-use Rattle.text_read.specs.declared.Whole.{Whole}
-use Rattle.text_read.specs.declared.Whole.TheVariants as whole
-use Rattle.text_read.specs.declared.StampField.TheVariants as stamp
+use Rattle.text_read.specs.Lines.{in_form, occurrences, fields_from}
 use Rattle.text_read.proofs.Fields.{until_le, same_both, fraction_none, fraction_other, stamp_unread}
 use Rattle.text_line.specs.declared.Request.{Request}
-use Rattle.text_line.specs.declared.Line.{Line}
-use Rattle.text_line.specs.declared.Line.TheVariants as line
-use Rattle.text_line.specs.Line.{occurrences, kind_of, fields_from, span_value, of_span, read_value, read_line}
+use Rattle.text_line.specs.Line.{kind_of, fields_of, span_value, of_span, read_value, read_line}
 use Rattle.text_write.specs.Texts.{signed_text, span_text}
 use Rattle.text_write.specs.Rows.{tick_text}
 use Rattle.text_rows.specs.Answers.{list_of, shows_fractions, ticks_text, listed_text, request_text, line_text, rows_of}
-use Rattle.readback.specs.Before.{stamp_before, of_seconds, value_before, line_before, tick_before, ticks_before}
+use Rattle.readback.specs.Before.{stamp_before, of_seconds, value_before, fields_before, line_before, tick_before, ticks_before}
 use Rattle.readback.specs.Before.{listed_before, answer_before, rows_before}
 use Rattle.readback.specs.Claims.{Shown, list_in, AsBefore}
 use Rattle.readback.proofs.Lists.{kind_is, shown}
@@ -73,7 +70,7 @@ unfolding until_of
 until_end [] e = refl
 until_end (b ∷ s) e = rw (ne_eqb b point_byte (other b s e)) (ap suc (until_end s (rest_none b s e)))
 
-no_fraction : (s : List ℕ) → NoPoint s → 0 < length s → fraction_of s ≡ whole.Unread
+no_fraction : (s : List ℕ) → NoPoint s → 0 < length s → fraction_of s ≡ None
 no_fraction [] e h = absurd (let z : ⊥ = omega arith in z)
 no_fraction (b ∷ s) e h = fraction_other (b ∷ s) (λ z. omega arith) (other b s e)
 
@@ -105,12 +102,12 @@ module _ (s : List ℕ) (e : NoPoint s) where
                     ne_eqb u 19 (λ z. omega arith),
                     no_fraction (drop 19 (field_of s)) (drop_none 19 (field_of s) (field_none s e)) some,
                     stamp_unread,
-                  ) (same_both (eqb (get_or s 10 0) t_byte) stamp.Unread)
+                  ) (same_both (eqb (get_or s 10 0) t_byte) None)
             ]
         | no l ↦ rw (lt-ltb u 19 (omega arith), ne_eqb u 19 (λ z. omega arith))
       ]
 
-  seconds_are : (below : Bool) (f : List ℕ) → NoPoint f → seconds_of below f ≡ span_read below (digits_of f) (whole.Value 0)
+  seconds_are : (below : Bool) (f : List ℕ) → NoPoint f → seconds_of below f ≡ span_read below (digits_of f) (Some 0)
   unfolding seconds_of
   seconds_are below f g =
       let m = until_end f g in
@@ -120,13 +117,13 @@ module _ (s : List ℕ) (e : NoPoint s) where
   unfolding read_span read_number span_value
   spans = go (eqb (get_or s 0 0) minus_byte)
     where
-      below : (w : Whole) → of_span (span_read true w (whole.Value 0)) ≡ of_seconds (minus_of w)
-      below (whole.Value n) = rw (from_zero n)
-      below whole.Unread = refl
+      below : (w : Option ℕ) → of_span (span_read true w (Some 0)) ≡ of_seconds (minus_of w)
+      below (Some n) = rw (from_zero n)
+      below None = refl
 
-      above : (w : Whole) → of_span (span_read false w (whole.Value 0)) ≡ of_seconds (plus_of w)
-      above (whole.Value n) = refl
-      above whole.Unread = refl
+      above : (w : Option ℕ) → of_span (span_read false w (Some 0)) ≡ of_seconds (plus_of w)
+      above (Some n) = refl
+      above None = refl
 
       f : List ℕ
       f = field_of s
@@ -142,10 +139,17 @@ module _ (s : List ℕ) (e : NoPoint s) where
 
 pub lines : (s : List ℕ) → NoPoint s → read_line s ≡ line_before s
 unfolding read_line line_before
-lines s e =
-    let one = drop_none (until_of space_byte s + 1) s e in
-    let two = drop_none (until_of space_byte (fields_from 1 s) + 1) (fields_from 1 s) one in
-    rw (values (fields_from 1 s) one (kind_of (field_of s)), values (fields_from 2 s) two (kind_of (field_of s)))
+lines s e = ap (λ (r : Option Request). cond (in_form 5 s) r None) (by_kind (kind_of (field_of s)))
+  where
+    one : NoPoint (fields_from 1 s)
+    one = drop_none (until_of space_byte s + 1) s e
+
+    two : NoPoint (fields_from 2 s)
+    two = drop_none (until_of space_byte (fields_from 1 s) + 1) (fields_from 1 s) one
+
+    by_kind : (k : Option ℕ) → option_and_then (λ k. fields_of k s) k ≡ option_and_then (λ k. fields_before k s) k
+    by_kind None = refl
+    by_kind (Some k) = rw (values (fields_from 1 s) one k, values (fields_from 2 s) two k)
 
 -- ---- writing
 module _ (kind : ℕ) (v : Value) (x : Shown false kind v) where
@@ -192,18 +196,18 @@ module _ (number : ℕ) (q : Request) (z : shows_fractions (list_of q) ≡ false
   rows zero l = refl
   rows (suc k) l = rw (rows k (omega arith), text k (omega arith))
 
-  requests : request_text number q ≡ answer_before number (line.Read q)
+  requests : request_text number q ≡ answer_before number (Some q)
   unfolding request_text
   requests = go (ticks_answer q.axis (Bold q.hint) 8194)
     where
-      go : (a : Listed) → listed_text number q a ≡ listed_before number q a
-      go (listed.Refused n) = refl
-      go (listed.Ticks c) = rows (length (list_of q) / 2) (omega arith)
+      go : (a : Result ℕ Refusal) → listed_text number q a ≡ listed_before number q a
+      go (Err r) = refl
+      go (Ok c) = rows (length (list_of q) / 2) (omega arith)
 
 pub as_before : AsBefore
 unfolding rows_of rows_before
 as_before number s e z = rw (← lines s e) (go (read_line s) z)
   where
-    go : (l : Line) → shows_fractions (list_in l) ≡ false → line_text number l ≡ answer_before number l
-    go (line.Read q) z = requests number q z
-    go line.Unread z = refl
+    go : (l : Option Request) → shows_fractions (list_in l) ≡ false → line_text number l ≡ answer_before number l
+    go (Some q) z = requests number q z
+    go None z = refl

@@ -10,7 +10,7 @@ use native.Mathlib.Nat.{pow-suc}
 use lib.ListN.{length, length-append}
 use borrow.Author.Tests.{ne_eqb, le-leb, lt-ltb, le-ltb}
 use Rattle.text_read.specs.Fields.{until_of, is_digit, digits_from, digits_of}
-use Rattle.text_read.specs.declared.Whole.TheVariants as whole
+use Rattle.std.specs.Prelude.{Some}
 use Rattle.text_read.proofs.Fields.{digits_start}
 use Rattle.text_write.specs.Texts.{digit, fixed_text, up_to_text, decimal_text}
 
@@ -106,16 +106,16 @@ module _ {c : ℕ} (l : c < 48) where
 
 -- ---- as the readers take them
 all_read : (a : List ℕ) (n : ℕ) → 1 ≤ length a → length a ≤ 12 → digits_from 0 (a ++ []) ≡ digits_from n [] →
-    digits_of a ≡ whole.Value n
+    digits_of a ≡ Some n
 unfolding digits_from
 all_read a n l m e = digits_start a l m ∙ ap (digits_from 0) (sym (append-nil a)) ∙ e
 
-pub fixed_read : (w n : ℕ) → 1 ≤ w → w ≤ 12 → n < 10 ^ w → digits_of (fixed_text w n) ≡ whole.Value n
+pub fixed_read : (w n : ℕ) → 1 ≤ w → w ≤ 12 → n < 10 ^ w → digits_of (fixed_text w n) ≡ Some n
 fixed_read w n l m h =
     let e = fixed_length w n in
     all_read (fixed_text w n) n (omega arith) (omega arith) (fixed_value w n [] h)
 
 -- a number of at most 12 digits, written with as many as it takes
-pub decimal_read : (n : ℕ) → n < 10 ^ 12 → digits_of (decimal_text n) ≡ whole.Value n
+pub decimal_read : (n : ℕ) → n < 10 ^ 12 → digits_of (decimal_text n) ≡ Some n
 decimal_read n h =
     all_read (up_to_text 20 n) n (decimal_some n) (up_to_most 20 n 11 (omega arith)) (up_to_value 19 n [] (omega arith))

@@ -10,7 +10,6 @@ use lib.Seq.{take_at, drop_at}
 use borrow.Author.Tests.{lt-ltb, le-ltb, le-leb, eq-eqb, ne_eqb}
 use Rattle.laws.specs.Units.{per_second}
 use Rattle.calendar.specs.declared.Date.{Date}
-use Rattle.calendar.specs.declared.DayAnswer.TheVariants as day
 use Rattle.calendar.specs.Gregorian.{month_length, day_number, Real, date_of}
 use Rattle.calendar.specs.Questions.{is_date, number_of, last_day}
 use Rattle.calendar.proofs.Dates.{date_number, year_most}
@@ -18,12 +17,9 @@ use Rattle.calendar.proofs.Formulas.{month_length_le}
 use Rattle.text_read.specs.Bytes.{space_byte, minus_byte, point_byte, colon_byte, t_byte}
 use Rattle.text_read.specs.Fields.{until_of, field_of, digits_of, nanos_of, fraction_of, three_of, triple_of}
 use Rattle.text_read.specs.Fields.{read_date, read_stamp, seconds_of, read_span}
-use Rattle.text_read.specs.declared.Whole.TheVariants as whole
+use Rattle.std.specs.Prelude.{Some, Ok}
 use Rattle.text_read.specs.declared.Day.{Day}
-use Rattle.text_read.specs.declared.DateField.TheVariants as date
 use Rattle.text_read.specs.declared.Moment.{Moment}
-use Rattle.text_read.specs.declared.StampField.TheVariants as stamp
-use Rattle.text_read.specs.declared.SpanField.TheVariants as span
 use Rattle.text_line.specs.Line.{on_day, is_time}
 use Rattle.text_write.specs.Texts.{fixed_text, decimal_text, ymd_text, date_text, fraction_text, date_time_text}
 use Rattle.readback.proofs.Digits.{Free, free_none, free_one, free_then, free_fixed, free_decimal, fixed_read}
@@ -41,7 +37,7 @@ free_fraction true q l h = free_then (free_one h) (free_fixed l 9 q)
 free_fraction false q l h = free_none
 
 pub fraction_read : (shown : Bool) (q : ℕ) → q < per_second → (shown ≡ false → q ≡ 0) →
-    fraction_of (fraction_text shown q) ≡ whole.Value q
+    fraction_of (fraction_text shown q) ≡ Some q
 unfolding fraction_of nanos_of fixed_text
 fraction_read true q l h =
     let n : q * 1 ≡ q = omega arith in
@@ -83,7 +79,7 @@ module _ (d : Date) (t : List ℕ) where
   unfolding triple_of fixed_text
   ymd_parts = refl
 
-  pub ymd_read : Short d → until_of space_byte t ≡ 0 → read_date (ymd_text d ++ t) ≡ date.Read (typed d)
+  pub ymd_read : Short d → until_of space_byte t ≡ 0 → read_date (ymd_text d ++ t) ≡ Some (typed d)
   unfolding read_date
   ymd_read s e =
       let u : until_of space_byte (ymd_text d ++ t) ≡ 10 =
@@ -110,7 +106,7 @@ is_date_law y m d r h =
     )
 
 number_is : (y m d : ℕ) → Real y m d → y ≤ 9999 →
-    number_of (record { year = pos y; month = pos m; day = pos d }) ≡ day.Answered (day_number y m d)
+    number_of (record { year = pos y; month = pos m; day = pos d }) ≡ Ok (day_number y m d)
 unfolding number_of
 number_is y m d r h = rw (is_date_law y m d r h)
 
@@ -181,7 +177,7 @@ module _ (shown : Bool) (n nano : ℕ) where
 
   pub stamp_read : (t : List ℕ) → Short (date_of n) → nano < 86400 * per_second → (shown ≡ false → nano % per_second ≡ 0) →
       until_of space_byte t ≡ 0 →
-      read_stamp (date_time_text shown n nano ++ t) ≡ stamp.Read (moment_of n (nano / per_second) (nano % per_second))
+      read_stamp (date_time_text shown n nano ++ t) ≡ Some (moment_of n (nano / per_second) (nano % per_second))
   unfolding read_stamp
   stamp_read t h l w e =
       let d = date_of n in
@@ -215,7 +211,7 @@ module _ (shown : Bool) (n q : ℕ) (l : n < 10 ^ 12) (m : q < per_second) (w : 
   abbrev size : List ℕ
   size = decimal_text n ++ fraction_text shown q
 
-  seconds_read : (below : Bool) → seconds_of below size ≡ span.Read (record { below = below; seconds = n; nano = q })
+  seconds_read : (below : Bool) → seconds_of below size ≡ Some (record { below = below; seconds = n; nano = q })
   unfolding seconds_of
   seconds_read below =
       let a = decimal_text n in
@@ -232,7 +228,7 @@ module _ (shown : Bool) (n q : ℕ) (l : n < 10 ^ 12) (m : q < per_second) (w : 
   free_size k h = free_then (free_decimal k n) (free_fraction shown q k h)
 
   module _ (t : List ℕ) (e : until_of space_byte t ≡ 0) where
-    pub above_read : read_span (size ++ t) ≡ span.Read (record { below = false; seconds = n; nano = q })
+    pub above_read : read_span (size ++ t) ≡ Some (record { below = false; seconds = n; nano = q })
     unfolding read_span
     above_read =
         let f = free_size {c = minus_byte} (omega arith) (λ z. omega arith) in
@@ -242,7 +238,7 @@ module _ (shown : Bool) (n q : ℕ) (l : n < 10 ^ 12) (m : q < per_second) (w : 
           field_is size t (free_size (omega arith) (λ z. omega arith)) e,
         ) (seconds_read false)
 
-    pub below_read : read_span ((minus_byte ∷ size) ++ t) ≡ span.Read (record { below = true; seconds = n; nano = q })
+    pub below_read : read_span ((minus_byte ∷ size) ++ t) ≡ Some (record { below = true; seconds = n; nano = q })
     unfolding read_span
     below_read =
         let f : Free space_byte (minus_byte ∷ size) =

@@ -1,7 +1,7 @@
 -- What a list that plate asks for is: its ticks are values of the axis's kind, each later than the one before, and at whole
 -- seconds where the list shows no fractions. Assumes nothing.
 use mathlib.Core.Path.{◌≡◌, refl, sym, subst}
-use mathlib.Core.Bool.{true, false}
+use mathlib.Core.Bool.{Bool, true, false, cond}
 use mathlib.Core.List.{List, []}
 use Prim.Native.Nat.{ℕ, zero, suc, ◌+◌, ◌*◌, ◌/◌, ◌-◌, ◌<◌}
 use native.Mathlib.Decide.{dec_le}
@@ -9,7 +9,7 @@ use native.Mathlib.Omega.{arith}
 use lib.IntN.{ℤ, pos}
 use lib.Signed.{le_z}
 use lib.ListN.{length}
-use Rattle.laws.specs.Asking.{first_no, unless}
+use Rattle.asking.specs.Asking.{passes}
 use Rattle.laws.specs.Numbers.{pos_part, neg_part}
 use Rattle.laws.proofs.Signed.{le_true, pos_up}
 use Rattle.laws.proofs.Tests.{either_false, both_true}
@@ -49,16 +49,16 @@ module _ (q : Request) where
   list = list_of q
 
   -- one that has a tick was not refused
-  passed : (i : ℕ) → 2 * i < length list → first_no (tick_questions q.axis (Bold q.hint)) ≡ 0
+  passed : (i : ℕ) → 2 * i < length list → passes (tick_questions q.axis (Bold q.hint)) ≡ true
   unfolding ticks_handed
-  passed i l = go (first_no (tick_questions q.axis (Bold q.hint))) l
+  passed i l = go (passes (tick_questions q.axis (Bold q.hint))) l
     where
-      go : (n : ℕ) → 2 * i < length (unless n (λ _. []) (front (ticks_of q.axis (Bold q.hint)) 8194)) → n ≡ 0
-      go zero l = refl
-      go (suc n) l = absurd (let z : ⊥ = omega arith in z)
+      go : (b : Bool) → 2 * i < length (cond b (front (ticks_of q.axis (Bold q.hint)) 8194) []) → b ≡ true
+      go true l = refl
+      go false l = absurd (let z : ⊥ = omega arith in z)
 
   module _ (i : ℕ) (l : 2 * i < length list) where
-    z : first_no (tick_questions q.axis (Bold q.hint)) ≡ 0
+    z : passes (tick_questions q.axis (Bold q.hint)) ≡ true
     z = passed i l
 
     same_list : list ≡ numbers (ticks_of q.axis (Bold q.hint))

@@ -24,8 +24,7 @@ use Rattle.values.proofs.Joining.{joint}
 use Rattle.calendar.specs.Gregorian.{date_of}
 use Rattle.text_read.specs.Bytes.{space_byte}
 use Rattle.text_read.specs.Fields.{until_of, read_date, read_stamp, read_span}
-use Rattle.text_line.specs.declared.ValueField.{ValueField}
-use Rattle.text_line.specs.declared.ValueField.TheVariants as value
+use Rattle.std.specs.Prelude.{Option, Some}
 use Rattle.text_line.specs.Line.{stamp_value, below_zero, span_value, of_date, of_stamp, of_span, read_value}
 use Rattle.text_write.specs.Texts.{date_text, date_time_text, span_text}
 use Rattle.text_write.specs.Rows.{tick_text}
@@ -134,16 +133,16 @@ module _ (v : Value) (d : DurationValue v) where
 
 -- ---- a tick
 module _ (shown : Bool) (kind : ℕ) (v : Value) (t : List ℕ) (x : Shown shown kind v) (e : until_of space_byte t ≡ 0) where
-  dates : over_dates (pos kind) ≡ true → read_value kind (tick_text shown (pos kind) v ++ t) ≡ value.Read v
+  dates : over_dates (pos kind) ≡ true → read_value kind (tick_text shown (pos kind) v ++ t) ≡ Some v
   dates h =
       let d = date_value (pos kind) v x.is h in
       let n = pos_part v.head in
       let o = of_day n d.head_least d.head_most in
       value_date kind (tick_text shown (pos kind) v ++ t) h
       ∙ rw (text_date shown (pos kind) v h, ymd_read (date_of n) t o.short e, o.value 0)
-      (ap value.Read (same_value (record { head = pos n; tail = pos 0 }) v (pos_up v.head d.head_dn) (sym d.no_tail)))
+      (ap Some (same_value (record { head = pos n; tail = pos 0 }) v (pos_up v.head d.head_dn) (sym d.no_tail)))
 
-  stamps : over_date_times (pos kind) ≡ true → read_value kind (tick_text shown (pos kind) v ++ t) ≡ value.Read v
+  stamps : over_date_times (pos kind) ≡ true → read_value kind (tick_text shown (pos kind) v ++ t) ≡ Some v
   unfolding stamp_value
   stamps h =
       let d = day_value (pos kind) v x.is (times_no_duration (pos kind) h) in
@@ -161,10 +160,10 @@ module _ (shown : Bool) (kind : ℕ) (v : Value) (t : List ℕ) (x : Shown shown
         whole,
         o.value nano,
       )
-      (ap value.Read (same_value (record { head = pos n; tail = pos nano }) v (pos_up v.head d.head_dn)
+      (ap Some (same_value (record { head = pos n; tail = pos nano }) v (pos_up v.head d.head_dn)
       (pos_up v.tail d.tail_dn)))
 
-  spans : is_duration (pos kind) ≡ true → read_value kind (tick_text shown (pos kind) v ++ t) ≡ value.Read v
+  spans : is_duration (pos kind) ≡ true → read_value kind (tick_text shown (pos kind) v ++ t) ≡ Some v
   spans h =
       let d = duration_value (pos kind) v x.is h in
       let z = nanoseconds (pos 7) v in
@@ -176,10 +175,10 @@ module _ (shown : Bool) (kind : ℕ) (v : Value) (t : List ℕ) (x : Shown shown
       (elim (dec_le (pos_part z + 1) (neg_part z)) [
         | yes l ↦
             let b : lt_z z (pos 0) ≡ true = is_lt z (pos 0) (omega arith) in
-            rw (b, below_read shown n q (few v d) (omega arith) w t e) (ap value.Read (below v d b))
+            rw (b, below_read shown n q (few v d) (omega arith) w t e) (ap Some (below v d b))
         | no l ↦
             let b : lt_z z (pos 0) ≡ false = is_ge z (pos 0) (omega arith) in
-            rw (b, above_read shown n q (few v d) (omega arith) w t e) (ap value.Read (above v d b))
+            rw (b, above_read shown n q (few v d) (omega arith) w t e) (ap Some (above v d b))
       ])
 
 pub tick_reads_back : TickReadsBack
@@ -188,7 +187,7 @@ tick_reads_back shown kind v t x e =
     (λ h _. spans shown kind v t x e h)
 
 -- ---- no two look alike
-one_value : (s : ValueField) (v w : Value) → s ≡ value.Read v → s ≡ value.Read w → v ≡ w
+one_value : (s : Option Value) (v w : Value) → s ≡ Some v → s ≡ Some w → v ≡ w
 one_value s v w p q = cc
 
 nothing : until_of space_byte [] ≡ 0

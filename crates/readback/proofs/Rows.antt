@@ -15,25 +15,23 @@ use Rattle.values.specs.declared.Value.{Value}
 use Rattle.values.specs.Values.{over_date_times, is_duration}
 use Rattle.values.specs.Differences.{nanoseconds}
 use Rattle.axis.specs.declared.Hint.TheVariants.{Bold}
-use Rattle.mapping.specs.declared.Pixel.{Pixel}
-use Rattle.mapping.specs.declared.Pixel.TheVariants.{Refused, At}
+use Rattle.std.specs.Prelude.{Option, Some, None, Result, Ok, Err}
+use Rattle.asking.specs.Asking.{number}
+use Rattle.asking.specs.declared.Refusal.{Refusal}
+use Rattle.asking.specs.declared.Refusal.TheVariants as refusal
+use Rattle.mapping.specs.declared.Hairline.{Hairline}
 use Rattle.mapping.specs.Mapping.{mapped}
-use Rattle.steps.specs.declared.Listed.{Listed}
-use Rattle.steps.specs.declared.Listed.TheVariants as listed
 use Rattle.steps.specs.Promise.{nth}
 use Rattle.ticks.specs.Answers.{ticks_answer}
 use Rattle.text_read.specs.Bytes.{line_feed, space_byte, exclamation, minus_byte, point_byte}
 use Rattle.text_read.specs.Fields.{until_of, field_of}
+use Rattle.text_read.specs.Lines.{lines_of, rest_of}
 use Rattle.text_line.specs.declared.Request.{Request}
-use Rattle.text_line.specs.declared.Line.{Line}
-use Rattle.text_line.specs.declared.Line.TheVariants as line
-use Rattle.text_line.specs.declared.ValueField.TheVariants as value
-use Rattle.text_line.specs.Line.{rest_of, read_value, read_line}
+use Rattle.text_line.specs.Line.{read_value, read_line}
 use Rattle.text_write.specs.Texts.{decimal_text, signed_text, date_text, date_time_text, span_text}
 use Rattle.text_write.specs.Rows.{tick_text, mark_text, row_text, refusal_text}
 use Rattle.text_rows.specs.Answers.{shows_fractions, tick_row, ticks_text, list_text, list_of, listed_text, request_text}
 use Rattle.text_rows.specs.Answers.{line_text, rows_of}
-use Rattle.text_plate.specs.Plate.{lines_of}
 use Rattle.readback.specs.Claims.{NotIn, AllDiffer, tick_texts, RowReadsBack, RowsDiffer}
 use Rattle.readback.proofs.Digits.{Free, free_none, free_one, free_then, free_decimal}
 use Rattle.readback.proofs.Forms.{field_is, free_fraction, free_date, free_stamp}
@@ -80,9 +78,9 @@ module _ {c : ℕ} (x : Apart c) where
       go false true = free_span shown (nanoseconds (pos 7) v)
       go false false = free_date n x.below x.minus
 
-  free_mark : (p : Pixel) → Free c (mark_text p)
-  free_mark (At h) = free_signed h.pixel
-  free_mark (Refused q) = free_then (free_one x.mark) (free_decimal x.below q)
+  free_mark : (p : Result Hairline Refusal) → Free c (mark_text p)
+  free_mark (Ok h) = free_signed h.pixel
+  free_mark (Err q) = free_then (free_one x.mark) (free_decimal x.below (number q))
 
 -- ---- a row's fields
 -- what stands after the first space
@@ -92,7 +90,7 @@ after_space a t f =
     let e : until_of space_byte (a ++ (space_byte ∷ t)) + 1 ≡ length a + 1 = omega (arith, f.free (space_byte ∷ t)) in
     rw e (drop-append-add a (space_byte ∷ t) 1)
 
-module _ (number : ℕ) (shown : Bool) (kind : ℤ) (v : Value) (p : Pixel) where
+module _ (number : ℕ) (shown : Bool) (kind : ℤ) (v : Value) (p : Result Hairline Refusal) where
   -- a row without its LF
   abbrev line_of : List ℕ
   line_of = decimal_text number ++ (space_byte ∷ (tick_text shown kind v ++ (space_byte ∷ mark_text p)))
@@ -120,24 +118,25 @@ unfolding lines_of
 first_line [] t f = refl
 first_line (b ∷ a) t f = rw (ne_eqb b line_feed (not_first f), first_line a t (free_rest f))
 
-free_line : {c : ℕ} (number : ℕ) (shown : Bool) (kind : ℤ) (v : Value) (p : Pixel) → Apart c → (space_byte ≡ c → ⊥) →
+free_line : {c : ℕ} (number : ℕ) (shown : Bool) (kind : ℤ) (v : Value) (p : Result Hairline Refusal) → Apart c →
+    (space_byte ≡ c → ⊥) →
     Free c (line_of number shown kind v p)
 free_line number shown kind v p x n =
     free_then (free_decimal x.below number)
     (free_then (free_one n) (free_then (free_tick x shown kind v) (free_then (free_one n) (free_mark x p))))
 
-free_refusal : {c : ℕ} (number q : ℕ) → Apart c → (space_byte ≡ c → ⊥) →
-    Free c (decimal_text number ++ (space_byte ∷ minus_byte ∷ space_byte ∷ []) ++ mark_text (Refused q))
-free_refusal number q x n =
-    free_then (free_then (free_decimal x.below number)
-    (free_then (free_one n) (free_then (free_one x.minus) (free_one n)))) (free_mark x (Refused q))
+free_refusal : {c : ℕ} (n : ℕ) (q : Refusal) → Apart c → (space_byte ≡ c → ⊥) →
+    Free c (decimal_text n ++ (space_byte ∷ minus_byte ∷ space_byte ∷ []) ++ mark_text (Err q))
+free_refusal n q x s =
+    free_then (free_then (free_decimal x.below n)
+    (free_then (free_one s) (free_then (free_one x.minus) (free_one s)))) (free_mark x (Err q))
 
 -- a refusal is one line
-one_line : (number q : ℕ) → AllDiffer (tick_texts (lines_of (refusal_text number q)).lines)
+one_line : (n : ℕ) (q : Refusal) → AllDiffer (tick_texts (lines_of (refusal_text n q)).lines)
 unfolding lines_of
-one_line number q =
-    let r = decimal_text number ++ (space_byte ∷ minus_byte ∷ space_byte ∷ []) ++ mark_text (Refused q) in
-    rw (first_line r [] (free_refusal number q feed (λ e. omega arith))) (tt, tt)
+one_line n q =
+    let r = decimal_text n ++ (space_byte ∷ minus_byte ∷ space_byte ∷ []) ++ mark_text (Err q) in
+    rw (first_line r [] (free_refusal n q feed (λ e. omega arith))) (tt, tt)
 
 -- ---- the rows of a list, from place i on
 module _ (number : ℕ) (q : Request) where
@@ -220,7 +219,7 @@ module _ (number : ℕ) (q : Request) where
       let e : ticks_text number q.axis q.limits list n ≡ text_from 0 n = rw z at (all_text 0 n) in
       rw (e, lines_from_law 0 n) (all_differ 0 n (omega arith))
 
-  row_read : (i : ℕ) → 2 * i < length list → read_value (pos_part q.axis.kind) (rest_of (row_at i)) ≡ value.Read (nth list i)
+  row_read : (i : ℕ) → 2 * i < length list → read_value (pos_part q.axis.kind) (rest_of (row_at i)) ≡ Some (nth list i)
   unfolding until_of
   row_read i l =
       let k = q.axis.kind in
@@ -232,7 +231,7 @@ module _ (number : ℕ) (q : Request) where
       let e = after_space (decimal_text number) (text_at i ++ t) (free_decimal (omega arith) number) in
       let b = tick_reads_back s (pos_part k) v t (shown q i l) refl in
       ap (read_value (pos_part k)) (ap rest_of row ∙ e)
-      ∙ subst (λ (z : ℤ). read_value (pos_part k) (tick_text s z v ++ t) ≡ value.Read v) (sym (kind_is q i l)) b
+      ∙ subst (λ (z : ℤ). read_value (pos_part k) (tick_text s z v ++ t) ≡ Some v) (sym (kind_is q i l)) b
 
 -- ---- the claims
 pub row_reads_back : RowReadsBack
@@ -242,10 +241,10 @@ pub rows_differ : RowsDiffer
 unfolding rows_of request_text
 rows_differ number s = of_line (read_line s)
   where
-    of_list : (q : Request) (a : Listed) → AllDiffer (tick_texts (lines_of (listed_text number q a)).lines)
-    of_list q (listed.Refused n) = one_line number n
-    of_list q (listed.Ticks c) = list_differs number q
+    of_list : (q : Request) (a : Result ℕ Refusal) → AllDiffer (tick_texts (lines_of (listed_text number q a)).lines)
+    of_list q (Err r) = one_line number r
+    of_list q (Ok c) = list_differs number q
 
-    of_line : (l : Line) → AllDiffer (tick_texts (lines_of (line_text number l)).lines)
-    of_line (line.Read q) = of_list q (ticks_answer q.axis (Bold q.hint) 8194)
-    of_line line.Unread = one_line number 12
+    of_line : (l : Option Request) → AllDiffer (tick_texts (lines_of (line_text number l)).lines)
+    of_line (Some q) = of_list q (ticks_answer q.axis (Bold q.hint) 8194)
+    of_line None = one_line number refusal.Table

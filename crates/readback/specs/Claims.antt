@@ -1,6 +1,7 @@
 -- What is claimed of the texts that plate prints: a tick's text, read as a start of its kind, is that tick again, so no two
 -- rows of a line look alike; and what stays as it was before fractions were shown. Claims only.
-use Rattle.std.specs.Prelude.{◌≡◌, Bool, true, false, cond, List, [], ◌∷◌, ◌++◌, ℕ, ◌+◌, ◌*◌, ◌<◌, ℤ, pos, length}
+use Rattle.std.specs.Prelude.{◌≡◌, Bool, true, false, cond, List, [], ◌∷◌, ◌++◌, ℕ, ◌+◌, ◌*◌}
+use Rattle.std.specs.Prelude.{◌<◌, ℤ, pos, length, Option, Some, None}
 use Rattle.laws.specs.Numbers.{minus, pos_part}
 use Rattle.laws.specs.Units.{per_second}
 use Rattle.values.specs.declared.Value.{Value}
@@ -10,15 +11,12 @@ use Rattle.axis.specs.Questions.{has_period}
 use Rattle.steps.specs.Promise.{nth}
 use Rattle.text_read.specs.Bytes.{space_byte, point_byte}
 use Rattle.text_read.specs.Fields.{until_of, field_of}
+use Rattle.text_read.specs.Lines.{lines_of, occurrences, rest_of}
 use Rattle.text_read.specs.declared.Duration.{Duration}
 use Rattle.text_line.specs.declared.Request.{Request}
-use Rattle.text_line.specs.declared.Line.{Line}
-use Rattle.text_line.specs.declared.Line.TheVariants as line
-use Rattle.text_line.specs.declared.ValueField.TheVariants as value
-use Rattle.text_line.specs.Line.{occurrences, rest_of, span_value, read_value, read_line}
+use Rattle.text_line.specs.Line.{span_value, read_value, read_line}
 use Rattle.text_write.specs.Rows.{tick_text}
 use Rattle.text_rows.specs.Answers.{has_fraction, shows_fractions, tick_row, list_of, rows_of}
-use Rattle.text_plate.specs.Plate.{lines_of}
 use Rattle.readback.specs.Before.{rows_before}
 
 -- ---- a tick
@@ -31,7 +29,7 @@ pub record Shown (shown : Bool) (kind : ℕ) (v : Value) : Type 0 where
 abbrev pub TickReadsBack : Type 0
 TickReadsBack =
     (shown : Bool) (kind : ℕ) (v : Value) (t : List ℕ) → Shown shown kind v → until_of space_byte t ≡ 0
-    → read_value kind (tick_text shown (pos kind) v ++ t) ≡ value.Read v
+    → read_value kind (tick_text shown (pos kind) v ++ t) ≡ Some v
 
 -- no two look alike, be they of one list or not
 abbrev pub OneText : Type 0
@@ -51,7 +49,7 @@ abbrev pub RowReadsBack : Type 0
 RowReadsBack =
     (number : ℕ) (q : Request) (i : ℕ) → 2 * i < length (list_of q)
     → read_value (pos_part q.axis.kind) (rest_of (tick_row number q.axis q.limits (list_of q) i))
-    ≡ value.Read (nth (list_of q) i)
+    ≡ Some (nth (list_of q) i)
 
 -- the second field of each line that is printed
 abbrev pub tick_texts : List (List ℕ) → List (List ℕ)
@@ -78,9 +76,9 @@ abbrev pub OnlyTimes : Type 0
 OnlyTimes = (q : Request) → has_period q.axis ≡ false → shows_fractions (list_of q) ≡ false
 
 -- the list of a line; of one that does not read, none
-abbrev pub list_in : Line → List ℤ
-list_in (line.Read q) = list_of q
-list_in line.Unread = []
+abbrev pub list_in : Option Request → List ℤ
+list_in (Some q) = list_of q
+list_in None = []
 
 -- a line without a point whose list has no fraction prints as before
 abbrev pub AsBefore : Type 0

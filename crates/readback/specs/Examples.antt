@@ -1,11 +1,9 @@
 -- Texts and readings that are settled: what the definitions write and read, beside what it has to be. Definitions only.
-use Rattle.std.specs.Prelude.{◌≡◌, Bool, true, false, List, [], ◌∷◌, ℕ, ℤ, pos}
+use Rattle.std.specs.Prelude.{◌≡◌, Bool, true, false, List, [], ◌∷◌, ℕ, ℤ, pos, Option, Some, None}
 use Prim.Native.String.{String}
 use Rattle.laws.specs.Numbers.{minus}
 use Rattle.values.specs.declared.Value.{Value}
 use Rattle.values.specs.Values.{is_value}
-use Rattle.text_line.specs.declared.ValueField.{ValueField}
-use Rattle.text_line.specs.declared.ValueField.TheVariants as value
 use Rattle.text_line.specs.Line.{read_value}
 use Rattle.text_write.specs.Rows.{tick_text}
 use Rattle.readback.specs.Quoted.{bytes}
@@ -15,8 +13,8 @@ abbrev pub pair : ℤ → ℕ → Value
 pair head tail = record { head = head; tail = pos tail }
 
 -- a field that reads
-abbrev pub at : ℤ → ℕ → ValueField
-at head tail = value.Read (pair head tail)
+abbrev pub at : ℤ → ℕ → Option Value
+at head tail = Some (pair head tail)
 
 -- ---- written
 -- a tick of a kind, whether its list shows fractions, and its text
@@ -63,10 +61,10 @@ AllWritten = texts written ≡ settled_texts written
 pub record Reading : Type 0 where
   pub kind : ℕ
   pub field : String
-  pub is : ValueField
+  pub is : Option Value
 
 -- in one line
-abbrev pub reads : ℕ → String → ValueField → Reading
+abbrev pub reads : ℕ → String → Option Value → Reading
 reads kind field is = record { kind = kind; field = field; is = is }
 
 -- settled: a time that is not real is no value, and so question 3 refuses it
@@ -78,28 +76,28 @@ readings =
     ∷ reads 7 "1.000000001" (at (pos 1) 1)
     ∷ reads 7 "315576000000.5" (at (pos 315576000000) 500000000)
     ∷ reads 7 "-315576000000.5" (at (minus 315576000001) 500000000)
-    ∷ reads 7 ".5" value.Unread
-    ∷ reads 7 "-.5" value.Unread
-    ∷ reads 7 "1." value.Unread
-    ∷ reads 7 "1.5.5" value.Unread
-    ∷ reads 7 "1.1234567890" value.Unread
+    ∷ reads 7 ".5" None
+    ∷ reads 7 "-.5" None
+    ∷ reads 7 "1." None
+    ∷ reads 7 "1.5.5" None
+    ∷ reads 7 "1.1234567890" None
     ∷ reads 6 "0001-03-01T23:59:59.999999999" (at (pos 60) 86399999999999)
     ∷ reads 4 "0001-03-01T24:00:00.5" (at (pos 0) 0)
     ∷ reads 4 "0001-03-01T00:00:60.5" (at (pos 0) 0)
-    ∷ reads 4 "0001-02-30T00:00:00.1234567890" value.Unread
-    ∷ reads 4 "0001-03-01.5" value.Unread
-    ∷ reads 1 "0001-03-01.5" value.Unread
+    ∷ reads 4 "0001-02-30T00:00:00.1234567890" None
+    ∷ reads 4 "0001-03-01.5" None
+    ∷ reads 1 "0001-03-01.5" None
     ∷ reads 8 "0001-03-01" (at (pos 60) 0)
-    ∷ reads 8 "0001-W09-4" value.Unread
+    ∷ reads 8 "0001-W09-4" None
     ∷ []
 
 -- what the definitions read
-abbrev pub values : List Reading → List ValueField
+abbrev pub values : List Reading → List (Option Value)
 values [] = []
 values (r ∷ rs) = read_value r.kind (bytes r.field) ∷ values rs
 
 -- what has to be read
-abbrev pub settled_values : List Reading → List ValueField
+abbrev pub settled_values : List Reading → List (Option Value)
 settled_values [] = []
 settled_values (r ∷ rs) = r.is ∷ settled_values rs
 
