@@ -155,7 +155,7 @@ def numbered(of_calls):
 
 
 def printers():
-    return [f"{at}: {n}" for at, n, rest in functions() if re.search(r"\bout: &mut \[u8\]", body_of(rest)[0])]
+    return [f"{at}: {n}" for at, n, rest in functions() if re.search(r"\bout: &mut (?:\[u8\]|Output)", body_of(rest)[0])]
 
 
 def answers():
@@ -171,6 +171,7 @@ POINTS = [
     ("1 the same in all other crates", lambda: numbered(False)),
     ("2 twins: functions of one shape, with other names, types and numbers", twins),
     ("3 loops that count by hand: while", lambda: lines(r"^\s+while ")),
+    ("3 loops over a range of indices: for i in 0..", lambda: lines(r"^\s+for \w+ in \w*\.\.")),
     ("4 equality of numbers by two tests: (x <= y) & (y <= x), !=0 pairs", lambda: lines(r"\((-?\w+(?:\.\w+)?) <= ([\w.]+)\) & \(\2 <= \1\)")),
     ("4 order, equality and copying by hand: fn same, earlier, differ, equal", lambda: lines(r"\bfn (same|earlier|differ|equals?|is_names)\b")),
     ("4 conversions by hand: fn as_count, widened, flag, pos_part, axis_of, head_tail, .._reply, segment_of, unit_of, kind_of", lambda: lines(r"\bfn (as_count|widened|flag|pos_part|axis_of|head_tail|\w+_reply|segment_of|unit_of|kind_of)\b")),
