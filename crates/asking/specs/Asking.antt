@@ -1,5 +1,5 @@
 -- Questions in a row: each has the refusal that a no gives, and the first no decides. Definitions only.
-use Rattle.std.specs.Prelude.{Bool, true, ◌&&◌, cond, List, [], ◌∷◌, ℕ, Result, Err}
+use Rattle.std.specs.Prelude.{Bool, true, ◌&&◌, cond, List, [], ◌∷◌, ℕ, Result, Ok, Err}
 use Rattle.asking.specs.declared.Refusal.{Refusal}
 use Rattle.asking.specs.declared.Refusal.TheVariants as refusal
 
@@ -35,6 +35,11 @@ ask q t = record { refusal = q; yes = t }
 abbrev pub asked : {A : Type 0} → List Question → Result A Refusal → Result A Refusal
 asked [] a = a
 asked (q ∷ row) a = cond q.yes (asked row a) (Err q.refusal)
+
+-- what is answered from an answer, unless there is a refusal
+abbrev pub and_then : {A B : Type 0} → Result A Refusal → (A → Result B Refusal) → Result B Refusal
+and_then (Ok a) f = f a
+and_then (Err q) f = Err q
 
 -- no question of a row refuses
 abbrev pub passes : List Question → Bool

@@ -16,7 +16,7 @@ use Rattle.values.specs.Values.{is_value, earlier, Both}
 use Rattle.values.proofs.Numbers.{within_true}
 use Rattle.values.proofs.Differences.{no_earlier_apart}
 use Rattle.axis.specs.declared.Axis.{Axis}
-use Rattle.axis.specs.Axes.{axis_of, start, end, span_of}
+use Rattle.axis.specs.Axes.{axis_of, span_of}
 use Rattle.axis.specs.Questions.{ends, in_order, value_on, equals}
 
 pub axis_read : {k sh st eh et x : ℤ} → SFits w64 k → SFits w64 sh → SFits w64 st → SFits w64 eh → SFits w64 et → SFits w64 x →
@@ -29,20 +29,20 @@ axis_read k sh st eh et x =
 
 module _ (a : Axis) (e : ends a ≡ true) where
   -- question 3
-  pub both_ends : Both a.kind (start a) (end a)
+  pub both_ends : Both a.kind a.start a.end
   unfolding ends
-  both_ends = let (x, y) = both_true (is_value a.kind (start a)) (is_value a.kind (end a)) e in
+  both_ends = let (x, y) = both_true (is_value a.kind a.start) (is_value a.kind a.end) e in
       record { first = x; second = y }
 
   -- and question 8
-  pub with_value : (v : Value) → value_on a v ≡ true → Both a.kind (start a) v
+  pub with_value : (v : Value) → value_on a v ≡ true → Both a.kind a.start v
   unfolding value_on
   with_value v f = record { first = both_ends.first; second = f }
 
   -- and question 4: the span is not below 0
   pub span_from_0 : in_order a ≡ true → neg_part (span_of a) ≡ 0
   unfolding in_order span_of
-  span_from_0 o = no_earlier_apart a.kind (start a) (end a) both_ends (not-true (earlier (end a) (start a)) o)
+  span_from_0 o = no_earlier_apart a.kind a.start a.end both_ends (not-true (earlier a.end a.start) o)
 
 -- a value equal to another, number by number
 pub equal : (v w : Value) → equals v w ≡ true → v ≡ w

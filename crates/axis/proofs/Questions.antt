@@ -7,57 +7,58 @@ use Prim.Native.Nat.{◌≤◌}
 use native.Mathlib.Omega.{arith}
 use lib.IntN.{ℤ, pos, negsuc}
 use lib.Signed.{lt_z, le_z}
-use Rattle.laws.specs.Numbers.{within, pos_part, neg_part}
-use Rattle.laws.proofs.Signed.{lt_true, lt_false, le_true, le_false, is_lt, is_ge, same}
+use Rattle.laws.specs.Numbers.{pos_part, neg_part}
+use Rattle.laws.proofs.Signed.{lt_true, lt_false, le_true, le_false, is_lt, is_ge}
 use Rattle.laws.proofs.Tests.{both_true, either_false}
+use Rattle.values.specs.declared.Kind.TheVariants.{Span}
 use Rattle.values.specs.declared.Value.{Value}
-use Rattle.values.specs.Values.{is_duration, is_value, earlier}
+use Rattle.values.specs.Values.{over_dates, is_duration, is_value, earlier}
 use Rattle.values.specs.Differences.{nanoseconds, fits_i64, nanoseconds_of}
 use Rattle.values.proofs.Numbers.{is_le, is_gt, within_true, not_below, bounded, either_true, not_both, agree, or_true, or_false}
 use Rattle.values.proofs.Fits.{fits_is, fits_range}
-use Rattle.values.proofs.Values.{DurationValue, duration_value}
+use Rattle.values.proofs.Values.{DurationValue, duration_value, is_span}
 use Rattle.values.proofs.Joining.{joint}
 use Rattle.axis.specs.declared.Axis.{Axis}
 use Rattle.axis.specs.declared.Limits.{Limits}
 use Rattle.axis.specs.declared.BoldPoints.{BoldPoints}
 use Rattle.axis.specs.declared.LightPoints.{LightPoints}
-use Rattle.axis.specs.Axes.{start, end, span_of}
+use Rattle.axis.specs.Axes.{span_of}
 use Rattle.axis.proofs.Axes.{span_from_0}
 use Rattle.axis.specs.Questions.{near_zero, near_or_long, ends, in_order, is_count, enough, bold_hint, light_hint}
 use Rattle.axis.specs.Questions.{is_pixel, pixels, differ, unmap_pixels, is_index, fits_i32}
 
 -- ---- 4: by the heads, and by the tails where the heads are one
 module _ (a : Axis) where
-  pub heads_apart : lt_z a.start_head a.end_head ≡ true → true ≡ in_order a
+  pub heads_apart : lt_z a.start.head a.end.head ≡ true → true ≡ in_order a
   unfolding in_order earlier
   heads_apart e =
-      let h = lt_true a.start_head a.end_head e in
-      rw (is_ge a.end_head a.start_head (omega arith), is_gt a.end_head a.start_head h)
+      let h = lt_true a.start.head a.end.head e in
+      rw (is_ge a.end.head a.start.head (omega arith), is_gt a.end.head a.start.head h)
 
-  pub heads_not_apart : lt_z a.start_head a.end_head ≡ false →
-      le_z a.start_head a.end_head && le_z a.start_tail a.end_tail ≡ in_order a
+  pub heads_not_apart : lt_z a.start.head a.end.head ≡ false →
+      le_z a.start.head a.end.head && le_z a.start.tail a.end.tail ≡ in_order a
   unfolding in_order earlier
-  heads_not_apart e = go (le_z a.start_head a.end_head) (le_z a.start_tail a.end_tail) refl refl
+  heads_not_apart e = go (le_z a.start.head a.end.head) (le_z a.start.tail a.end.tail) refl refl
     where
-      after : le_z a.end_head a.start_head ≡ true
-      after = is_le a.end_head a.start_head (lt_false a.start_head a.end_head e)
+      after : le_z a.end.head a.start.head ≡ true
+      after = is_le a.end.head a.start.head (lt_false a.start.head a.end.head e)
 
-      go : (b t : Bool) → le_z a.start_head a.end_head ≡ b → le_z a.start_tail a.end_tail ≡ t →
-          b && t ≡ not (earlier (end a) (start a))
+      go : (b t : Bool) → le_z a.start.head a.end.head ≡ b → le_z a.start.tail a.end.tail ≡ t →
+          b && t ≡ not (earlier a.end a.start)
       go true true h t = rw (
         after,
-        is_ge a.end_head a.start_head (le_true a.start_head a.end_head h),
-        is_ge a.end_tail a.start_tail (le_true a.start_tail a.end_tail t),
+        is_ge a.end.head a.start.head (le_true a.start.head a.end.head h),
+        is_ge a.end.tail a.start.tail (le_true a.start.tail a.end.tail t),
       )
       go true false h t = rw (
         after,
-        is_ge a.end_head a.start_head (le_true a.start_head a.end_head h),
-        is_lt a.end_tail a.start_tail (le_false a.start_tail a.end_tail t),
+        is_ge a.end.head a.start.head (le_true a.start.head a.end.head h),
+        is_lt a.end.tail a.start.tail (le_false a.start.tail a.end.tail t),
       )
-      go false t h u = rw (is_lt a.end_head a.start_head (le_false a.start_head a.end_head h))
+      go false t h u = rw (is_lt a.end.head a.start.head (le_false a.start.head a.end.head h))
 
 -- ---- 5: by seconds, and by nanoseconds only at the bound above
-module _ (v : Value) (value : is_value (pos 7) v ≡ true) where
+module _ (v : Value) (value : is_value Span v ≡ true) where
   abbrev h : ℤ
   h = v.head
 
@@ -65,24 +66,24 @@ module _ (v : Value) (value : is_value (pos 7) v ≡ true) where
   t = v.tail
 
   range : DurationValue v
-  range = duration_value (pos 7) v value refl
+  range = duration_value Span v value refl
 
-  from_below : le_z (negsuc 3999999999) h ≡ le_z (negsuc 3999999999999999999) (nanoseconds (pos 7) v)
+  from_below : le_z (negsuc 3999999999) h ≡ le_z (negsuc 3999999999999999999) (nanoseconds Span v)
   unfolding nanoseconds
   from_below =
       let j = joint h t 1000000000 in
       let r = range in
-      agree (le_z (negsuc 3999999999) h) (le_z (negsuc 3999999999999999999) (nanoseconds (pos 7) v))
-      (λ e. is_le (negsuc 3999999999999999999) (nanoseconds (pos 7) v) (omega (arith, le_true (negsuc 3999999999) h e)))
-      (λ e. is_gt (negsuc 3999999999999999999) (nanoseconds (pos 7) v) (omega (arith, le_false (negsuc 3999999999) h e)))
+      agree (le_z (negsuc 3999999999) h) (le_z (negsuc 3999999999999999999) (nanoseconds Span v))
+      (λ e. is_le (negsuc 3999999999999999999) (nanoseconds Span v) (omega (arith, le_true (negsuc 3999999999) h e)))
+      (λ e. is_gt (negsuc 3999999999999999999) (nanoseconds Span v) (omega (arith, le_false (negsuc 3999999999) h e)))
 
-  from_above : lt_z h (pos 4000000000) || (le_z h (pos 4000000000) && le_z t (pos 0)) ≡ le_z (nanoseconds (pos 7) v)
+  from_above : lt_z h (pos 4000000000) || (le_z h (pos 4000000000) && le_z t (pos 0)) ≡ le_z (nanoseconds Span v)
       (pos 4000000000000000000)
   unfolding nanoseconds
   from_above =
       let j = joint h t 1000000000 in
       let r = range in
-      let n = nanoseconds (pos 7) v in
+      let n = nanoseconds Span v in
       agree (lt_z h (pos 4000000000) || (le_z h (pos 4000000000) && le_z t (pos 0))) (le_z n (pos 4000000000000000000))
       (λ e. elim (either_true (lt_z h (pos 4000000000)) (le_z h (pos 4000000000) && le_z t (pos 0)) e) [
         | inl x ↦ is_le n (pos 4000000000000000000) (omega (arith, lt_true h (pos 4000000000) x))
@@ -113,38 +114,36 @@ module _ (a : Axis) where
   unfolding near_or_long
   other_kind e = rw e
 
-  pub near_ends : near_zero (start a) && near_zero (end a) ≡ true → true ≡ near_or_long a
+  pub near_ends : near_zero a.start && near_zero a.end ≡ true → true ≡ near_or_long a
   unfolding near_or_long
   near_ends e = rw e (sym (or_true (not (is_duration a.kind))))
 
-  pub far_ends : is_duration a.kind ≡ true → near_zero (start a) && near_zero (end a) ≡ false → ends a ≡ true →
+  pub far_ends : is_duration a.kind ≡ true → near_zero a.start && near_zero a.end ≡ false → ends a ≡ true →
       in_order a ≡ true → not (is_some (nanoseconds_of (span_of a))) ≡ near_or_long a
   unfolding near_or_long
   far_ends e n r o = rw (e, n, fits_is (span_of a)) (long (span_of a) (span_from_0 a r o))
 
   -- the kind is 7, so that its values are durations
-  pub of_seven : (v : Value) → is_duration a.kind ≡ true → is_value a.kind v ≡ true → is_value (pos 7) v ≡ true
+  pub of_seven : (v : Value) → is_duration a.kind ≡ true → is_value a.kind v ≡ true → is_value Span v ≡ true
   of_seven v e f =
-      let (x, y) = within_true (pos 7) a.kind (pos 7) e in
-      let k : a.kind ≡ pos 7 = same a.kind (pos 7) (omega arith) in
-      rw k at f
+      rw (is_span a.kind e) at f
 
 -- ---- what a yes says to a caller
 -- 5: where the span fits, both ends are near zero
 pub near_where_fits : (a : Axis) → is_duration a.kind ≡ true → near_or_long a ≡ true → fits_i64 (span_of a) ≡ true →
-    (near_zero (start a) ≡ true) × (near_zero (end a) ≡ true)
+    (near_zero a.start ≡ true) × (near_zero a.end ≡ true)
 unfolding near_or_long
 near_where_fits a e q f =
     let n : lt_z (pos 9223372036854775807) (span_of a) ≡ false =
     is_ge (pos 9223372036854775807) (span_of a) (omega (arith, fits_range (span_of a) f)) in
-    let r : (near_zero (start a) && near_zero (end a)) || false ≡ true = rw (e, n) at q in
-    both_true (near_zero (start a)) (near_zero (end a)) (sym (or_false (near_zero (start a) && near_zero (end a))) ∙ r)
+    let r : (near_zero a.start && near_zero a.end) || false ≡ true = rw (e, n) at q in
+    both_true (near_zero a.start) (near_zero a.end) (sym (or_false (near_zero a.start && near_zero a.end)) ∙ r)
 
-pub near_range : (v : Value) → near_zero v ≡ true → (neg_part (nanoseconds (pos 7) v) ≤ 4000000000000000000)
-    × (pos_part (nanoseconds (pos 7) v) ≤ 4000000000000000000)
+pub near_range : (v : Value) → near_zero v ≡ true → (neg_part (nanoseconds Span v) ≤ 4000000000000000000)
+    × (pos_part (nanoseconds Span v) ≤ 4000000000000000000)
 unfolding near_zero
 near_range v e =
-    let n = nanoseconds (pos 7) v in
+    let n = nanoseconds Span v in
     let (a, b) = within_true (negsuc 3999999999999999999) n (pos 4000000000000000000) e in
     bounded n 4000000000000000000 4000000000000000000 (omega arith) (omega arith)
 
@@ -158,12 +157,12 @@ count_range n e =
 pub record Hint (a : Axis) (n : ℤ) : Type 0 where
   pub none_below : neg_part n ≡ 0
   pub most : pos_part n ≤ 4096
-  pub some : within (pos 4) a.kind (pos 7) ≡ true → 1 ≤ pos_part n
+  pub some : over_dates a.kind ≡ false → 1 ≤ pos_part n
 
 hint : (a : Axis) (n : ℤ) → is_count n ≡ true → enough a n ≡ true → Hint a n
 hint a n c e = let (z, m) = count_range n c in record { none_below = z; most = m; some = λ k. some k (rw k at e) }
   where
-    some : within (pos 4) a.kind (pos 7) ≡ true → le_z (pos 1) n ≡ true → 1 ≤ pos_part n
+    some : over_dates a.kind ≡ false → le_z (pos 1) n ≡ true → 1 ≤ pos_part n
     some k l = omega (arith, le_true (pos 1) n l)
 
 pub bold_range : (a : Axis) (h : BoldPoints) → bold_hint a h ≡ true → Hint a h.n

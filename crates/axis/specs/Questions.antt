@@ -1,14 +1,15 @@
 -- The questions before an answer, by document 01's numbers: a test for each, and the rows that operations on an axis
 -- begin with. An operation's own row stands in its crate. Definitions only.
-use Rattle.std.specs.Prelude.{Bool, not, ◌&&◌, ◌||◌, List, [], ◌∷◌, ◌++◌, ℤ, pos, ℕ, Result, Ok, Option, Some, None}
+use Rattle.std.specs.Prelude.{Bool, not, ◌&&◌, ◌||◌, List, [], ◌∷◌, ◌++◌, ℤ, pos, Result, Ok, Option, Some, None}
 use Rattle.std.specs.Int.Signed.{lt_z, le_z}
 use Rattle.asking.specs.Asking.{Question, ask, asked}
 use Rattle.asking.specs.declared.Refusal.{Refusal}
 use Rattle.asking.specs.declared.Refusal.TheVariants as refusal
-use Rattle.laws.specs.Numbers.{minus, within, equal, is_number}
+use Rattle.laws.specs.Numbers.{minus, within, equal}
 use Rattle.calendar.specs.Questions.{last_day, is_day}
 use Rattle.values.specs.declared.Value.{Value}
-use Rattle.values.specs.Values.{over_dates, is_duration, is_value, earlier}
+use Rattle.values.specs.declared.Kind.TheVariants.{Span}
+use Rattle.values.specs.Values.{over_dates, is_stamp, is_duration, is_value, earlier}
 use Rattle.values.specs.Differences.{nanoseconds}
 use Rattle.axis.specs.declared.Axis.{Axis}
 use Rattle.axis.specs.declared.Limits.{Limits}
@@ -16,15 +17,9 @@ use Rattle.axis.specs.declared.BoldPoints.{BoldPoints}
 use Rattle.axis.specs.declared.LightPoints.{LightPoints}
 use Rattle.axis.specs.declared.Hint.{Hint}
 use Rattle.axis.specs.declared.Hint.TheVariants.{Bold, Light}
-use Rattle.axis.specs.Axes.{start, end, span_of, excluded}
+use Rattle.axis.specs.Axes.{span_of}
 
--- the kind's number
-abbrev pub is_kind : ℕ → Axis → Bool
-is_kind k a = is_number a.kind k
-
--- 1. Is the kind 1 to 8?
-unfoldable pub known : Axis → Bool
-known a = within (pos 1) a.kind (pos 8)
+-- 1 is asked of the kind's number: `axis_of` in axis/specs/Axes.antt
 
 -- 2. Does the kind have this operation? All kinds map and list ticks. All but 7 unmap.
 unfoldable pub has_unmap : Axis → Bool
@@ -32,7 +27,7 @@ has_unmap a = not (is_duration a.kind)
 
 -- kinds 4 and 7 have a period in nanoseconds
 unfoldable pub has_period : Axis → Bool
-has_period a = is_kind 4 a || is_kind 7 a
+has_period a = is_stamp a.kind || is_duration a.kind
 
 -- all others have indices, size, next, previous, values and segments
 unfoldable pub has_index : Axis → Bool
@@ -41,11 +36,11 @@ has_index a = not (has_period a)
 
 -- 3. Are start and end values of the kind?
 unfoldable pub ends : Axis → Bool
-ends a = is_value a.kind (start a) && is_value a.kind (end a)
+ends a = is_value a.kind a.start && is_value a.kind a.end
 
 -- 4. Is start no later than end?
 unfoldable pub in_order : Axis → Bool
-in_order a = not (earlier (end a) (start a))
+in_order a = not (earlier a.end a.start)
 
 -- two values, number by number
 abbrev pub equals : Value → Value → Bool
@@ -53,17 +48,17 @@ equals v w = equal v.head w.head && equal v.tail w.tail
 
 -- 14, asked after 4. Does the end belong to the axis, or is it excluded on one over dates, and not the start?
 unfoldable pub excludable : Axis → Bool
-excludable a = not (excluded a) || (over_dates a.kind && not (equals (end a) (start a)))
+excludable a = not a.end_excluded || (over_dates a.kind && not (equals a.end a.start))
 
 -- 5. Kind 7: are both ends within 4 × 10^18 ns of zero, or is the span above 2^63 - 1 ns?
 unfoldable pub near_zero : Value → Bool
-near_zero v = within (minus 4000000000000000000) (nanoseconds (pos 7) v) (pos 4000000000000000000)
+near_zero v = within (minus 4000000000000000000) (nanoseconds Span v) (pos 4000000000000000000)
 
 -- of an axis: durations alone are asked
 unfoldable pub near_or_long : Axis → Bool
 near_or_long a =
     not (is_duration a.kind)
-    || ((near_zero (start a) && near_zero (end a))
+    || ((near_zero a.start && near_zero a.end)
     || lt_z (pos 9223372036854775807) (span_of a))
 
 -- 6. Are the hint's numbers 0 to 4,096, and N at least 1 on kinds 4 to 7?
@@ -72,7 +67,7 @@ is_count n = within (pos 0) n (pos 4096)
 
 -- N, by the kind
 abbrev pub enough : Axis → ℤ → Bool
-enough a n = not (within (pos 4) a.kind (pos 7)) || le_z (pos 1) n
+enough a n = over_dates a.kind || le_z (pos 1) n
 
 -- of a bold hint
 unfoldable pub bold_hint : Axis → BoldPoints → Bool
@@ -113,7 +108,7 @@ is_index i = within (pos 0) i (pos last_day)
 
 -- 9. To map: is start before end, or the value equal to start?
 unfoldable pub mappable : Axis → Value → Bool
-mappable a v = earlier (start a) (end a) || equals v (start a)
+mappable a v = earlier a.start a.end || equals v a.start
 
 -- 10. Does the answer fit i32?
 abbrev pub fits_i32 : ℤ → Bool
@@ -137,12 +132,11 @@ checked_if (Some v) = asked (ask refusal.Range (in_calendar v) ∷ []) (Ok (Some
 -- the row of operations that kind 7 does not have
 abbrev pub plain_questions : Bool → Axis → List Question
 plain_questions has a =
-    ask refusal.Kind (known a)
-    ∷ (ask refusal.Operation has
+    ask refusal.Operation has
     ∷ (ask refusal.Ends (ends a)
     ∷ (ask refusal.Order (in_order a)
     ∷ (ask refusal.ExcludedEnd (excludable a)
-    ∷ []))))
+    ∷ [])))
 
 -- and of those that kind 7 has: question 5 comes last
 abbrev pub axis_questions : Bool → Axis → List Question

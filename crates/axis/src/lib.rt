@@ -4,27 +4,25 @@
 
 ghost use Rattle.std.specs.Prelude.{◌≡◌, true, false, cond, pos, Ok};
 ghost use Rattle.asking.specs.Asking.{asked};
+ghost use Rattle.values.specs.declared.Kind.TheVariants.{Span};
 ghost use Rattle.values.specs.Values.{over_dates, is_duration, is_value};
 ghost use Rattle.values.specs.Differences.{nanoseconds_of, whole_days};
-ghost use Rattle.axis.specs.Axes.{axis_of, start, end, span_of, offset_of, excluded, closed};
-ghost use Rattle.axis.specs.Questions.{known, has_unmap, has_period, has_index, ends, in_order, excludable};
+ghost use Rattle.axis.specs.Axes.{axis_of, span_of, offset_of, closed};
+ghost use Rattle.axis.specs.Questions.{has_unmap, has_period, has_index, ends, in_order, excludable};
 ghost use Rattle.axis.specs.Questions.{near_zero, near_or_long};
 ghost use Rattle.axis.specs.Questions.{bold_hint, light_hint, hint_on, is_count, enough, is_pixel, pixels, differ, unmap_pixels};
 ghost use Rattle.axis.specs.Questions.{value_on, is_index, mappable, fits_i32, plain_questions, axis_questions};
 
 use asking::{Refusal, ask};
 use calendar::LAST_DAY;
-use values::Value;
+use values::{Kind, Value};
 
-// The end belongs to the axis where end_excluded is 0.
 #[derive(Clone, Copy)]
 pub struct Axis {
-    pub kind: i64,
-    pub start_head: i64,
-    pub start_tail: i64,
-    pub end_head: i64,
-    pub end_tail: i64,
-    pub end_excluded: i64,
+    pub kind: Kind,
+    pub start: Value,
+    pub end: Value,
+    pub end_excluded: bool,
 }
 
 // The pixels of start and of end.
@@ -54,6 +52,7 @@ pub enum Hint {
     Light(LightPoints),
 }
 
+// The axis of six numbers, and question 1. The end belongs to it where end_excluded is 0.
 pub fn axis_of(
     kind: i64,
     start_head: i64,
@@ -61,56 +60,35 @@ pub fn axis_of(
     end_head: i64,
     end_tail: i64,
     end_excluded: i64,
-) -> Axis
+) -> Result<Axis, Refusal>
     ensures { result ≡ axis_of kind start_head start_tail end_head end_tail end_excluded }
 {
-    Axis {
-        kind,
-        start_head,
-        start_tail,
-        end_head,
-        end_tail,
-        end_excluded,
-    }
-}
-
-pub fn start(a: Axis) -> Value
-    ensures { result ≡ start a }
-{
-    Value {
-        head: a.start_head,
-        tail: a.start_tail,
-    }
-}
-
-pub fn end(a: Axis) -> Value
-    ensures { result ≡ end a }
-{
-    Value {
-        head: a.end_head,
-        tail: a.end_tail,
-    }
-}
-
-// Question 1.
-pub fn known(a: Axis) -> bool
-    ensures { result ≡ known a }
-{
-    (1 <= a.kind) & (a.kind <= 8)
+    Ok(Axis {
+        kind: Kind::try_from(kind)?,
+        start: Value {
+            head: start_head,
+            tail: start_tail,
+        },
+        end: Value {
+            head: end_head,
+            tail: end_tail,
+        },
+        end_excluded: end_excluded != 0,
+    })
 }
 
 // Question 2 of unmapping.
 pub fn has_unmap(a: Axis) -> bool
     ensures { result ≡ has_unmap a }
 {
-    !values::is_duration(a.kind)
+    !a.kind.is_duration()
 }
 
 // Question 2 of the period.
 pub fn has_period(a: Axis) -> bool
     ensures { result ≡ has_period a }
 {
-    ((4 <= a.kind) & (a.kind <= 4)) | ((7 <= a.kind) & (a.kind <= 7))
+    matches!(a.kind, Kind::Stamp | Kind::Span)
 }
 
 // Question 2 of indices, size, next, previous, values and segments.
@@ -124,34 +102,24 @@ pub fn has_index(a: Axis) -> bool
 fn ends(a: Axis) -> bool
     ensures { result ≡ ends a }
 {
-    values::is_value(a.kind, start(a)) & values::is_value(a.kind, end(a))
+    values::is_value(a.kind, a.start) & values::is_value(a.kind, a.end)
 }
 
 // Question 4. Most axes tell by the heads.
 fn in_order(a: Axis) -> bool
     ensures { result ≡ in_order a }
 {
-    if a.start_head < a.end_head {
+    if a.start.head < a.end.head {
         return true;
     }
-    start(a) <= end(a)
-}
-
-// Does the end not belong to the axis?
-fn excluded(a: Axis) -> bool
-    ensures { result ≡ excluded a }
-{
-    a.end_excluded != 0
+    a.start <= a.end
 }
 
 // Question 14.
 fn excludable(a: Axis) -> bool
     ensures { result ≡ excludable a }
 {
-    if !excluded(a) {
-        return true;
-    }
-    (((1 <= a.kind) & (a.kind <= 3)) | ((8 <= a.kind) & (a.kind <= 8))) & (end(a) != start(a))
+    !a.end_excluded | (a.kind.over_dates() & (a.end != a.start))
 }
 
 // The axis by which an axis counts and lists: the one that ends a day earlier, where the end is excluded.
@@ -159,17 +127,17 @@ pub fn closed(a: Axis) -> Axis
     requires { ends a ≡ true }
     ensures { result ≡ closed a }
 {
-    if !excluded(a) {
+    if !a.end_excluded {
         return a;
     }
-    axis_of(
-        a.kind,
-        a.start_head,
-        a.start_tail,
-        a.end_head - 1,
-        a.end_tail,
-        0,
-    )
+    Axis {
+        end: Value {
+            head: a.end.head - 1,
+            tail: a.end.tail,
+        },
+        end_excluded: false,
+        ..a
+    }
 }
 
 // From start to end, in nanoseconds.
@@ -177,7 +145,7 @@ pub fn span(a: Axis) -> Option<i64>
     requires { ends a ≡ true }
     ensures { result ≡ nanoseconds_of (span_of a) }
 {
-    values::nanoseconds_between(a.kind, start(a), end(a))
+    values::nanoseconds_between(a.kind, a.start, a.end)
 }
 
 // From start to end, in whole days.
@@ -185,7 +153,7 @@ pub fn span_days(a: Axis) -> i64
     requires { ends a ≡ true }
     ensures { result ≡ whole_days (span_of a) }
 {
-    values::whole_days_between(a.kind, start(a), end(a))
+    values::whole_days_between(a.kind, a.start, a.end)
 }
 
 // From start to v, in nanoseconds.
@@ -193,7 +161,7 @@ pub fn offset(a: Axis, v: Value) -> Option<i64>
     requires { (ends a ≡ true) × (value_on a v ≡ true) }
     ensures { result ≡ nanoseconds_of (offset_of a v) }
 {
-    values::nanoseconds_between(a.kind, start(a), v)
+    values::nanoseconds_between(a.kind, a.start, v)
 }
 
 // From start to v, in whole days.
@@ -201,12 +169,12 @@ pub fn offset_days(a: Axis, v: Value) -> i64
     requires { (ends a ≡ true) × (value_on a v ≡ true) }
     ensures { result ≡ whole_days (offset_of a v) }
 {
-    values::whole_days_between(a.kind, start(a), v)
+    values::whole_days_between(a.kind, a.start, v)
 }
 
 // Is a duration within 4 × 10^18 ns, that is 4 × 10^9 s, of zero?
 fn near_zero(v: Value) -> bool
-    requires { is_value (pos 7) v ≡ true }
+    requires { is_value Span v ≡ true }
     ensures { result ≡ near_zero v }
 {
     let most = Value {
@@ -221,10 +189,10 @@ fn near_or_long(a: Axis) -> bool
     requires { (ends a ≡ true) × (in_order a ≡ true) }
     ensures { result ≡ near_or_long a }
 {
-    if !values::is_duration(a.kind) {
+    if !a.kind.is_duration() {
         return true;
     }
-    if near_zero(start(a)) & near_zero(end(a)) {
+    if near_zero(a.start) & near_zero(a.end) {
         return true;
     }
     span(a).is_none()
@@ -241,7 +209,7 @@ fn is_count(n: i64) -> bool
 fn enough(a: Axis, n: i64) -> bool
     ensures { result ≡ enough a n }
 {
-    !((4 <= a.kind) & (a.kind <= 7)) | (1 <= n)
+    a.kind.over_dates() | (1 <= n)
 }
 
 // Question 6 of a bold hint.
@@ -314,10 +282,10 @@ pub fn is_index(i: i64) -> bool
 pub fn mappable(a: Axis, v: Value) -> bool
     ensures { result ≡ mappable a v }
 {
-    if a.start_head < a.end_head {
+    if a.start.head < a.end.head {
         return true;
     }
-    (start(a) < end(a)) | (v == start(a))
+    (a.start < a.end) | (v == a.start)
 }
 
 // Question 10 of a number.
@@ -328,23 +296,20 @@ pub fn fits_i32(n: i64) -> bool
 }
 
 // The most nanoseconds of a day that a value has.
-fn tail_most(kind: i64) -> i64
+fn tail_most(kind: Kind) -> i64
     ensures { result ≡ cond (over_dates kind) (pos 0) (pos 86399999999999) }
 {
-    if ((1 <= kind) & (kind <= 3)) | ((8 <= kind) & (kind <= 8)) {
-        return 0;
-    }
-    86399999999999
+    if kind.over_dates() { 0 } else { 86399999999999 }
 }
 
 // Question 3 of days: the kinds but 7 differ in the nanoseconds alone.
 fn day_ends(a: Axis) -> bool
-    requires { (known a ≡ true) × (is_duration a.kind ≡ false) }
+    requires { is_duration a.kind ≡ false }
     ensures { result ≡ ends a }
 {
     let most = tail_most(a.kind);
-    (calendar::is_day(a.start_head) & ((0 <= a.start_tail) & (a.start_tail <= most)))
-        & (calendar::is_day(a.end_head) & ((0 <= a.end_tail) & (a.end_tail <= most)))
+    (calendar::is_day(a.start.head) & ((0 <= a.start.tail) & (a.start.tail <= most)))
+        & (calendar::is_day(a.end.head) & ((0 <= a.end.tail) & (a.end.tail <= most)))
 }
 
 // The questions of an axis; has: the kind has the operation, and then it is not 7. Each is tested just where it is asked, with
@@ -353,9 +318,6 @@ pub fn ask_plain(a: Axis, has: bool) -> Result<(), Refusal>
     requires { has ≡ true → is_duration a.kind ≡ false }
     ensures { result ≡ asked (plain_questions has a) (Ok tt) }
 {
-    if !known(a) {
-        return Err(Refusal::Kind);
-    }
     if !has {
         return Err(Refusal::Operation);
     }
@@ -377,10 +339,10 @@ fn usual_durations(a: Axis) -> bool
         × (near_or_long a ≡ true) }
 {
     in_order(a)
-        & (-4000000000 <= a.start_head)
-        & (a.end_head < 4000000000)
-        & ((0 <= a.start_tail) & (a.start_tail <= 999999999))
-        & ((0 <= a.end_tail) & (a.end_tail <= 999999999))
+        & (-4000000000 <= a.start.head)
+        & (a.end.head < 4000000000)
+        & ((0 <= a.start.tail) & (a.start.tail <= 999999999))
+        & ((0 <= a.end.tail) & (a.end.tail <= 999999999))
 }
 
 // The questions of durations, one line for each. Question 5 is asked of real values in order.
@@ -401,7 +363,7 @@ fn ask_usual_durations(a: Axis, has: bool) -> Result<(), Refusal>
     requires { is_duration a.kind ≡ true }
     ensures { result ≡ asked (axis_questions has a) (Ok tt) }
 {
-    if excluded(a) {
+    if a.end_excluded {
         return ask_durations(a, has);
     }
     if has & usual_durations(a) {
@@ -414,7 +376,7 @@ fn ask_usual_durations(a: Axis, has: bool) -> Result<(), Refusal>
 pub fn ask_axis(a: Axis, has: bool) -> Result<(), Refusal>
     ensures { result ≡ asked (axis_questions has a) (Ok tt) }
 {
-    if values::is_duration(a.kind) {
+    if a.kind.is_duration() {
         return ask_usual_durations(a, has);
     }
     ask_plain(a, has)

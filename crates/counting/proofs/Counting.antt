@@ -1,74 +1,109 @@
 -- What an axis over dates or date-times tells of its ends and of a value on it, in numbers that `omega` reads.
 -- Assumes nothing.
-use mathlib.Core.Path.{◌≡◌, refl, ap, ◌∙◌}
-use mathlib.Core.Logic.{inl, inr}
-use mathlib.Core.Bool.{Bool, true, false, cond, ◌&&◌, ◌||◌}
+use mathlib.Core.Path.{◌≡◌, refl, sym, ap}
+use mathlib.Core.Logic.{◌⊎◌, inl, inr}
+use mathlib.Core.Bool.{Bool, true, false, cond, true≢false}
 use Prim.Native.Nat.{ℕ, ◌+◌, ◌-◌, ◌*◌, ◌/◌, ◌≤◌, ◌<◌}
 use native.Mathlib.Decide.{dec_le}
 use native.Mathlib.Omega.{arith}
 use lib.Dec.{ltb}
 use borrow.Author.Tests.{ltb-false, not-true}
 use lib.IntN.{ℤ, pos}
-use lib.Signed.{lt_z, le_z}
-use Rattle.laws.specs.Numbers.{within, pos_part, neg_part}
+use lib.Signed.{lt_z}
+use Rattle.laws.specs.Numbers.{pos_part, neg_part}
 use Rattle.asking.specs.Asking.{passes}
 use Rattle.asking.proofs.Asked.{told}
-use Rattle.laws.proofs.Signed.{le_true, is_ge}
-use Rattle.laws.proofs.Tests.{both_true, either_false, bit}
+use Rattle.laws.proofs.Signed.{is_ge}
+use Rattle.laws.proofs.Tests.{either_false, bit}
 use Rattle.calendar.specs.declared.Date.{Date}
 use Rattle.calendar.specs.Gregorian.{date_of}
 use Rattle.calendar.specs.Questions.{is_day}
+use Rattle.values.specs.declared.Kind.{Kind}
+use Rattle.values.specs.declared.Kind.TheVariants as kind
 use Rattle.values.specs.declared.Value.{Value}
 use Rattle.weeks.specs.Weeks.{mondays_to}
 use Rattle.weeks.proofs.Mondays.{mondays_to_law}
-use Rattle.values.specs.Values.{over_dates, is_duration}
-use Rattle.values.proofs.Numbers.{is_le, is_gt, either_true, or_true}
+use Rattle.values.specs.Values.{over_dates, is_stamp, is_duration}
+use Rattle.values.proofs.Numbers.{is_le}
 use Rattle.values.proofs.Values.{dates_no_duration, DayValue, date_value, day_value}
 use Rattle.axis.specs.declared.Axis.{Axis}
-use Rattle.axis.specs.Axes.{start, end, closed}
-use Rattle.axis.specs.Questions.{is_kind, known, has_period, has_index, has_unmap, ends, value_on, plain_questions}
+use Rattle.axis.specs.Axes.{closed}
+use Rattle.axis.specs.Questions.{has_period, has_index, has_unmap, ends, value_on, plain_questions}
 use Rattle.axis.proofs.Axes.{both_ends}
 use Rattle.axis.proofs.ClosedAxes.{same_kind, plain_passed}
 use Rattle.counting.specs.Counting.{Dated, monthly, yearly, weekly, from_day, to_day, first_date, date_on, origin, position}
-use Rattle.counting.specs.Counting.{size_of}
+use Rattle.counting.specs.Counting.{counts_months, counts_years, counts_weeks, size_of}
 use Rattle.counting.proofs.Sizes.{size_is}
 use Rattle.counting.proofs.Dates.{ranges, year_9999, year_onward}
 
 -- ---- kinds
--- a kind of at most 6 is over dates or date-times
-below_seven : (a : Axis) (m : ℕ) → m ≤ 6 → le_z a.kind (pos m) ≡ true → is_duration a.kind ≡ false
-below_seven a m h e =
-    let l = le_true a.kind (pos m) e in
-    ap (λ (b : Bool). b && le_z a.kind (pos 7)) (is_gt (pos 7) a.kind (omega arith))
+months : (k : Kind) → counts_months k ≡ true → is_duration k ≡ false
+months kind.Date e = absurd (true≢false (sym e))
+months kind.Month e = refl
+months kind.Year e = absurd (true≢false (sym e))
+months kind.Stamp e = absurd (true≢false (sym e))
+months kind.StampMonth e = refl
+months kind.StampYear e = absurd (true≢false (sym e))
+months kind.Span e = absurd (true≢false (sym e))
+months kind.Week e = absurd (true≢false (sym e))
 
--- kind 1
-pub one_dates : (a : Axis) → known a ≡ true → le_z a.kind (pos 1) ≡ true → over_dates a.kind ≡ true
-unfolding known over_dates
-one_dates a k e =
-    let l = (both_true (le_z (pos 1) a.kind) (le_z a.kind (pos 8)) k).0 in
-    rw (l, is_le a.kind (pos 3) (omega (arith, le_true a.kind (pos 1) e)))
+years : (k : Kind) → counts_years k ≡ true → is_duration k ≡ false
+years kind.Date e = absurd (true≢false (sym e))
+years kind.Month e = absurd (true≢false (sym e))
+years kind.Year e = refl
+years kind.Stamp e = absurd (true≢false (sym e))
+years kind.StampMonth e = absurd (true≢false (sym e))
+years kind.StampYear e = refl
+years kind.Span e = absurd (true≢false (sym e))
+years kind.Week e = absurd (true≢false (sym e))
 
-either_kind : (a : Axis) (m n : ℕ) → m ≤ 6 → n ≤ 6 → is_kind m a || is_kind n a ≡ true → is_duration a.kind ≡ false
-either_kind a m n p q e =
-    elim (either_true (is_kind m a) (is_kind n a) e) [
-      | inl x ↦ below_seven a m p (both_true (le_z (pos m) a.kind) (le_z a.kind (pos m)) x).1
-      | inr x ↦ below_seven a n q (both_true (le_z (pos n) a.kind) (le_z a.kind (pos n)) x).1
-    ]
+weeks : (k : Kind) → counts_weeks k ≡ true → over_dates k ≡ true
+weeks kind.Date e = absurd (true≢false (sym e))
+weeks kind.Month e = absurd (true≢false (sym e))
+weeks kind.Year e = absurd (true≢false (sym e))
+weeks kind.Stamp e = absurd (true≢false (sym e))
+weeks kind.StampMonth e = absurd (true≢false (sym e))
+weeks kind.StampYear e = absurd (true≢false (sym e))
+weeks kind.Span e = absurd (true≢false (sym e))
+weeks kind.Week e = refl
 
 pub monthly_dated : (a : Axis) → monthly a ≡ true → is_duration a.kind ≡ false
 unfolding monthly
-monthly_dated a e = either_kind a 2 5 (omega arith) (omega arith) e
+monthly_dated a e = months a.kind e
 
 pub yearly_dated : (a : Axis) → yearly a ≡ true → is_duration a.kind ≡ false
 unfolding yearly
-yearly_dated a e = either_kind a 3 6 (omega arith) (omega arith) e
+yearly_dated a e = years a.kind e
 
 pub weekly_dates : (a : Axis) → weekly a ≡ true → over_dates a.kind ≡ true
-unfolding weekly over_dates
-weekly_dates a e = ap (λ (b : Bool). within (pos 1) a.kind (pos 3) || b) e ∙ or_true (within (pos 1) a.kind (pos 3))
+unfolding weekly
+weekly_dates a e = weeks a.kind e
 
 pub weekly_dated : (a : Axis) → weekly a ≡ true → is_duration a.kind ≡ false
 weekly_dated a e = dates_no_duration a.kind (weekly_dates a e)
+
+-- the arms of a match on the kind
+module _ (a : Axis) where
+  pub in_months : (a.kind ≡ kind.Month) ⊎ (a.kind ≡ kind.StampMonth) → monthly a ≡ true
+  unfolding monthly
+  in_months (inl e) = rw e
+  in_months (inr e) = rw e
+
+  pub in_years : (a.kind ≡ kind.Year) ⊎ (a.kind ≡ kind.StampYear) → (monthly a ≡ false) × (yearly a ≡ true)
+  unfolding monthly yearly
+  in_years (inl e) = (rw e, rw e)
+  in_years (inr e) = (rw e, rw e)
+
+  pub in_weeks : a.kind ≡ kind.Week → (monthly a ≡ false) × (yearly a ≡ false) × (weekly a ≡ true)
+  unfolding monthly yearly weekly
+  in_weeks e = (rw e, rw e, rw e)
+
+  pub in_days : (a.kind ≡ kind.Date) ⊎ ((a.kind ≡ kind.Stamp) ⊎ (a.kind ≡ kind.Span)) →
+      (monthly a ≡ false) × (yearly a ≡ false) × (weekly a ≡ false)
+  unfolding monthly yearly weekly
+  in_days (inl e) = (rw e, rw e, rw e)
+  in_days (inr (inl e)) = (rw e, rw e, rw e)
+  in_days (inr (inr e)) = (rw e, rw e, rw e)
 
 pub unmap_dated : (a : Axis) → has_unmap a ≡ true → is_duration a.kind ≡ false
 unfolding has_unmap
@@ -76,7 +111,7 @@ unmap_dated a e = not-true _ e
 
 pub index_dated : (a : Axis) → has_index a ≡ true → is_duration a.kind ≡ false
 unfolding has_index has_period
-index_dated a e = (either_false (is_kind 4 a) (is_duration a.kind) (not-true _ e)).1
+index_dated a e = (either_false (is_stamp a.kind) (is_duration a.kind) (not-true _ e)).1
 
 -- questions 2 and 3 of indices
 pub dated : (a : Axis) → has_index a ≡ true → ends a ≡ true → Dated a
@@ -132,31 +167,31 @@ near_next n h l = near_year n 10000 h most
 -- ---- the first day
 module _ (a : Axis) where
   -- it is the start's only within its first second
-  pub from_start : (pos_part a.start_head ≤ from_day a)
-      × (from_day a ≡ pos_part a.start_head → pos_part a.start_tail < 1000000000)
+  pub from_start : (pos_part a.start.head ≤ from_day a)
+      × (from_day a ≡ pos_part a.start.head → pos_part a.start.tail < 1000000000)
   unfolding from_day
-  from_start = go (ltb 0 (pos_part a.start_tail / 1000000000)) (ltb-false 0 (pos_part a.start_tail / 1000000000))
+  from_start = go (ltb 0 (pos_part a.start.tail / 1000000000)) (ltb-false 0 (pos_part a.start.tail / 1000000000))
     where
-      go : (b : Bool) → (b ≡ false → pos_part a.start_tail / 1000000000 ≤ 0) →
-          (pos_part a.start_head ≤ pos_part a.start_head + cond b 1 0)
-          × (pos_part a.start_head + cond b 1 0 ≡ pos_part a.start_head → pos_part a.start_tail < 1000000000)
+      go : (b : Bool) → (b ≡ false → pos_part a.start.tail / 1000000000 ≤ 0) →
+          (pos_part a.start.head ≤ pos_part a.start.head + cond b 1 0)
+          × (pos_part a.start.head + cond b 1 0 ≡ pos_part a.start.head → pos_part a.start.tail < 1000000000)
       go true f = (omega arith, λ e. omega arith)
       go false f = (omega arith, λ e. omega (arith, f refl))
 
   -- and no later than the day after
-  pub from_next : from_day a ≤ pos_part a.start_head + 1
+  pub from_next : from_day a ≤ pos_part a.start.head + 1
   unfolding from_day
-  from_next = let b = bit (ltb 0 (pos_part a.start_tail / 1000000000)) in omega arith
+  from_next = let b = bit (ltb 0 (pos_part a.start.tail / 1000000000)) in omega arith
 
-  pub from_date : pos_part a.start_tail ≡ 0 → from_day a ≡ pos_part a.start_head
+  pub from_date : pos_part a.start.tail ≡ 0 → from_day a ≡ pos_part a.start.head
   unfolding from_day
   from_date e = rw e (omega arith)
 
   -- on an axis over dates it is the start's
-  pub date_from : ends a ≡ true → over_dates a.kind ≡ true → from_day a ≡ pos_part a.start_head
-  date_from r d = from_date (ap pos_part (date_value a.kind (start a) (both_ends a r).first d).no_tail)
+  pub date_from : ends a ≡ true → over_dates a.kind ≡ true → from_day a ≡ pos_part a.start.head
+  date_from r d = from_date (ap pos_part (date_value a.kind a.start (both_ends a r).first d).no_tail)
 
-  pub to_is : to_day a ≡ pos_part a.end_head
+  pub to_is : to_day a ≡ pos_part a.end.head
   unfolding to_day
   to_is = refl
 
@@ -170,11 +205,11 @@ module _ (a : Axis) where
   unfolding origin
   origin_years m y = rw (m, y)
 
-  pub origin_weeks : monthly a ≡ false → yearly a ≡ false → weekly a ≡ true → origin a ≡ mondays_to (pos_part a.start_head)
+  pub origin_weeks : monthly a ≡ false → yearly a ≡ false → weekly a ≡ true → origin a ≡ mondays_to (pos_part a.start.head)
   unfolding origin
   origin_weeks m y w = rw (m, y, w)
 
-  pub origin_days : monthly a ≡ false → yearly a ≡ false → weekly a ≡ false → origin a ≡ pos_part a.start_head
+  pub origin_days : monthly a ≡ false → yearly a ≡ false → weekly a ≡ false → origin a ≡ pos_part a.start.head
   unfolding origin
   origin_days m y w = rw (m, y, w)
 
@@ -202,13 +237,13 @@ module _ (a : Axis) (d : Dated a) where
   unfolding value_on
   on_day v e = day_value a.kind v e d.dates
 
-  pub starts : DayValue (start a)
-  starts = day_value a.kind (start a) (both_ends a d.real).first d.dates
+  pub starts : DayValue a.start
+  starts = day_value a.kind a.start (both_ends a d.real).first d.dates
 
-  pub end_value : DayValue (end a)
-  end_value = day_value a.kind (end a) (both_ends a d.real).second d.dates
+  pub end_value : DayValue a.end
+  end_value = day_value a.kind a.end (both_ends a d.real).second d.dates
 
-  pub end_on : value_on a (end a) ≡ true
+  pub end_on : value_on a a.end ≡ true
   unfolding value_on
   end_on = (both_ends a d.real).second
 
@@ -235,10 +270,10 @@ module _ (a : Axis) (d : Dated a) where
   origin_least = go (monthly a) (yearly a) (weekly a)
     where
       go : (m y w : Bool) → 1 ≤ cond m (first_date a).month
-          (cond y (first_date a).year (cond w (mondays_to (pos_part a.start_head)) (pos_part a.start_head)))
+          (cond y (first_date a).year (cond w (mondays_to (pos_part a.start.head)) (pos_part a.start.head)))
       go true y w = first_near.month_least
       go false true w = first_near.year_least
-      go false false true = omega (arith, mondays_to_law (pos_part a.start_head), starts.head_least)
+      go false false true = omega (arith, mondays_to_law (pos_part a.start.head), starts.head_least)
       go false false false = starts.head_least
 
   pub position_most : (v : Value) → value_on a v ≡ true → position a v ≤ 3652059
@@ -253,4 +288,4 @@ module _ (a : Axis) (d : Dated a) where
       go false false false = (on_day v e).head_most
 
   pub size_most : size_of a ≤ 3652059
-  size_most = omega (arith, size_is a, position_most (end a) end_on, origin_least)
+  size_most = omega (arith, size_is a, position_most a.end end_on, origin_least)

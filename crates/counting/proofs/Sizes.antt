@@ -10,7 +10,6 @@ use Rattle.laws.proofs.Signed.{as_u64_law, le_true, le_false, add, sub, mul_up, 
 use Rattle.values.proofs.Numbers.{not_below, not_above}
 use Rattle.calendar.specs.declared.Date.{Date}
 use Rattle.axis.specs.declared.Axis.{Axis}
-use Rattle.axis.specs.Axes.{end}
 use Rattle.weeks.specs.Weeks.{mondays_to}
 use Rattle.counting.specs.Counting.{monthly, yearly, weekly, first_date, date_on, origin, position, larger, size_from}
 use Rattle.counting.specs.Counting.{month_size}
@@ -71,20 +70,20 @@ months_from s e =
     )))
 
 -- ---- the law
-pub size_is : (a : Axis) → size_of a ≡ position a (end a) + 1 - origin a
+pub size_is : (a : Axis) → size_of a ≡ position a a.end + 1 - origin a
 unfolding size_of position origin
 size_is a = go (monthly a) (yearly a) (weekly a)
   where
-    go : (m y w : Bool) → cond m (month_size (first_date a) (date_on (end a)))
-        (cond y (size_from (first_date a).year (date_on (end a)).year)
-        (cond w (size_from (mondays_to (pos_part a.start_head)) (mondays_to (pos_part a.end_head)))
-        (size_from (pos_part a.start_head) (pos_part a.end_head))))
-        ≡ cond m (12 * ((date_on (end a)).year - (first_date a).year) + (date_on (end a)).month)
-        (cond y (date_on (end a)).year (cond w (mondays_to (pos_part a.end_head)) (pos_part a.end_head)))
+    go : (m y w : Bool) → cond m (month_size (first_date a) (date_on a.end))
+        (cond y (size_from (first_date a).year (date_on a.end).year)
+        (cond w (size_from (mondays_to (pos_part a.start.head)) (mondays_to (pos_part a.end.head)))
+        (size_from (pos_part a.start.head) (pos_part a.end.head))))
+        ≡ cond m (12 * ((date_on a.end).year - (first_date a).year) + (date_on a.end).month)
+        (cond y (date_on a.end).year (cond w (mondays_to (pos_part a.end.head)) (pos_part a.end.head)))
         + 1
         - cond m (first_date a).month
-        (cond y (first_date a).year (cond w (mondays_to (pos_part a.start_head)) (pos_part a.start_head)))
-    go true y w = months_from (first_date a) (date_on (end a))
-    go false true w = from_to (first_date a).year (date_on (end a)).year
-    go false false true = from_to (mondays_to (pos_part a.start_head)) (mondays_to (pos_part a.end_head))
-    go false false false = from_to (pos_part a.start_head) (pos_part a.end_head)
+        (cond y (first_date a).year (cond w (mondays_to (pos_part a.start.head)) (pos_part a.start.head)))
+    go true y w = months_from (first_date a) (date_on a.end)
+    go false true w = from_to (first_date a).year (date_on a.end).year
+    go false false true = from_to (mondays_to (pos_part a.start.head)) (mondays_to (pos_part a.end.head))
+    go false false false = from_to (pos_part a.start.head) (pos_part a.end.head)

@@ -1,7 +1,7 @@
 -- How an axis counts: days on kind 1, months on 2 and 5, years on 3 and 6, Mondays on 8. Its first and its last day,
 -- where a value stands, and how many indices it has. Definitions only.
 -- A difference of counts is 0 where the Rust takes the larger of it and 0.
-use Rattle.std.specs.Prelude.{◌≡◌, Bool, true, false, cond, ◌||◌, ℕ, ◌+◌, ◌-◌, ◌*◌, ℤ, pos, ◌+ℤ◌, ◌-ℤ◌, ◌*ℤ◌}
+use Rattle.std.specs.Prelude.{◌≡◌, Bool, true, false, cond, ℕ, ◌+◌, ◌-◌, ◌*◌, ℤ, pos, ◌+ℤ◌, ◌-ℤ◌, ◌*ℤ◌}
 use Rattle.std.specs.Int.Signed.{le_z}
 use Rattle.laws.specs.Numbers.{minus, pos_part, as_u64}
 use Rattle.calendar.specs.declared.Date.{Date}
@@ -9,11 +9,12 @@ use Rattle.calendar.specs.declared.DateTime.{DateTime}
 use Rattle.calendar.specs.Gregorian.{date_of}
 use Rattle.calendar.specs.DateTimes.{date_floor, date_ceil}
 use Rattle.weeks.specs.Weeks.{mondays_to}
+use Rattle.values.specs.declared.Kind.{Kind}
+use Rattle.values.specs.declared.Kind.TheVariants as kind
 use Rattle.values.specs.declared.Value.{Value}
 use Rattle.values.specs.Values.{is_duration}
 use Rattle.axis.specs.declared.Axis.{Axis}
-use Rattle.axis.specs.Axes.{start, end}
-use Rattle.axis.specs.Questions.{is_kind, ends}
+use Rattle.axis.specs.Questions.{ends}
 
 -- an axis over dates or date-times, of which question 3 is answered
 pub record Dated (a : Axis) : Type 0 where
@@ -21,16 +22,30 @@ pub record Dated (a : Axis) : Type 0 where
   pub dates : is_duration a.kind ≡ false
 
 -- months are counted
+abbrev pub counts_months : Kind → Bool
+counts_months kind.Month = true
+counts_months kind.StampMonth = true
+counts_months k = false
+
 unfoldable pub monthly : Axis → Bool
-monthly a = is_kind 2 a || is_kind 5 a
+monthly a = counts_months a.kind
 
 -- years are counted
+abbrev pub counts_years : Kind → Bool
+counts_years kind.Year = true
+counts_years kind.StampYear = true
+counts_years k = false
+
 unfoldable pub yearly : Axis → Bool
-yearly a = is_kind 3 a || is_kind 6 a
+yearly a = counts_years a.kind
 
 -- weeks are counted, by their Mondays
+abbrev pub counts_weeks : Kind → Bool
+counts_weeks kind.Week = true
+counts_weeks k = false
+
 unfoldable pub weekly : Axis → Bool
-weekly a = is_kind 8 a
+weekly a = counts_weeks a.kind
 
 -- a date is the midnight of its day
 abbrev pub date_time : Value → DateTime
@@ -38,11 +53,11 @@ date_time v = record { day = pos_part v.head; nano = pos_part v.tail }
 
 -- date_ceil of the start, which may be 10000-01-01
 unfoldable pub from_day : Axis → ℕ
-from_day a = date_ceil (date_time (start a))
+from_day a = date_ceil (date_time a.start)
 
 -- date_floor of the end
 unfoldable pub to_day : Axis → ℕ
-to_day a = date_floor (date_time (end a))
+to_day a = date_floor (date_time a.end)
 
 -- the date from which months and years are counted
 unfoldable pub first_date : Axis → Date
@@ -57,8 +72,8 @@ unfoldable pub origin : Axis → ℕ
 origin a =
     cond (monthly a) (first_date a).month
     (cond (yearly a) (first_date a).year
-    (cond (weekly a) (mondays_to (pos_part a.start_head))
-    (pos_part a.start_head)))
+    (cond (weekly a) (mondays_to (pos_part a.start.head))
+    (pos_part a.start.head)))
 
 -- where a value stands. Months count from the first date's year on, and an earlier year counts as that year. A week is
 -- counted by the Monday on or before a date
@@ -87,7 +102,7 @@ month_size s e =
 -- by days, months, years or weeks
 unfoldable pub size_of : Axis → ℕ
 size_of a =
-    cond (monthly a) (month_size (first_date a) (date_on (end a)))
-    (cond (yearly a) (size_from (first_date a).year (date_on (end a)).year)
-    (cond (weekly a) (size_from (mondays_to (pos_part a.start_head)) (mondays_to (pos_part a.end_head)))
-    (size_from (pos_part a.start_head) (pos_part a.end_head))))
+    cond (monthly a) (month_size (first_date a) (date_on a.end))
+    (cond (yearly a) (size_from (first_date a).year (date_on a.end).year)
+    (cond (weekly a) (size_from (mondays_to (pos_part a.start.head)) (mondays_to (pos_part a.end.head)))
+    (size_from (pos_part a.start.head) (pos_part a.end.head))))

@@ -6,12 +6,12 @@ ghost use Rattle.std.specs.Prelude.{◌≡◌, true, ◌+◌, ◌*◌, ◌-◌, 
 ghost use Rattle.laws.specs.Numbers.{pos_part};
 ghost use Rattle.calendar.specs.Questions.{is_day};
 ghost use Rattle.axis.specs.Questions.{value_on};
-ghost use Rattle.counting.specs.Counting.{Dated, monthly, yearly, weekly, from_day, to_day, first_date, date_on};
+ghost use Rattle.counting.specs.Counting.{Dated, monthly, yearly, from_day, to_day, first_date, date_on};
 ghost use Rattle.counting.specs.Counting.{origin, position, size_of};
 
 use axis::Axis;
 use calendar::{Date, DateTime};
-use values::Value;
+use values::{Kind, Value};
 
 // Where an axis begins and where a value stands, in days, months, years or weeks.
 #[derive(Clone, Copy)]
@@ -20,25 +20,18 @@ pub struct Position {
     pub at: u64,
 }
 
-// Kinds 2 and 5.
+// Does an axis count months?
 pub fn monthly(a: Axis) -> bool
     ensures { result ≡ monthly a }
 {
-    ((2 <= a.kind) & (a.kind <= 2)) | ((5 <= a.kind) & (a.kind <= 5))
+    matches!(a.kind, Kind::Month | Kind::StampMonth)
 }
 
-// Kinds 3 and 6.
+// Does it count years?
 pub fn yearly(a: Axis) -> bool
     ensures { result ≡ yearly a }
 {
-    ((3 <= a.kind) & (a.kind <= 3)) | ((6 <= a.kind) & (a.kind <= 6))
-}
-
-// Kind 8.
-pub fn weekly(a: Axis) -> bool
-    ensures { result ≡ weekly a }
-{
-    (8 <= a.kind) & (a.kind <= 8)
+    matches!(a.kind, Kind::Year | Kind::StampYear)
 }
 
 // date_ceil of the start.
@@ -47,8 +40,8 @@ pub fn from_day(a: Axis) -> u64
     ensures { result ≡ from_day a }
 {
     calendar::date_ceil(DateTime {
-        day: calendar::as_count(a.start_head),
-        nano: calendar::as_count(a.start_tail),
+        day: calendar::as_count(a.start.head),
+        nano: calendar::as_count(a.start.tail),
     })
 }
 
@@ -57,7 +50,7 @@ pub fn to_day(a: Axis) -> u64
     requires { Dated a }
     ensures { result ≡ to_day a }
 {
-    calendar::as_count(a.end_head)
+    calendar::as_count(a.end.head)
 }
 
 // The day of a value, whatever its time is.
@@ -103,32 +96,26 @@ pub fn position_of(a: Axis, v: Value) -> Position
     requires { Dated a × (value_on a v ≡ true) }
     ensures { result ≡ record { from = origin a; at = position a v } }
 {
-    if monthly(a) {
-        let first = first_date(a);
-        return Position {
-            from: first.month,
-            at: months_from(first, date_on(v)),
-        };
-    }
-    if yearly(a) {
-        let first = first_date(a);
-        let date = date_on(v);
-        return Position {
-            from: first.year,
-            at: date.year,
-        };
-    }
-    let start = day_on(axis::start(a));
-    let day = day_on(v);
-    if weekly(a) {
-        return Position {
-            from: weeks::mondays_to(start),
-            at: weeks::mondays_to(day),
-        };
-    }
-    Position {
-        from: start,
-        at: day,
+    match a.kind {
+        Kind::Month | Kind::StampMonth => {
+            let first = first_date(a);
+            Position {
+                from: first.month,
+                at: months_from(first, date_on(v)),
+            }
+        }
+        Kind::Year | Kind::StampYear => Position {
+            from: first_date(a).year,
+            at: date_on(v).year,
+        },
+        Kind::Week => Position {
+            from: weeks::mondays_to(day_on(a.start)),
+            at: weeks::mondays_to(day_on(v)),
+        },
+        Kind::Date | Kind::Stamp | Kind::Span => Position {
+            from: day_on(a.start),
+            at: day_on(v),
+        },
     }
 }
 
@@ -137,6 +124,6 @@ pub fn size_of(a: Axis) -> u64
     requires { Dated a }
     ensures { result ≡ size_of a }
 {
-    let p = position_of(a, axis::end(a));
+    let p = position_of(a, a.end);
     (p.at + 1).saturating_sub(p.from)
 }

@@ -14,7 +14,7 @@ use Rattle.asking.proofs.Asked.{told, fewer, answered_ok}
 use Rattle.calendar.specs.Questions.{last_day}
 use Rattle.values.specs.declared.Value.{Value}
 use Rattle.axis.specs.declared.Axis.{Axis}
-use Rattle.axis.specs.Axes.{end, closed}
+use Rattle.axis.specs.Axes.{closed}
 use Rattle.axis.specs.Questions.{ends, has_index, value_on, is_index}
 use Rattle.axis.proofs.Questions.{index_range}
 use Rattle.counting.specs.Counting.{Dated, origin, position, size_of}
@@ -80,10 +80,10 @@ module _ (a : Axis) (v : Value) where
   next_is h l = rw (le-leb (origin a) (position a v) h, lt-ltb (position a v - origin a + 1) (size_of a) l)
 
   -- the same by where the end stands
-  pub next_end : origin a ≤ position a v → position a (end a) ≤ position a v → next_in a v ≡ None
+  pub next_end : origin a ≤ position a v → position a a.end ≤ position a v → next_in a v ≡ None
   next_end h l = next_last h (omega (arith, size_is a))
 
-  pub next_inside : origin a ≤ position a v → position a v < position a (end a) →
+  pub next_inside : origin a ≤ position a v → position a v < position a a.end →
       next_in a v ≡ Some (value_at a (position a v - origin a + 1))
   next_inside h l = next_is h (omega (arith, size_is a))
 

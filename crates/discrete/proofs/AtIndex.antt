@@ -17,7 +17,6 @@ use Rattle.values.specs.Values.{over_dates, is_value, midnight}
 use Rattle.calendar.specs.Questions.{is_day}
 use Rattle.values.proofs.Values.{of_dates, of_date_times, by_form}
 use Rattle.axis.specs.declared.Axis.{Axis}
-use Rattle.axis.specs.Axes.{start, end}
 use Rattle.axis.specs.Questions.{value_on}
 use Rattle.axis.proofs.Axes.{both_ends}
 use Rattle.counting.specs.Counting.{Dated, monthly, yearly, weekly, from_day, first_date, date_on, origin, position, size_of}
@@ -65,24 +64,24 @@ module _ (a : Axis) (c : Dated a) where
       ∙ ap (λ (x : ℕ). x + suc n) (sym (origin_months a m))
 
   -- the start is the value of a year only where that is the year of the first day
-  start_year : (i : ℕ) → day_number ((first_date a).year + i) 1 1 ≤ pos_part a.start_head → (date_on (start a)).year
+  start_year : (i : ℕ) → day_number ((first_date a).year + i) 1 1 ≤ pos_part a.start.head → (date_on a.start).year
       ≡ (first_date a).year + i
   unfolding date_on first_date
   start_year i h =
       let r = first_near a c in
       let f = from_start a in
       let g = from_next a in
-      let n = pos_part a.start_head in
+      let n = pos_part a.start.head in
       let late = begun ((first_date a).year + i) n (omega arith) h in
       let s : n + (from_day a - n) ≡ from_day a = omega arith in
       let early = rw s at (years_grow n (from_day a - n) (starts a c).head_least) in
       omega (arith, late, early)
 
   year_index : (i : ℕ) → monthly a ≡ false → yearly a ≡ true → position a (year_at a i) ≡ origin a + i
-  year_index i m y = elim (dec_le (day_number ((first_date a).year + i) 1 1) (pos_part a.start_head)) [
+  year_index i m y = elim (dec_le (day_number ((first_date a).year + i) 1 1) (pos_part a.start.head)) [
     | yes h ↦
         ap (position a) (year_start a i h)
-        ∙ position_years a (start a) m y
+        ∙ position_years a a.start m y
         ∙ start_year i h
         ∙ ap (λ (k : ℕ). k + i) (sym (origin_years a m y))
     | no h ↦ (
@@ -97,10 +96,10 @@ module _ (a : Axis) (c : Dated a) where
   week_index : (i : ℕ) → monthly a ≡ false → yearly a ≡ false → weekly a ≡ true → position a (week_at a i) ≡ origin a + i
   week_index zero m y w =
       ap (position a) (week_first a zero refl)
-      ∙ position_weeks a (start a) m y w
-      ∙ (let e : mondays_to (pos_part a.start_head) ≡ origin a + 0 = omega (arith, origin_weeks a m y w) in e)
+      ∙ position_weeks a a.start m y w
+      ∙ (let e : mondays_to (pos_part a.start.head) ≡ origin a + 0 = omega (arith, origin_weeks a m y w) in e)
   week_index (suc n) m y w =
-      let s = pos_part a.start_head in
+      let s = pos_part a.start.head in
       let t = monday s + 7 * suc n in
       let h = (starts a c).head_least in
       ap (position a) (week_later a (suc n) (λ z. omega arith))
@@ -109,8 +108,8 @@ module _ (a : Axis) (c : Dated a) where
       omega (arith, origin_weeks a m y w, mondays_to_law s, mondays_to_law t, monday_is s h) in e)
 
   day_index : (i : ℕ) → monthly a ≡ false → yearly a ≡ false → weekly a ≡ false →
-      position a (midnight (pos (pos_part a.start_head + i))) ≡ origin a + i
-  day_index i m y w = position_days a (midnight (pos (pos_part a.start_head + i))) m y w ∙ ap (λ (k : ℕ). k + i)
+      position a (midnight (pos (pos_part a.start.head + i))) ≡ origin a + i
+  day_index i m y w = position_days a (midnight (pos (pos_part a.start.head + i))) m y w ∙ ap (λ (k : ℕ). k + i)
       (sym (origin_days a m y w))
 
   -- THE LAW: a value stands at its index
@@ -124,33 +123,33 @@ module _ (a : Axis) (c : Dated a) where
       go false false false e f g = ap (position a) (value_days a i e f g) ∙ day_index i e f g
 
   -- ---- it is a value of the kind
-  start_is : is_value a.kind (start a) ≡ true
+  start_is : is_value a.kind a.start ≡ true
   start_is = (both_ends a c.real).first
 
   no_time : (v : Value) → v.tail ≡ pos 0 → is_day v.head ≡ true → is_value a.kind v ≡ true
   no_time v t d =
-      by_form a.kind (start a) start_is (λ e _. of_dates a.kind v e ∙ simp (d, t))
+      by_form a.kind a.start start_is (λ e _. of_dates a.kind v e ∙ simp (d, t))
       (λ e _. of_date_times a.kind v e ∙ simp (d, t)) (λ e _. absurd (true≢false (sym e ∙ c.dates)))
 
-  form : (i : ℕ) → (value_at a i ≡ start a) ⊎ ((value_at a i).tail ≡ pos 0)
+  form : (i : ℕ) → (value_at a i ≡ a.start) ⊎ ((value_at a i).tail ≡ pos 0)
   form i = go (monthly a) (yearly a) (weekly a) refl refl refl
     where
       months : (i : ℕ) → (month_at a i).tail ≡ pos 0
       months zero = ap (λ (v : Value). v.tail) (month_first a zero refl)
       months (suc n) = ap (λ (v : Value). v.tail) (month_later a (suc n) (λ z. omega arith))
 
-      years : (year_at a i ≡ start a) ⊎ ((year_at a i).tail ≡ pos 0)
-      years = elim (dec_le (day_number ((first_date a).year + i) 1 1) (pos_part a.start_head)) [
+      years : (year_at a i ≡ a.start) ⊎ ((year_at a i).tail ≡ pos 0)
+      years = elim (dec_le (day_number ((first_date a).year + i) 1 1) (pos_part a.start.head)) [
         | yes h ↦ inl (year_start a i h)
         | no h ↦ inr (ap (λ (v : Value). v.tail) (year_later a i (omega arith)))
       ]
 
-      weeks : (i : ℕ) → (week_at a i ≡ start a) ⊎ ((week_at a i).tail ≡ pos 0)
+      weeks : (i : ℕ) → (week_at a i ≡ a.start) ⊎ ((week_at a i).tail ≡ pos 0)
       weeks zero = inl (week_first a zero refl)
       weeks (suc n) = inr (ap (λ (v : Value). v.tail) (week_later a (suc n) (λ z. omega arith)))
 
       go : (m y w : Bool) → monthly a ≡ m → yearly a ≡ y → weekly a ≡ w →
-          (value_at a i ≡ start a) ⊎ ((value_at a i).tail ≡ pos 0)
+          (value_at a i ≡ a.start) ⊎ ((value_at a i).tail ≡ pos 0)
       go true y w e f g = rw (value_months a i e) (inr (months i))
       go false true w e f g = rw (value_years a i e f) years
       go false false true e f g = rw (value_weeks a i e f g) (weeks i)
@@ -178,10 +177,10 @@ module _ (a : Axis) (c : Dated a) where
       let t = first_date a in
       let k = suc n + (t.month - 1) in
       let r = first_near a c in
-      let e = on_near a c (end a) (end_on a c) in
+      let e = on_near a c a.end (end_on a c) in
       let y = first_year l in
-      let size : suc n < 12 * ((date_on (end a)).year - t.year) + (date_on (end a)).month + 1 - t.month =
-      rw (size_is a, position_months a (end a) m, origin_months a m) at h in
+      let size : suc n < 12 * ((date_on a.end).year - t.year) + (date_on a.end).month + 1 - t.month =
+      rw (size_is a, position_months a a.end m, origin_months a m) at h in
       let most : t.year + k / 12 ≤ 9999 = omega arith in
       rw (month_later a (suc n) (λ z. omega arith))
       (day_in (day_number (t.year + k / 12) (k % 12 + 1) 1) (first_least (t.year + k / 12) (k % 12 + 1) (omega arith)
@@ -189,39 +188,39 @@ module _ (a : Axis) (c : Dated a) where
       most))
 
   year_below : (i : ℕ) → monthly a ≡ false → yearly a ≡ true → i < size_of a → is_day (year_at a i).head ≡ true
-  year_below i m y h = elim (dec_le (day_number ((first_date a).year + i) 1 1) (pos_part a.start_head)) [
-    | yes l ↦ rw (year_start a i l) (is_day_law (start a) (starts a c))
+  year_below i m y h = elim (dec_le (day_number ((first_date a).year + i) 1 1) (pos_part a.start.head)) [
+    | yes l ↦ rw (year_start a i l) (is_day_law a.start (starts a c))
     | no l ↦ (
         let r = first_near a c in
-        let e = on_near a c (end a) (end_on a c) in
-        let size : i < (date_on (end a)).year + 1 - (first_date a).year =
-        rw (size_is a, position_years a (end a) m y, origin_years a m y) at h in
+        let e = on_near a c a.end (end_on a c) in
+        let size : i < (date_on a.end).year + 1 - (first_date a).year =
+        rw (size_is a, position_years a a.end m y, origin_years a m y) at h in
         rw (year_later a i (omega arith))
         (day_in (day_number ((first_date a).year + i) 1 1) (first_least ((first_date a).year + i) 1 (omega arith) (omega arith)
         (omega arith)) (first_most ((first_date a).year + i) 1 (omega arith) (omega arith) (omega arith) (omega arith))))
   ]
 
   week_below : (i : ℕ) → monthly a ≡ false → yearly a ≡ false → weekly a ≡ true → i < size_of a → is_day (week_at a i).head ≡ true
-  week_below zero m y w h = rw (week_first a zero refl) (is_day_law (start a) (starts a c))
+  week_below zero m y w h = rw (week_first a zero refl) (is_day_law a.start (starts a c))
   week_below (suc n) m y w l =
-      let s = pos_part a.start_head in
-      let e = on_day a c (end a) (end_on a c) in
-      let size : suc n < mondays_to (pos_part a.end_head) + 1 - mondays_to s =
-      rw (size_is a, position_weeks a (end a) m y w, origin_weeks a m y w) at l in
+      let s = pos_part a.start.head in
+      let e = on_day a c a.end (end_on a c) in
+      let size : suc n < mondays_to (pos_part a.end.head) + 1 - mondays_to s =
+      rw (size_is a, position_weeks a a.end m y w, origin_weeks a m y w) at l in
       let h = (starts a c).head_least in
       let is = monday_is s h in
       let from = mondays_to_law s in
-      let to = mondays_to_law (pos_part a.end_head) in
+      let to = mondays_to_law (pos_part a.end.head) in
       rw (week_later a (suc n) (λ z. omega arith)) (day_in (monday s + 7 * suc n) (omega arith) (omega arith))
 
   day_below : (i : ℕ) → monthly a ≡ false → yearly a ≡ false → weekly a ≡ false → i < size_of a →
-      is_day (pos (pos_part a.start_head + i)) ≡ true
+      is_day (pos (pos_part a.start.head + i)) ≡ true
   day_below i m y w h =
       let s = starts a c in
-      let e = on_day a c (end a) (end_on a c) in
-      let size : i < pos_part a.end_head + 1 - pos_part a.start_head =
-      rw (size_is a, position_days a (end a) m y w, origin_days a m y w) at h in
-      day_in (pos_part a.start_head + i) (omega arith) (omega arith)
+      let e = on_day a c a.end (end_on a c) in
+      let size : i < pos_part a.end.head + 1 - pos_part a.start.head =
+      rw (size_is a, position_days a a.end m y w, origin_days a m y w) at h in
+      day_in (pos_part a.start.head + i) (omega arith) (omega arith)
 
   pub below_size : Inside a → (i : ℕ) → i < size_of a → is_day (value_at a i).head ≡ true
   below_size l i h = go (monthly a) (yearly a) (weekly a) refl refl refl

@@ -13,7 +13,6 @@ use Rattle.weeks.specs.Weeks.{monday}
 use Rattle.values.specs.declared.Value.{Value}
 use Rattle.values.specs.Values.{midnight}
 use Rattle.axis.specs.declared.Axis.{Axis}
-use Rattle.axis.specs.Axes.{start}
 use Rattle.axis.specs.Questions.{value_on}
 use Rattle.calendar.proofs.Questions.{day_beyond}
 use Rattle.counting.specs.Counting.{Dated, monthly, yearly, weekly, from_day, first_date}
@@ -35,15 +34,15 @@ module _ (a : Axis) where
   value_weeks i m y w = rw (m, y, w)
 
   pub value_days : (i : ℕ) → monthly a ≡ false → yearly a ≡ false → weekly a ≡ false →
-      value_at a i ≡ midnight (pos (pos_part a.start_head + i))
+      value_at a i ≡ midnight (pos (pos_part a.start.head + i))
   unfolding value_at
   value_days i m y w = rw (m, y, w)
 
-  pub week_first : (i : ℕ) → i ≡ 0 → week_at a i ≡ start a
+  pub week_first : (i : ℕ) → i ≡ 0 → week_at a i ≡ a.start
   unfolding week_at
   week_first i e = rw (eq-eqb i 0 e)
 
-  pub week_later : (i : ℕ) → (i ≡ 0 → ⊥) → week_at a i ≡ midnight (pos (monday (pos_part a.start_head) + 7 * i))
+  pub week_later : (i : ℕ) → (i ≡ 0 → ⊥) → week_at a i ≡ midnight (pos (monday (pos_part a.start.head) + 7 * i))
   unfolding week_at
   week_later i e = rw (ne_eqb i 0 e)
 
@@ -57,18 +56,18 @@ module _ (a : Axis) where
   unfolding month_at
   month_later i e = rw (ne_eqb i 0 e)
 
-  pub january_start : (y : ℕ) → day_number y 1 1 ≤ pos_part a.start_head → january a y ≡ start a
+  pub january_start : (y : ℕ) → day_number y 1 1 ≤ pos_part a.start.head → january a y ≡ a.start
   unfolding january
-  january_start y h = rw (le-leb (day_number y 1 1) (pos_part a.start_head) h)
+  january_start y h = rw (le-leb (day_number y 1 1) (pos_part a.start.head) h)
 
-  pub january_later : (y : ℕ) → pos_part a.start_head < day_number y 1 1 → january a y ≡ midnight (pos (day_number y 1 1))
+  pub january_later : (y : ℕ) → pos_part a.start.head < day_number y 1 1 → january a y ≡ midnight (pos (day_number y 1 1))
   unfolding january
-  january_later y h = rw (lt-leb (day_number y 1 1) (pos_part a.start_head) h)
+  january_later y h = rw (lt-leb (day_number y 1 1) (pos_part a.start.head) h)
 
-  pub year_start : (i : ℕ) → day_number ((first_date a).year + i) 1 1 ≤ pos_part a.start_head → year_at a i ≡ start a
+  pub year_start : (i : ℕ) → day_number ((first_date a).year + i) 1 1 ≤ pos_part a.start.head → year_at a i ≡ a.start
   year_start i h = january_start ((first_date a).year + i) h
 
-  pub year_later : (i : ℕ) → pos_part a.start_head < day_number ((first_date a).year + i) 1 1 →
+  pub year_later : (i : ℕ) → pos_part a.start.head < day_number ((first_date a).year + i) 1 1 →
       year_at a i ≡ midnight (pos (day_number ((first_date a).year + i) 1 1))
   year_later i h = january_later ((first_date a).year + i) h
 
@@ -98,6 +97,6 @@ module _ (a : Axis) (d : Dated a) where
           let b = first_beyond y 1 (omega arith) (omega arith) (omega arith) (omega arith) in
           no_day (value_at a i) _ (value_years a i e f ∙ year_later a i (omega arith)) (day_beyond (day_number y 1 1) b)
       go false false true e f g = no_day (value_at a i) _ (value_weeks a i e f g ∙ week_later a i (λ z. omega arith))
-          (day_beyond (monday (pos_part a.start_head) + 7 * i) (omega arith))
+          (day_beyond (monday (pos_part a.start.head) + 7 * i) (omega arith))
       go false false false e f g =
-          no_day (value_at a i) _ (value_days a i e f g) (day_beyond (pos_part a.start_head + i) (omega arith))
+          no_day (value_at a i) _ (value_days a i e f g) (day_beyond (pos_part a.start.head + i) (omega arith))

@@ -1,6 +1,7 @@
 -- What users lean on: the index of the value of an index, next and previous, each of the other, and the walk of the
 -- cursor. All of them are said of what calls answer. Assumes nothing.
 use mathlib.Core.Path.{◌≡◌, refl, sym, ap, subst, ◌∙◌}
+use mathlib.Core.Logic.{inl}
 use mathlib.Core.Bool.{Bool, true, false, cond, ◌&&◌, true≢false}
 use mathlib.Core.List.{List, [], ◌∷◌}
 use Prim.Native.Nat.{ℕ, zero, suc, ◌+◌, ◌-◌, ◌≤◌, ◌<◌}
@@ -18,16 +19,17 @@ use Rattle.laws.specs.Numbers.{pos_part}
 use Rattle.laws.proofs.Signed.{same}
 use Rattle.weeks.specs.Weeks.{weekday, monday}
 use Rattle.weeks.proofs.Mondays.{same_week, weeks_on}
+use Rattle.values.specs.declared.Kind.TheVariants as kind
 use Rattle.values.specs.declared.Value.{Value}
 use Rattle.calendar.specs.Questions.{is_day}
 use Rattle.values.proofs.Numbers.{is_le}
 use Rattle.values.proofs.Values.{date_value}
 use Rattle.axis.specs.declared.Axis.{Axis}
-use Rattle.axis.specs.Axes.{start, closed}
+use Rattle.axis.specs.Axes.{closed}
 use Rattle.axis.specs.Questions.{is_index, value_on, checked, checked_if}
 use Rattle.axis.proofs.Questions.{index_range}
 use Rattle.axis.proofs.ClosedAxes.{same_kind, same_start}
-use Rattle.counting.specs.Counting.{Dated, monthly, yearly, weekly, from_day, origin, position, size_of}
+use Rattle.counting.specs.Counting.{Dated, monthly, from_day, origin, position, size_of}
 use Rattle.discrete.specs.Indices.{is_indexed, index_of, value_at}
 use Rattle.values.specs.Values.{over_dates, midnight}
 use Rattle.discrete.specs.Answers.{size_questions, value_questions, index_questions}
@@ -35,7 +37,7 @@ use Rattle.discrete.specs.Answers.{index_in, next_in, previous_in, value_in, ste
 use Rattle.discrete.specs.Answers.{from_index_answer, next_answer, previous_answer, values_answer}
 use Rattle.discrete.specs.Walking.{cursor_at, onward, walk, values_from, Inside}
 use Rattle.counting.proofs.Counting.{size_most, origin_days, position_days, position_weeks, starts, on_day, is_day_law}
-use Rattle.counting.proofs.Counting.{value_on_law}
+use Rattle.counting.proofs.Counting.{value_on_law, in_days, in_weeks}
 use Rattle.discrete.proofs.Indices as indices
 use Rattle.discrete.proofs.Indices.{value_months, value_weeks, value_days, month_first, week_first, week_later}
 use Rattle.asking.proofs.Asked.{fewer, passes_append, passed, answered_ok}
@@ -280,12 +282,12 @@ module _ (a : Axis) (n : ℕ) (size : size_answer a ≡ Ok n) (inside : Inside (
   few : n ≤ 3652059
   few = omega (arith, many, size_most (closed a) (counted a row))
 
-  in_days : (i : ℕ) → i < n → is_day (value_at (closed a) i).head ≡ true
-  in_days i h = below_size (closed a) (counted a row) inside i (omega (arith, many))
+  below_days : (i : ℕ) → i < n → is_day (value_at (closed a) i).head ≡ true
+  below_days i h = below_size (closed a) (counted a row) inside i (omega (arith, many))
 
   -- each place below the size has a value
   pub each : (i : ℕ) → i < n → from_index_answer a (pos i) ≡ Ok (value_at (closed a) i)
-  each i h = from_place a i row (omega (arith, few)) ∙ sym (in_range_law (value_at (closed a) i) (in_days i h))
+  each i h = from_place a i row (omega (arith, few)) ∙ sym (in_range_law (value_at (closed a) i) (below_days i h))
 
   -- one step gives it, and moves on by one place
   step_on : (i : ℕ) → i < n → values_answer a (cursor_at i) ≡ Ok (Some (value_at (closed a) i), cursor_at (i + 1))
@@ -294,7 +296,7 @@ module _ (a : Axis) (n : ℕ) (size : size_answer a ≡ Ok n) (inside : Inside (
       ap (stepped (cursor_at i))
       (sym (passed (index_questions a (pos i)) (checked_if (value_in (closed a) i)) (at_row a i row (omega (arith, few))))
       ∙ ap checked_if (value_is (closed a) i (omega (arith, many)))
-      ∙ sym (in_range_if (value_at (closed a) i) (in_days i h)))
+      ∙ sym (in_range_if (value_at (closed a) i) (below_days i h)))
 
   -- at and past the size there is none, and the cursor stays
   pub step_end : (i : ℕ) → n ≤ i → i ≤ 3652059 → values_answer a (cursor_at i) ≡ Ok (None, cursor_at i)
@@ -329,41 +331,33 @@ the_value a i (suc n) (suc j) d h =
     the_value a (i + 1) n j d (omega arith) ∙ ap (value_at a) e
 
 -- ---- on kind 1 every value from the start on is the value of its index, so that these laws hold of it too
-days_only : (a : Axis) → a.kind ≡ pos 1 → (monthly a ≡ false) × (yearly a ≡ false) × (weekly a ≡ false)
-unfolding monthly yearly weekly
-days_only a k = rw k (refl, refl, refl)
-
-no_tail : (a : Axis) (v : Value) → a.kind ≡ pos 1 → value_on a v ≡ true → v.tail ≡ pos 0
-unfolding value_on over_dates
+no_tail : (a : Axis) (v : Value) → a.kind ≡ kind.Date → value_on a v ≡ true → v.tail ≡ pos 0
+unfolding value_on
 no_tail a v k o = (date_value a.kind v o (rw k)).no_tail
 
-pub from_index_of : (a : Axis) (v : Value) (i : ℕ) → a.kind ≡ pos 1 → index_answer a v ≡ Ok (Some i) →
+pub from_index_of : (a : Axis) (v : Value) (i : ℕ) → a.kind ≡ kind.Date → index_answer a v ≡ Ok (Some i) →
     from_index_answer a (pos i) ≡ Ok v
 from_index_of a v i k has =
     let x = indexed a v i has in
-    let kind = same_kind a ∙ k in
-    let (m, y, u) = days_only (closed a) kind in
+    let date = same_kind a ∙ k in
+    let (m, y, u) = in_days (closed a) (inl date) in
     let c = counted a x.row in
     let d = on_day (closed a) c v x.on in
-    let here : pos_part (closed a).start_head + i ≡ pos_part v.head =
+    let here : pos_part (closed a).start.head + i ≡ pos_part v.head =
     omega (arith, x.at, x.from, origin_days (closed a) m y u, position_days (closed a) v m y u) in
-    let same-day : pos (pos_part (closed a).start_head + i) ≡ v.head =
-    same (pos (pos_part (closed a).start_head + i)) v.head (omega arith) in
+    let same-day : pos (pos_part (closed a).start.head + i) ≡ v.head =
+    same (pos (pos_part (closed a).start.head + i)) v.head (omega arith) in
     let e : value_at (closed a) i ≡ v =
-    value_days (closed a) i m y u ∙ (λ j. record { head = same-day j; tail = sym (no_tail (closed a) v kind x.on) j }) in
+    value_days (closed a) i m y u ∙ (λ j. record { head = same-day j; tail = sym (no_tail (closed a) v date x.on) j }) in
     from_place a i x.row (omega (arith, x.most)) ∙ ap checked e ∙ sym
     (in_range_law v (is_day_law v d))
 
 -- ---- on kind 8 the value of a date's index is in the date's week, and that is all: from day 3 to 10 the index of day 2 is
 -- 0 and gives day 3, the start, which is no Monday, and the index of day 10 is 1 and gives day 8
-weeks_only : (a : Axis) → a.kind ≡ pos 8 → (monthly a ≡ false) × (yearly a ≡ false) × (weekly a ≡ true)
-unfolding monthly yearly weekly
-weeks_only a k = rw k (refl, refl, refl)
-
-pub week_of_index : (a : Axis) (v w : Value) (i : ℕ) → a.kind ≡ pos 8 → index_answer a v ≡ Ok (Some i) →
+pub week_of_index : (a : Axis) (v w : Value) (i : ℕ) → a.kind ≡ kind.Week → index_answer a v ≡ Ok (Some i) →
     from_index_answer a (pos i) ≡ Ok w → monday (pos_part w.head) ≡ monday (pos_part v.head)
 week_of_index a v w i k has e =
-    let (m, y, u) = weeks_only (closed a) (same_kind a ∙ k) in
+    let (m, y, u) = in_weeks (closed a) (same_kind a ∙ k) in
     let x = indexed a v i has in
     let z = indexed a w i (index_of_from_index a (pos i) w e) in
     let c = counted a x.row in
@@ -372,21 +366,21 @@ week_of_index a v w i k has e =
     (omega (arith, x.at, x.from, z.at, z.from, position_weeks (closed a) v m y u, position_weeks (closed a) w m y u))
 
 -- index 0 gives the start, and every other one a Monday
-pub first_of_weeks : (a : Axis) (n : ℕ) → a.kind ≡ pos 8 → size_answer a ≡ Ok n →
-    from_index_answer a (pos 0) ≡ Ok (start a)
+pub first_of_weeks : (a : Axis) (n : ℕ) → a.kind ≡ kind.Week → size_answer a ≡ Ok n →
+    from_index_answer a (pos 0) ≡ Ok a.start
 first_of_weeks a n k size =
-    let (m, y, u) = weeks_only (closed a) (same_kind a ∙ k) in
+    let (m, y, u) = in_weeks (closed a) (same_kind a ∙ k) in
     let s = (sized a n size).0 in
     from_place a 0 s (omega arith)
     ∙ ap checked (value_weeks (closed a) 0 m y u ∙ week_first (closed a) 0 refl)
-    ∙ sym (in_range_law (start (closed a)) (is_day_law (start (closed a)) (starts (closed a) (counted a s))))
+    ∙ sym (in_range_law (closed a).start (is_day_law (closed a).start (starts (closed a) (counted a s))))
     ∙ ap Ok (same_start a)
 
-pub others_are_mondays : (a : Axis) (i : ℕ) (w : Value) → a.kind ≡ pos 8 → from_index_answer a (pos (suc i)) ≡ Ok w →
+pub others_are_mondays : (a : Axis) (i : ℕ) (w : Value) → a.kind ≡ kind.Week → from_index_answer a (pos (suc i)) ≡ Ok w →
     weekday (pos_part w.head) ≡ 1
 others_are_mondays a i w k e =
-    let (m, y, u) = weeks_only (closed a) (same_kind a ∙ k) in
+    let (m, y, u) = in_weeks (closed a) (same_kind a ∙ k) in
     let l = listed a (pos (suc i)) w e in
-    let s = pos_part (closed a).start_head in
+    let s = pos_part (closed a).start.head in
     let here = sym l.is ∙ value_weeks (closed a) (suc i) m y u ∙ week_later (closed a) (suc i) (λ z. omega arith) in
     rw here (weeks_on s (suc i) (starts (closed a) (counted a l.row)).head_least)

@@ -7,10 +7,11 @@ use Rattle.asking.specs.declared.Refusal.TheVariants as refusal
 use Rattle.asking.specs.Asking.{Question, ask, asked}
 use Rattle.laws.specs.Numbers.{pos_part}
 use Rattle.values.specs.declared.Value.{Value}
+use Rattle.values.specs.Values.{is_stamp}
 use Rattle.axis.specs.declared.Axis.{Axis}
 use Rattle.axis.specs.declared.Limits.{Limits}
 use Rattle.axis.specs.Axes.{closed}
-use Rattle.axis.specs.Questions.{is_kind, has_index, has_unmap, unmap_pixels, value_on, is_index, plain_questions}
+use Rattle.axis.specs.Questions.{has_index, has_unmap, unmap_pixels, value_on, is_index, plain_questions}
 use Rattle.axis.specs.Questions.{checked, checked_if}
 use Rattle.unmapping.specs.Unmapping.{unmap_coord}
 use Rattle.discrete.specs.declared.Cursor.{Cursor}
@@ -51,7 +52,7 @@ value_in a i = cond (ltb i (size_of a)) (Some (value_at a i)) None
 
 -- the value under a pixel: kind 4 counts nothing and goes by unmap_coord
 unfoldable pub value_under : Axis → Limits → ℤ → Value
-value_under a l p = cond (is_kind 4 a) (unmap_coord a l p) (value_at a (index_under a l p))
+value_under a l p = cond (is_stamp a.kind) (unmap_coord a l p) (value_at a (index_under a l p))
 
 -- ---- the operations: the questions are asked of an axis, the answer is of the axis by which it counts
 -- `size`

@@ -10,7 +10,6 @@ use Rattle.values.specs.declared.Value.{Value}
 use Rattle.values.specs.Values.{midnight}
 use Rattle.axis.specs.declared.Axis.{Axis}
 use Rattle.axis.specs.declared.Limits.{Limits}
-use Rattle.axis.specs.Axes.{start}
 use Rattle.counting.specs.Counting.{monthly, yearly, weekly, from_day, first_date, origin, position, size_of}
 
 -- a value that stands before the start has no index
@@ -30,7 +29,7 @@ month_at a i =
 -- January 1 of a year, or the start with its time where that is no earlier
 unfoldable pub january : Axis → ℕ → Value
 january a year =
-    let day = day_number year 1 1 in cond (leb day (pos_part a.start_head)) (start a) (midnight (pos day))
+    let day = day_number year 1 1 in cond (leb day (pos_part a.start.head)) a.start (midnight (pos day))
 
 -- the value of an index where years are counted
 abbrev pub year_at : Axis → ℕ → Value
@@ -38,7 +37,7 @@ year_at a i = january a ((first_date a).year + i)
 
 -- the Monday of a week after the start's; but index 0 is the start itself
 unfoldable pub week_at : Axis → ℕ → Value
-week_at a i = cond (eqb i 0) (start a) (midnight (pos (monday (pos_part a.start_head) + 7 * i)))
+week_at a i = cond (eqb i 0) a.start (midnight (pos (monday (pos_part a.start.head) + 7 * i)))
 
 -- the value of an index
 unfoldable pub value_at : Axis → ℕ → Value
@@ -46,7 +45,7 @@ value_at a i =
     cond (monthly a) (month_at a i)
     (cond (yearly a) (year_at a i)
     (cond (weekly a) (week_at a i)
-    (midnight (pos (pos_part a.start_head + i)))))
+    (midnight (pos (pos_part a.start.head + i)))))
 
 -- (offset as f64 * size as f64 / width as f64).floor() as usize
 unfoldable pub index_at : ℤ → ℕ → ℤ → ℕ

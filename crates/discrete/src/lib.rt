@@ -19,7 +19,7 @@ ghost use Rattle.discrete.specs.Answers.{from_index_answer, next_answer, previou
 use asking::{Refusal, ask};
 use axis::{Axis, Limits};
 use calendar::LAST_DAY;
-use values::Value;
+use values::{Kind, Value};
 
 // The place of the value that comes next.
 #[derive(Clone, Copy)]
@@ -77,8 +77,8 @@ fn january(a: Axis, year: u64) -> Result<Value, Refusal>
 {
     ask(Refusal::Range, year <= 9999)?;
     let day = calendar::day_number(year, 1, 1);
-    if day <= counting::day_on(axis::start(a)) {
-        return Ok(axis::start(a));
+    if day <= counting::day_on(a.start) {
+        return Ok(a.start);
     }
     at_midnight(day)
 }
@@ -96,11 +96,10 @@ fn week_at(a: Axis, i: u64) -> Result<Value, Refusal>
     requires { Dated a × (i ≤ last_day) }
     ensures { result ≡ checked (week_at a i) }
 {
-    let start = axis::start(a);
     if i == 0 {
-        return Ok(start);
+        return Ok(a.start);
     }
-    at_midnight(weeks::monday(counting::day_on(start)) + 7 * i)
+    at_midnight(weeks::monday(counting::day_on(a.start)) + 7 * i)
 }
 
 // The value of an index, and question 10 of it.
@@ -108,16 +107,12 @@ pub fn value_at(a: Axis, i: u64) -> Result<Value, Refusal>
     requires { Dated a × (i ≤ last_day) }
     ensures { result ≡ checked (value_at a i) }
 {
-    if counting::monthly(a) {
-        return month_at(a, i);
+    match a.kind {
+        Kind::Month | Kind::StampMonth => month_at(a, i),
+        Kind::Year | Kind::StampYear => year_at(a, i),
+        Kind::Week => week_at(a, i),
+        Kind::Date | Kind::Stamp | Kind::Span => at_midnight(counting::day_on(a.start) + i),
     }
-    if counting::yearly(a) {
-        return year_at(a, i);
-    }
-    if counting::weekly(a) {
-        return week_at(a, i);
-    }
-    at_midnight(counting::day_on(axis::start(a)) + i)
 }
 
 // The next month's first, up to the end's month. The first date is asked for once.
@@ -130,7 +125,7 @@ fn next_month(a: Axis, v: Value) -> Result<Option<Value>, Refusal>
     if at < first.month {
         return Ok(None);
     }
-    if counting::months_from(first, counting::date_on(axis::end(a))) <= at {
+    if counting::months_from(first, counting::date_on(a.end)) <= at {
         return Ok(None);
     }
     Ok(Some(month_start(first.year + at / 12, at % 12 + 1)?))
@@ -146,7 +141,7 @@ fn next_year(a: Axis, v: Value) -> Result<Option<Value>, Refusal>
     if date.year < first.year {
         return Ok(None);
     }
-    let last = counting::date_on(axis::end(a));
+    let last = counting::date_on(a.end);
     if last.year <= date.year {
         return Ok(None);
     }
@@ -160,10 +155,10 @@ fn next_week(a: Axis, v: Value) -> Result<Option<Value>, Refusal>
     ensures { result ≡ checked_if (next_in a v) }
 {
     let at = weeks::mondays_to(counting::day_on(v));
-    if at < weeks::mondays_to(counting::day_on(axis::start(a))) {
+    if at < weeks::mondays_to(counting::day_on(a.start)) {
         return Ok(None);
     }
-    if weeks::mondays_to(counting::day_on(axis::end(a))) <= at {
+    if weeks::mondays_to(counting::day_on(a.end)) <= at {
         return Ok(None);
     }
     Ok(Some(at_midnight(7 * at + 1)?))
@@ -176,10 +171,10 @@ fn next_day(a: Axis, v: Value) -> Result<Option<Value>, Refusal>
     ensures { result ≡ checked_if (next_in a v) }
 {
     let at = counting::day_on(v);
-    if at < counting::day_on(axis::start(a)) {
+    if at < counting::day_on(a.start) {
         return Ok(None);
     }
-    if counting::day_on(axis::end(a)) <= at {
+    if counting::day_on(a.end) <= at {
         return Ok(None);
     }
     Ok(Some(at_midnight(at + 1)?))
@@ -191,16 +186,12 @@ pub fn next_in(a: Axis, v: Value) -> Result<Option<Value>, Refusal>
     requires { Dated a × (value_on a v ≡ true) }
     ensures { result ≡ checked_if (next_in a v) }
 {
-    if counting::monthly(a) {
-        return next_month(a, v);
+    match a.kind {
+        Kind::Month | Kind::StampMonth => next_month(a, v),
+        Kind::Year | Kind::StampYear => next_year(a, v),
+        Kind::Week => next_week(a, v),
+        Kind::Date | Kind::Stamp | Kind::Span => next_day(a, v),
     }
-    if counting::yearly(a) {
-        return next_year(a, v);
-    }
-    if counting::weekly(a) {
-        return next_week(a, v);
-    }
-    next_day(a, v)
 }
 
 // The value of the index before.
@@ -260,10 +251,10 @@ fn value_under(a: Axis, l: Limits, p: i64) -> Result<Value, Refusal>
     requires { Unmappable a l p }
     ensures { result ≡ checked (value_under a l p) }
 {
-    if (4 <= a.kind) & (a.kind <= 4) {
-        return unmapping::unmap_coord(a, l, p);
+    match a.kind {
+        Kind::Stamp => unmapping::unmap_coord(a, l, p),
+        _ => unmap_in(a, l, p),
     }
-    unmap_in(a, l, p)
 }
 
 // The questions, one line for each.

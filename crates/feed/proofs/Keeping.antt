@@ -25,19 +25,21 @@ kept b p room n r e =
     cut (no l) = let m : n ≡ room = omega arith in rw m
 
 -- ---- how much of a chunk is left
--- some of a chunk that is not empty is read
-pub shorter : (b chunk rest after : List ℕ) → Ate b chunk (Some rest) after → length rest < length chunk
-shorter b chunk rest after h = by_end (ltb k (length chunk)) (ltb-true k (length chunk)) h.left
+-- it is the end of the chunk, and some of the chunk is read
+pub behind : (b chunk rest after : List ℕ) → Ate b chunk (Some rest) after → (length rest < length chunk)
+    × (rest ≡ drop (length chunk - length rest) chunk)
+behind b chunk rest after h = by_end (ltb k (length chunk)) (ltb-true k (length chunk)) h.left
   where
     k : ℕ
     k = until_of line_feed chunk
 
     by_end : (t : Bool) → (t ≡ true → k < length chunk) → Some rest ≡ cond t (Some (drop (k + 1) chunk)) None →
-        length rest < length chunk
+        (length rest < length chunk) × (rest ≡ drop (length chunk - length rest) chunk)
     by_end true l e =
         let q : rest ≡ drop (k + 1) chunk = cc in
         let n : length rest ≡ length chunk - (k + 1) = ap length q ∙ length-drop (k + 1) chunk in
-        omega (arith, l refl)
+        let m : length chunk - length rest ≡ k + 1 = omega (arith, l refl) in
+        (omega (arith, l refl), rw m q)
     by_end false l e = absurd (let z : ⊥ = cc in z)
 
 -- ---- where a chunk ends does not matter

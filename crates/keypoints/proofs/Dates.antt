@@ -88,7 +88,7 @@ dates_by from d n =
     go false false false e = few_is from d p
 
 -- ---- the law: an axis of dates lists the days between its ends, which are those of the axis a
-pub dates_same : (a b : Axis) (n : ℕ) → b.start_head ≡ pos (from_day a) → b.end_head ≡ pos (to_day a) →
+pub dates_same : (a b : Axis) (n : ℕ) → b.start.head ≡ pos (from_day a) → b.end.head ≡ pos (to_day a) →
     from_day a ≤ to_day a → date_key_points b n ≡ ticks (day_plan a n)
 unfolding date_key_points day_plan
 dates_same a b n s e o =

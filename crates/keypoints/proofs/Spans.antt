@@ -17,7 +17,6 @@ use Rattle.values.specs.declared.Value.{Value}
 use Rattle.values.specs.Values.{earlier, midnight}
 use Rattle.values.specs.Differences.{days_in, of_days}
 use Rattle.axis.specs.declared.Axis.{Axis}
-use Rattle.axis.specs.Axes.{start, end}
 use Rattle.axis.specs.Questions.{equals}
 use Rattle.period.specs.Ladders.{step_at, decimal_ladder, rare, first_fit}
 use Rattle.period.proofs.Search.{Come, come_first}
@@ -76,34 +75,34 @@ first_whole_law v = go (days_in v) (equals v (of_days (days_in v)))
 -- ---- the loop
 module _ (a : Axis) (n turns : ℕ) (l : Long a) (t : n + 30 ≤ turns) where
   abbrev first : ℤ
-  first = first_second (start a)
+  first = first_second a.start
 
   -- the seconds from the first tick to the end's head, and whether a tail stands after them
   abbrev left : ℕ
-  left = pos_part (a.end_head -ℤ first)
+  left = pos_part (a.end.head -ℤ first)
 
   abbrev tail : Bool
-  tail = lt_z (pos 0) a.end_tail
+  tail = lt_z (pos 0) a.end.tail
 
   apart : (x : ℕ) →
-      pos_part (first +ℤ pos x) + neg_part a.end_head + left ≡ x + pos_part a.end_head + neg_part (first +ℤ pos x)
-  apart x = omega (arith, add first (pos x), sub a.end_head first, left_dn a l)
+      pos_part (first +ℤ pos x) + neg_part a.end.head + left ≡ x + pos_part a.end.head + neg_part (first +ℤ pos x)
+  apart x = omega (arith, add first (pos x), sub a.end.head first, left_dn a l)
 
-  goes : (x : ℕ) → x < seconds_left a → earlier (midnight (first +ℤ pos x)) (end a) ≡ true
+  goes : (x : ℕ) → x < seconds_left a → earlier (midnight (first +ℤ pos x)) a.end ≡ true
   unfolding seconds_left
   goes x =
       let v = midnight (first +ℤ pos x) in
-      choose (λ (k : ℕ). x < left + k → earlier v (end a) ≡ true) tail
-      (λ e h. earlier_yes v (end a) (inr (omega (arith, apart x), omega (arith, lt_true (pos 0) a.end_tail e))))
-      (λ e h. earlier_yes v (end a) (inl (omega (arith, apart x))))
+      choose (λ (k : ℕ). x < left + k → earlier v a.end ≡ true) tail
+      (λ e h. earlier_yes v a.end (inr (omega (arith, apart x), omega (arith, lt_true (pos 0) a.end.tail e))))
+      (λ e h. earlier_yes v a.end (inl (omega (arith, apart x))))
 
-  stops : (x : ℕ) → seconds_left a ≤ x → earlier (midnight (first +ℤ pos x)) (end a) ≡ false
+  stops : (x : ℕ) → seconds_left a ≤ x → earlier (midnight (first +ℤ pos x)) a.end ≡ false
   unfolding seconds_left
   stops x =
       let v = midnight (first +ℤ pos x) in
-      choose (λ (k : ℕ). left + k ≤ x → earlier v (end a) ≡ false) tail
-      (λ e h. earlier_no v (end a) (inl (omega (arith, apart x))))
-      (λ e h. earlier_no v (end a) (inr (omega (arith, apart x), omega (arith, lt_false (pos 0) a.end_tail e))))
+      choose (λ (k : ℕ). left + k ≤ x → earlier v a.end ≡ false) tail
+      (λ e h. earlier_no v a.end (inl (omega (arith, apart x))))
+      (λ e h. earlier_no v a.end (inr (omega (arith, apart x), omega (arith, lt_false (pos 0) a.end.tail e))))
 
   by_days_law : (f : ℕ) → 0 < f → seconds_left a ≤ (n + 1) * (seconds_per_day * f) →
       whole_days_by turns a f
@@ -118,15 +117,15 @@ module _ (a : Axis) (n turns : ℕ) (l : Long a) (t : n + 30 ≤ turns) where
       (λ x h. rw (div-one x, mod-one x) (goes x h))
       (λ x h. rw (div-one x, mod-one x) (stops x h))
       (λ x. rw (div-one x, mod-one x, div-one (x + k), mod-one (x + k), +ℤ_assoc first (pos x) (pos k)))
-      turns (first_whole (start a)) (rw (first_whole_law (start a), +ℤ_idr first))
+      turns (first_whole a.start) (rw (first_whole_law a.start, +ℤ_idr first))
       (omega (arith, few_steps (seconds_left a - 0) k n above c))
 
   -- ---- the law
-  pub whole_days_same : whole_days_by turns a (days_per_tick turns (days_in (end a) -ℤ days_in (start a)) n 1 0)
+  pub whole_days_same : whole_days_by turns a (days_per_tick turns (days_in a.end -ℤ days_in a.start) n 1 0)
       ≡ ticks (span_days_plan a n)
   unfolding span_days_plan
   whole_days_same =
-      let total = days_in (end a) -ℤ days_in (start a) in
+      let total = days_in a.end -ℤ days_in a.start in
       let (small, fits) = total_range a l in
       let e = pos_up total (total_dn a l) in
       let f = first_fit (pos_part total) n in

@@ -13,12 +13,13 @@ use Rattle.std.specs.Prelude.{Some}
 use Rattle.laws.specs.Numbers.{pos_part, neg_part, as_u64}
 use Rattle.laws.specs.Units.{per_second, per_day}
 use Rattle.laws.proofs.Signed.{add, sub, same, lt_true, lt_false}
+use Rattle.values.specs.declared.Kind.TheVariants.{Span}
 use Rattle.values.specs.declared.Value.{Value}
 use Rattle.values.specs.Values.{is_duration, earlier, midnight}
 use Rattle.values.specs.Differences.{unit, nanoseconds}
 use Rattle.values.proofs.Joining.{Before, is_earlier, not_earlier, joint}
 use Rattle.axis.specs.declared.Axis.{Axis}
-use Rattle.axis.specs.Axes.{start, end, span_of}
+use Rattle.axis.specs.Axes.{span_of}
 use Rattle.steps.specs.declared.Steps.{Steps}
 use Rattle.steps.specs.Progression.{fitting, tick_of_number, tick_of, ticks}
 use Rattle.steps.specs.Promise.{Later, by_head, by_tail}
@@ -55,17 +56,17 @@ before s l (by_tail e q) = inr (omega (arith, ap pos_part e, ap neg_part e), ome
 -- ---- a loop whose values are the ticks of a progression
 module _ (a : Axis) (s : Steps) (l : ℕ) (next : Value → Value) (p : 0 < s.step)
     (all : s.count ≡ fitting (l - s.first) s.step)
-    (goes : (x : ℕ) → x < l → earlier (tick_of_number s x) (end a) ≡ true)
-    (stops : (x : ℕ) → l ≤ x → earlier (tick_of_number s x) (end a) ≡ false)
+    (goes : (x : ℕ) → x < l → earlier (tick_of_number s x) a.end ≡ true)
+    (stops : (x : ℕ) → l ≤ x → earlier (tick_of_number s x) a.end ≡ false)
     (step : (x : ℕ) → next (tick_of_number s x) ≡ tick_of_number s (x + s.step)) where
   pub walk_is : (turns : ℕ) (first : Value) → first ≡ tick_of_number s s.first → s.count < turns →
-      while turns (λ v. earlier v (end a)) (λ v. v) next first ≡ ticks s
+      while turns (λ v. earlier v a.end) (λ v. v) next first ≡ ticks s
   walk_is turns first q t =
       let f = s.first in
       let k = s.step in
       let z : f + 0 * k ≡ f = omega arith in
       let far : l ≤ f + s.count * k = rw all (omega (arith, all_fit (l - f) k p)) in
-      rw q (rw z at (while_is (λ (v : Value). earlier v (end a)) (λ (v : Value). v) next (tick_of s) (tick_of s) s.count
+      rw q (rw z at (while_is (λ (v : Value). earlier v a.end) (λ (v : Value). v) next (tick_of s) (tick_of s) s.count
       (λ i h. goes (f + i * k) (omega (arith, inside (l - f) k i p (rw all at h))))
       (stops (f + s.count * k) far)
       (λ i h. refl)
@@ -161,15 +162,16 @@ module _ (k : ℕ) (p : 0 < k) where
       moved (negsuc x) false e = rw (neg_ℤ-neg_ℤ (pos (suc x % k)), turned_size (suc x % k))
 
   first_duration : (v : Value) → neg_part v.tail ≡ 0 →
-      duration_of (aligned (nanoseconds (pos 7) v) k)
-      ≡ counted v.head per_second (pos_part v.tail + shift_of (nanoseconds (pos 7) v) k)
+      duration_of (aligned (nanoseconds Span v) k)
+      ≡ counted v.head per_second (pos_part v.tail + shift_of (nanoseconds Span v) k)
   unfolding nanoseconds
   first_duration v z =
-      let n = nanoseconds (pos 7) v in
+      let n = nanoseconds Span v in
       rw (aligned_is n) (duration_at v.head v.tail (shift_of n k) z)
 
 -- ---- the laws
-module _ (a : Axis) (n turns : ℕ) (q : Accepted a n) (some : 1 ≤ n) (k : ℕ) (h : period_in a n ≡ Some k) (t : n + 30 ≤ turns) where
+module _ (a : Axis) (n turns : ℕ) (q : Accepted a n) (some : 1 ≤ n) (k : ℕ) (h : period_in a n ≡ Some k)
+    (t : n + 30 ≤ turns) where
   abbrev axis : Timed a k
   axis = timed a n q some k h
 
@@ -177,11 +179,11 @@ module _ (a : Axis) (n turns : ℕ) (q : Accepted a n) (some : 1 ≤ n) (k : ℕ
   few = few_periods a n q some k h
 
   by_period : (per x : ℕ) (first : Value) (c : Counts a per) (near : x ≤ k) →
-      first ≡ counted a.start_head per (pos_part a.start_tail + x) →
+      first ≡ counted a.start.head per (pos_part a.start.tail + x) →
       list_from turns a per k first ≡ ticks (even a n k per x axis c few near)
   by_period per x first c near b =
       let s = even a n k per x axis c few near in
-      let l = pos_part a.start_tail + pos_part (span_of a) in
+      let l = pos_part a.start.tail + pos_part (span_of a) in
       let last = at_end_tick a n k per x axis c few near in
       let above : 0 < per = omega (arith, c.least) in
       let room : l - s.first ≤ (n + 1) * k = omega (arith, few) in
@@ -191,20 +193,20 @@ module _ (a : Axis) (n turns : ℕ) (q : Accepted a n) (some : 1 ≤ n) (k : ℕ
         | inl e ↦ rw e (earlier_no (tick_of_number s y) (tick_of_number s y) (inr (omega arith, omega arith)))
         | inr g ↦ earlier_no (tick_of_number s y) (tick_of_number s l) (before 0 (omega arith) (later s l y above g))
       ]))
-      (λ y. plus_is a.start_head per y k above) turns first b (omega (arith, few_steps (l - s.first) k n axis.above room))
+      (λ y. plus_is a.start.head per y k above) turns first b (omega (arith, few_steps (l - s.first) k n axis.above room))
 
   pub date_times_same : is_duration a.kind ≡ false → date_times_by turns a k ≡ ticks (time_plan a k)
   unfolding date_times_by time_plan shift
   date_times_same d =
-      let x = pos_part a.start_tail in
+      let x = pos_part a.start.tail in
       let per : unit a.kind ≡ per_day = rw d in
       let c : Counts a per_day = rw per at (counts a q.real) in
-      rw d (by_period per_day (shift_up x k) _ c (up_most k axis.above x) (first_date_time a.start_head x k))
+      rw d (by_period per_day (shift_up x k) _ c (up_most k axis.above x) (first_date_time a.start.head x k))
 
   pub durations_same : is_duration a.kind ≡ true → durations_by turns a k ≡ ticks (time_plan a k)
   unfolding durations_by time_plan shift
   durations_same d =
-      let z = nanoseconds (pos 7) (start a) in
+      let z = nanoseconds Span a.start in
       let per : unit a.kind ≡ per_second = rw d in
       let c : Counts a per_second = rw per at (counts a q.real) in
-      rw d (by_period per_second (shift_of z k) _ c (shift_most k axis.above z) (first_duration k axis.above (start a) c.start_dn))
+      rw d (by_period per_second (shift_of z k) _ c (shift_most k axis.above z) (first_duration k axis.above a.start c.start_dn))

@@ -1,6 +1,7 @@
 -- Where an axis over date-times lists dates: it lists as kind 4, whose period for N is none. Definitions only.
-use Rattle.std.specs.Prelude.{◌≡◌, ◌*◌, ◌≤◌, pos}
+use Rattle.std.specs.Prelude.{◌≡◌, ◌*◌, ◌≤◌}
 use Rattle.laws.specs.Numbers.{pos_part}
+use Rattle.values.specs.declared.Kind.TheVariants as kind
 use Rattle.axis.specs.declared.Axis.{Axis}
 use Rattle.axis.specs.declared.BoldPoints.{BoldPoints}
 use Rattle.axis.specs.declared.LightPoints.{LightPoints}
@@ -11,7 +12,7 @@ use Rattle.keypoints.specs.Hints.{of_kind, finer}
 
 -- kind 4 with the ends of an axis
 abbrev pub date_times : Axis → Axis
-date_times a = of_kind (pos 4) a
+date_times a = of_kind kind.Stamp a
 
 -- self.size() <= hint.bold_points() * 2
 abbrev pub Refined : Axis → LightPoints → Type 0
@@ -19,9 +20,9 @@ Refined a l = size_of a ≤ pos_part l.bold * 2
 
 -- the axes that list as kind 4: kind 4 itself; with a light hint Monthly over date-times, and Yearly, by way of Monthly
 pub data ListsTimes (a : Axis) (h : Hint) : Type 0 where
-  times : a.kind ≡ pos 4 → ListsTimes a h
-  months : (l : LightPoints) → h ≡ Light l → a.kind ≡ pos 5 → Refined a l → ListsTimes a h
-  years : (l : LightPoints) → h ≡ Light l → a.kind ≡ pos 6 → Refined a l → Refined (finer a) l → ListsTimes a h
+  times : a.kind ≡ kind.Stamp → ListsTimes a h
+  months : (l : LightPoints) → h ≡ Light l → a.kind ≡ kind.StampMonth → Refined a l → ListsTimes a h
+  years : (l : LightPoints) → h ≡ Light l → a.kind ≡ kind.StampYear → Refined a l → Refined (finer a) l → ListsTimes a h
 
 -- hint.max_num_points() as a hint, which is bold: N
 abbrev pub bold_points : Hint → BoldPoints

@@ -1,12 +1,12 @@
 -- `RangedDate::key_points`, as the Rust has it: every day, every week, the start alone, or every few weeks. Definitions only.
-use Rattle.std.specs.Prelude.{ℕ, ◌+◌, ◌*◌, ◌/◌, cond, ◌&&◌, List, [], ◌∷◌, leb, ℤ, pos, ◌-ℤ◌}
+use Rattle.std.specs.Prelude.{ℕ, ◌+◌, ◌*◌, ◌/◌, cond, ◌&&◌, List, [], ◌∷◌, false, leb, ℤ, pos, ◌-ℤ◌}
 use Rattle.std.specs.Int.Signed.{lt_z, quot_z}
 use Rattle.laws.specs.Numbers.{is_number, pos_part, as_u64}
 use Rattle.floats.specs.Rounding.{ceil_of}
+use Rattle.values.specs.declared.Kind.TheVariants as kind
 use Rattle.values.specs.declared.Value.{Value}
 use Rattle.values.specs.Values.{midnight}
 use Rattle.axis.specs.declared.Axis.{Axis}
-use Rattle.axis.specs.Axes.{axis_of}
 use Rattle.counting.specs.Counting.{from_day, to_day}
 use Rattle.keypoints.specs.Loops.{for_to}
 
@@ -28,9 +28,14 @@ dates_from start totalDays totalWeeks maxPoints =
 -- num_days() and num_weeks() of self.1 - self.0
 unfoldable pub date_key_points : Axis → ℕ → List Value
 date_key_points a maxPoints =
-    let totalDays = a.end_head -ℤ a.start_head in
-    dates_from (pos_part a.start_head) totalDays (quot_z totalDays (pos 7)) maxPoints
+    let totalDays = a.end.head -ℤ a.start.head in
+    dates_from (pos_part a.start.head) totalDays (quot_z totalDays (pos 7)) maxPoints
 
 -- of a date-time axis: RangedDate(self.0.date_ceil(), self.1.date_floor()), both included
 abbrev pub date_range : Axis → Axis
-date_range a = axis_of (pos 1) (pos (from_day a)) (pos 0) (pos (to_day a)) (pos 0) (pos 0)
+date_range a = record {
+  kind = kind.Date;
+  start = midnight (pos (from_day a));
+  end = midnight (pos (to_day a));
+  end_excluded = false;
+}

@@ -1,11 +1,12 @@
 -- `key_points` of each kind with any hint, as the Rust has it. Definitions only.
-use Rattle.std.specs.Prelude.{ℕ, ◌+◌, ◌*◌, cond, List, leb, ℤ, pos, ◌-ℤ◌}
+use Rattle.std.specs.Prelude.{ℕ, ◌+◌, ◌*◌, cond, List, leb}
 use Rattle.laws.specs.Numbers.{pos_part}
+use Rattle.values.specs.declared.Kind.{Kind}
+use Rattle.values.specs.declared.Kind.TheVariants as kind
 use Rattle.values.specs.declared.Value.{Value}
 use Rattle.axis.specs.declared.Axis.{Axis}
 use Rattle.axis.specs.declared.Hint.{Hint}
 use Rattle.axis.specs.declared.Hint.TheVariants.{Bold, Light}
-use Rattle.axis.specs.Axes.{axis_of}
 use Rattle.counting.specs.Counting.{monthly, yearly, size_of}
 use Rattle.keypoints.specs.KeyPoints.{key_points}
 
@@ -15,12 +16,20 @@ limit (Bold h) = pos_part h.n
 limit (Light h) = pos_part h.n
 
 -- the same ends on another kind
-abbrev pub of_kind : ℤ → Axis → Axis
-of_kind k a = axis_of k a.start_head a.start_tail a.end_head a.end_tail a.end_excluded
+abbrev pub of_kind : Kind → Axis → Axis
+of_kind k a = record a { kind = k }
 
--- months for years, and dates or date-times for months
+-- months for years, and dates or date-times for months; the other kinds have none finer
+abbrev pub finer_kind : Kind → Kind
+finer_kind kind.Month = kind.Date
+finer_kind kind.Year = kind.Month
+finer_kind kind.StampMonth = kind.Stamp
+finer_kind kind.StampYear = kind.StampMonth
+finer_kind k = k
+
+-- the same of an axis
 abbrev pub finer : Axis → Axis
-finer a = of_kind (a.kind -ℤ pos 1) a
+finer a = of_kind (finer_kind a.kind) a
 
 -- Monthly: if hint.weight().allow_light_points() && self.size() <= hint.bold_points() * 2 {
 --     return coord.key_points(hint.max_num_points()); } self.bold_key_points(&hint)

@@ -5,11 +5,12 @@ use Rattle.std.specs.Prelude.{negsuc, ◌+ℤ◌, ◌-ℤ◌, length, get_or, Op
 use Rattle.std.specs.Int.Signed.{lt_z, quot_z, rem_z}
 use Rattle.laws.specs.Numbers.{pos_part, as_u64}
 use Rattle.laws.specs.Units.{per_second, per_day, seconds_per_day}
+use Rattle.values.specs.declared.Kind.TheVariants.{Span}
 use Rattle.values.specs.declared.Value.{Value}
 use Rattle.values.specs.Values.{earlier, midnight}
 use Rattle.values.specs.Differences.{nanoseconds, fits_i64, days_in, of_days}
 use Rattle.axis.specs.declared.Axis.{Axis}
-use Rattle.axis.specs.Axes.{start, end, span_of}
+use Rattle.axis.specs.Axes.{span_of}
 use Rattle.axis.specs.Questions.{equals}
 use Rattle.keypoints.specs.Loops.{while}
 use Rattle.keypoints.specs.Dates.{date_key_points, date_range}
@@ -22,7 +23,7 @@ plus per v ns =
 
 -- while current < self.1 { ret.push(current); current += Duration::nanoseconds(period as i64); }
 abbrev pub list_from : ℕ → Axis → ℕ → ℕ → Value → List Value
-list_from turns a per period first = while turns (λ v. earlier v (end a)) (λ v. v) (λ v. plus per v period) first
+list_from turns a per period first = while turns (λ v. earlier v a.end) (λ v. v) (λ v. plus per v period) first
 
 -- if let Some(total_ns) = total_span.num_nanoseconds() { if let Some(period) = compute_period_per_point(total_ns as u64, ..)
 unfoldable pub period_on : ℕ → Axis → ℕ → Bool → Option ℕ
@@ -42,7 +43,7 @@ aligned_up ns period = cond (ltb 0 (ns % period)) (ns + (period - ns % period)) 
 -- DT::from_date(self.0.date_floor()) + Duration::nanoseconds(..); start_time_ns is the tail
 unfoldable pub date_times_by : ℕ → Axis → ℕ → List Value
 date_times_by turns a period =
-    list_from turns a per_day period (plus per_day (midnight a.start_head) (aligned_up (pos_part a.start_tail) period))
+    list_from turns a per_day period (plus per_day (midnight a.start.head) (aligned_up (pos_part a.start.tail) period))
 
 -- with a period below a day; "otherwise, it actually behaves like a date": date_range.key_points(max_points)
 unfoldable pub date_time_key_points : ℕ → Axis → ℕ → List Value
@@ -67,7 +68,7 @@ duration_of (negsuc n) = record { head = negsuc (n / per_second); tail = pos (pe
 -- let mut current = Duration::nanoseconds(start_ns); while current < self.1 { .. }
 unfoldable pub durations_by : ℕ → Axis → ℕ → List Value
 durations_by turns a period =
-    list_from turns a per_second period (duration_of (aligned (nanoseconds (pos 7) (start a)) period))
+    list_from turns a per_second period (duration_of (aligned (nanoseconds Span a.start) period))
 
 -- const MULTIPLIER: &[i32] = &[1, 2, 5];
 abbrev pub multiplier : List ℕ
@@ -92,12 +93,12 @@ first_whole v = of_days (days_in v +ℤ cond (equals v (of_days (days_in v))) (p
 -- while current < self.1 { ret.push(current); current += Duration::days(i64::from(days_per_tick)); }
 unfoldable pub whole_days_by : ℕ → Axis → ℕ → List Value
 whole_days_by turns a perTick =
-    while turns (λ v. earlier v (end a)) (λ v. v)
+    while turns (λ v. earlier v a.end) (λ v. v)
     (λ v. record { head = v.head +ℤ pos (seconds_per_day * perTick); tail = v.tail })
-    (first_whole (start a))
+    (first_whole a.start)
 
 -- with a period where the span fits nanoseconds, else by whole days
 unfoldable pub duration_key_points : ℕ → Axis → ℕ → List Value
 duration_key_points turns a maxPoints =
     if_some (period_on turns a maxPoints false) (durations_by turns a)
-    (whole_days_by turns a (days_per_tick turns (days_in (end a) -ℤ days_in (start a)) maxPoints 1 0))
+    (whole_days_by turns a (days_per_tick turns (days_in a.end -ℤ days_in a.start) maxPoints 1 0))

@@ -26,7 +26,7 @@ use Rattle.values.proofs.Differences.{later_apart, dates_apart}
 use Rattle.values.proofs.Fits.{fits_yes, fits_range}
 use Rattle.axis.specs.declared.Axis.{Axis}
 use Rattle.axis.specs.declared.Limits.{Limits}
-use Rattle.axis.specs.Axes.{start, end, span_of, offset_of}
+use Rattle.axis.specs.Axes.{span_of, offset_of}
 use Rattle.axis.specs.Questions.{ends, in_order, value_on, mappable, equals}
 use Rattle.axis.proofs.Axes as axes
 use Rattle.axis.proofs.Axes.{both_ends, with_value, span_from_0}
@@ -84,24 +84,24 @@ module _ (a : Axis) (l : Limits) (v : Value) (p : ℤ) where
   no_exact f g = rw (f, g) refl
 
 -- ---- an axis whose start is its end
-same_ends : (a : Axis) → equals (end a) (start a) ≡ true → span_of a ≡ pos 0
+same_ends : (a : Axis) → equals a.end a.start ≡ true → span_of a ≡ pos 0
 unfolding span_of difference
 same_ends a e =
-    let x = nanoseconds a.kind (start a) in
-    ap (λ (v : Value). nanoseconds a.kind v -ℤ x) (axes.equal (end a) (start a) e)
+    let x = nanoseconds a.kind a.start in
+    ap (λ (v : Value). nanoseconds a.kind v -ℤ x) (axes.equal a.end a.start e)
     ∙ same (x -ℤ x) (pos 0) (omega (arith, sub x x))
 
 -- ---- a value that is mapped
 module _ (a : Axis) (v : Value) (e : ends a ≡ true) (maps : mappable a v ≡ true) where
   -- without a span it is the start
-  only_start : span_of a ≡ pos 0 → v ≡ start a
+  only_start : span_of a ≡ pos 0 → v ≡ a.start
   unfolding span_of mappable
-  only_start none = go (earlier (start a) (end a)) refl
+  only_start none = go (earlier a.start a.end) refl
     where
-      go : (b : Bool) → earlier (start a) (end a) ≡ b → v ≡ start a
+      go : (b : Bool) → earlier a.start a.end ≡ b → v ≡ a.start
       go true some = absurd
-          (let w : ⊥ = omega (arith, (later_apart a.kind (start a) (end a) (both_ends a e) some).1, ap pos_part none) in w)
-      go false nothing = axes.equal v (start a) (rw nothing at maps)
+          (let w : ⊥ = omega (arith, (later_apart a.kind a.start a.end (both_ends a e) some).1, ap pos_part none) in w)
+      go false nothing = axes.equal v a.start (rw nothing at maps)
 
   -- which is in nanoseconds
   start_near : span_of a ≡ pos 0 → in_nanoseconds a v ≡ true
@@ -109,16 +109,16 @@ module _ (a : Axis) (v : Value) (e : ends a ≡ true) (maps : mappable a v ≡ t
 
 -- ---- dates
 abbrev days_to : Axis → Value → ℤ
-days_to a v = v.head -ℤ a.start_head
+days_to a v = v.head -ℤ a.start.head
 
 module _ (a : Axis) (v : Value) (e : ends a ≡ true) (value : value_on a v ≡ true) (dates : over_dates a.kind ≡ true) where
   offset_days : offset_of a v ≡ days_to a v *ℤ pos 86400000000000
   unfolding offset_of
-  offset_days = dates_apart a.kind (start a) v (with_value a e v value) dates
+  offset_days = dates_apart a.kind a.start v (with_value a e v value) dates
 
-  span_days : span_of a ≡ days_to a (end a) *ℤ pos 86400000000000
+  span_days : span_of a ≡ days_to a a.end *ℤ pos 86400000000000
   unfolding span_of
-  span_days = dates_apart a.kind (start a) (end a) (both_ends a e) dates
+  span_days = dates_apart a.kind a.start a.end (both_ends a e) dates
 
   -- days that fit lose nothing
   kept : (x d : ℤ) → x ≡ d *ℤ pos 86400000000000 → fits_i64 x ≡ true → lost_in x ≡ false
@@ -140,7 +140,7 @@ module _ (a : Axis) (v : Value) (e : ends a ≡ true) (value : value_on a v ≡ 
           cond b (lost_in (offset_of a v) || lost_in (span_of a))
           (cond (divides_nothing a) false (lost_in (whole_days (offset_of a v)) || lost_in (whole_days (span_of a)))) ≡ false
       go true f = let (x, y) = both_true (fits_i64 (span_of a)) (fits_i64 (offset_of a v)) f in
-          rw (kept (offset_of a v) (days_to a v) offset_days y, kept (span_of a) (days_to a (end a)) span_days x) refl
+          rw (kept (offset_of a v) (days_to a v) offset_days y, kept (span_of a) (days_to a a.end) span_days x) refl
       go false f = rw (dates_no_duration a.kind dates, days_kept a v e value) refl
 
 -- ---- the pixel p of a value that is mapped, on the low limit where there is no span
@@ -251,7 +251,7 @@ module _ (a : Axis) (l : Limits) (v : Value) (p : ℤ) (e : ends a ≡ true) (o 
     offset : offset_of a v ≡ days_to a v *ℤ pos 86400000000000
     offset = offset_days a v e value dates
 
-    span : span_of a ≡ days_to a (end a) *ℤ pos 86400000000000
+    span : span_of a ≡ days_to a a.end *ℤ pos 86400000000000
     span = span_days a v e value dates
 
     exact_dates : exact_at a l v p ≡ true → OnPosition a l v p
@@ -259,7 +259,7 @@ module _ (a : Axis) (l : Limits) (v : Value) (p : ℤ) (e : ends a ≡ true) (o 
       where
         go : (b : Bool) → in_nanoseconds a v ≡ b → OnPosition a l v p
         go true f = exact_near f x
-        go false f = on_position (longer (width l) (p -ℤ l.low) (offset_of a v) (span_of a) (days_to a v) (days_to a (end a))
+        go false f = on_position (longer (width l) (p -ℤ l.low) (offset_of a v) (span_of a) (days_to a v) (days_to a a.end)
             offset span (by_days_law f x).1)
 
     dates_exact : OnPosition a l v p → exact_at a l v p ≡ true
@@ -268,7 +268,7 @@ module _ (a : Axis) (l : Limits) (v : Value) (p : ℤ) (e : ends a ≡ true) (o 
         some : in_nanoseconds a v ≡ false → (b : Bool) → is_number (whole_days (span_of a)) 0 ≡ b → not b ≡ true
         some f false z = refl
         some f true z =
-            let d = sym (days_are (span_of a) (days_to a (end a)) span) ∙ equal_true (whole_days (span_of a)) (pos 0) z in
+            let d = sym (days_are (span_of a) (days_to a a.end) span) ∙ equal_true (whole_days (span_of a)) (pos 0) z in
             let none : span_of a ≡ pos 0 = span ∙ ap (λ (x : ℤ). x *ℤ pos 86400000000000) d in
             absurd (true≢false (sym (start_near a v e maps none) ∙ f))
 
@@ -278,13 +278,13 @@ module _ (a : Axis) (l : Limits) (v : Value) (p : ℤ) (e : ends a ≡ true) (o 
             exact_by_days a l v p f (days_of a (dates_no_duration a.kind dates))
             ∙ (λ i. some f (is_number (whole_days (span_of a)) 0) refl i && true_equal (width l *ℤ whole_days (offset_of a v))
             ((p -ℤ l.low) *ℤ whole_days (span_of a))
-            (shorter (width l) (p -ℤ l.low) (offset_of a v) (span_of a) (days_to a v) (days_to a (end a)) offset span
+            (shorter (width l) (p -ℤ l.low) (offset_of a v) (span_of a) (days_to a v) (days_to a a.end) offset span
             (multiplied at)) i)
 
 -- ---- the start is drawn on the low limit
-start_low : (a : Axis) (l : Limits) (h : Hairline) → mapped a l (start a) ≡ Ok h → h.pixel -ℤ l.low ≡ pos 0
+start_low : (a : Axis) (l : Limits) (h : Hairline) → mapped a l a.start ≡ Ok h → h.pixel -ℤ l.low ≡ pos 0
 start_low a l h m =
-    let is = (answer_at (scale_questions a l) (hairline_at a l (start a) l.low) h (sym (start_at_low a l) ∙ m)).1 in
+    let is = (answer_at (scale_questions a l) (hairline_at a l a.start l.low) h (sym (start_at_low a l) ∙ m)).1 in
     ap (λ (k : Hairline). k.pixel -ℤ l.low) (sym is) ∙ same (l.low -ℤ l.low) (pos 0) (omega (arith, sub l.low l.low))
 
 -- THE THEOREM, of every pixel that mapping answers
@@ -332,29 +332,29 @@ none_of w low x s e =
     true_equal (w *ℤ x) ((low -ℤ low) *ℤ s)
     (ap (λ (y : ℤ). w *ℤ y) e ∙ *ℤ-zero w ∙ sym (ap (λ (y : ℤ). y *ℤ s) none ∙ zero-*ℤ s))
 
-pub start_exact : (a : Axis) (l : Limits) → ends a ≡ true → in_order a ≡ true → exact_at a l (start a) l.low ≡ true
+pub start_exact : (a : Axis) (l : Limits) → ends a ≡ true → in_order a ≡ true → exact_at a l a.start l.low ≡ true
 start_exact a l e o = go (fits_i64 (span_of a)) refl
   where
-    both : (b : Bool) → fits_i64 (span_of a) ≡ b → in_nanoseconds a (start a) ≡ b
+    both : (b : Bool) → fits_i64 (span_of a) ≡ b → in_nanoseconds a a.start ≡ b
     both b f = rw (f, no_offset a) (and_true b)
 
-    go : (b : Bool) → fits_i64 (span_of a) ≡ b → exact_at a l (start a) l.low ≡ true
-    go true f = exact_by_near a l (start a) l.low (both true f)
-        ∙ none_of (width l) l.low (offset_of a (start a)) (span_of a) (no_offset a)
+    go : (b : Bool) → fits_i64 (span_of a) ≡ b → exact_at a l a.start l.low ≡ true
+    go true f = exact_by_near a l a.start l.low (both true f)
+        ∙ none_of (width l) l.low (offset_of a a.start) (span_of a) (no_offset a)
     go false f =
-        exact_by_days a l (start a) l.low (both false f)
+        exact_by_days a l a.start l.low (both false f)
         (ap (λ (b : Bool). is_duration a.kind && b) f ∙ and_false (is_duration a.kind))
         ∙ (λ i. some_days (span_of a) (span_from_0 a e o) f (is_number (whole_days (span_of a)) 0) refl i
-        && none_of (width l) l.low (whole_days (offset_of a (start a))) (whole_days (span_of a)) (ap whole_days (no_offset a)) i)
+        && none_of (width l) l.low (whole_days (offset_of a a.start)) (whole_days (span_of a)) (ap whole_days (no_offset a)) i)
 
 pub start_drawn : (a : Axis) (l : Limits) →
-    mapped a l (start a) ≡ answered_at a l (record { pixel = l.low; exact = true; lost = lost_at a (start a) })
+    mapped a l a.start ≡ answered_at a l (record { pixel = l.low; exact = true; lost = lost_at a a.start })
 start_drawn a l =
     start_at_low a l
-    ∙ behind row (Ok (hairline_at a l (start a) l.low)) (Ok (record { pixel = l.low; exact = true; lost = lost_at a (start a) }))
+    ∙ behind row (Ok (hairline_at a l a.start l.low)) (Ok (record { pixel = l.low; exact = true; lost = lost_at a a.start }))
     (λ none.
     let x = start_exact a l (told 3 row none) (told 4 row none) in
-    λ i. Ok (record { pixel = l.low; exact = x i; lost = lost_at a (start a) }))
+    λ i. Ok (record { pixel = l.low; exact = x i; lost = lost_at a a.start }))
   where
     row : List Question
     row = scale_questions a l
@@ -363,10 +363,10 @@ start_drawn a l =
 record AtEnd (a : Axis) (l : Limits) (p : ℤ) : Type 0 where
   t : ℕ
   some : 0 < t
-  is : exact_at a l (end a) p ≡ equal (width l *ℤ pos t) ((p -ℤ l.low) *ℤ pos t)
+  is : exact_at a l a.end p ≡ equal (width l *ℤ pos t) ((p -ℤ l.low) *ℤ pos t)
 
-module _ (a : Axis) (l : Limits) (e : ends a ≡ true) (o : in_order a ≡ true) (later : earlier (start a) (end a) ≡ true) where
-  whole_span : offset_of a (end a) ≡ span_of a
+module _ (a : Axis) (l : Limits) (e : ends a ≡ true) (o : in_order a ≡ true) (later : earlier a.start a.end ≡ true) where
+  whole_span : offset_of a a.end ≡ span_of a
   unfolding offset_of span_of
   whole_span = refl
 
@@ -377,7 +377,7 @@ module _ (a : Axis) (l : Limits) (e : ends a ≡ true) (o : in_order a ≡ true)
       zero_dn : neg_part (span_of a) ≡ 0
       zero_dn = span_from_0 a e o
 
-      both : (b : Bool) → fits_i64 (span_of a) ≡ b → in_nanoseconds a (end a) ≡ b
+      both : (b : Bool) → fits_i64 (span_of a) ≡ b → in_nanoseconds a a.end ≡ b
       both true f = rw (f, whole_span, f) refl
       both false f = rw f refl
 
@@ -386,8 +386,8 @@ module _ (a : Axis) (l : Limits) (e : ends a ≡ true) (o : in_order a ≡ true)
           let s = sym (pos_up (span_of a) zero_dn) in
           record {
             t = pos_part (span_of a);
-            some = (later_apart a.kind (start a) (end a) (both_ends a e) later).1;
-            is = exact_by_near a l (end a) p (both true f)
+            some = (later_apart a.kind a.start a.end (both_ends a e) later).1;
+            is = exact_by_near a l a.end p (both true f)
                 ∙ (λ i. equal (width l *ℤ (whole_span ∙ s) i) ((p -ℤ l.low) *ℤ s i));
           }
       go false f =
@@ -395,32 +395,32 @@ module _ (a : Axis) (l : Limits) (e : ends a ≡ true) (o : in_order a ≡ true)
           record {
             t = pos_part (whole_days (span_of a));
             some = long (span_of a) zero_dn f;
-            is = exact_by_days a l (end a) p (both false f)
+            is = exact_by_days a l a.end p (both false f)
                 (ap (λ (b : Bool). is_duration a.kind && b) f ∙ and_false (is_duration a.kind))
                 ∙ (λ i. some_days (span_of a) zero_dn f (is_number (whole_days (span_of a)) 0) refl i
                 && equal (width l *ℤ (ap whole_days whole_span ∙ s) i) ((p -ℤ l.low) *ℤ s i));
           }
 
-  high_exact : exact_at a l (end a) l.high ≡ true
+  high_exact : exact_at a l a.end l.high ≡ true
   high_exact = let x = end_of l.high in x.is ∙ true_equal (width l *ℤ pos x.t) (width l *ℤ pos x.t) refl
 
-  exact_high : (p : ℤ) → exact_at a l (end a) p ≡ true → p ≡ l.high
+  exact_high : (p : ℤ) → exact_at a l a.end p ≡ true → p ≡ l.high
   exact_high p is =
       let x = end_of p in
       let w = same_days (width l) (p -ℤ l.low) x.t x.some
       (equal_true (width l *ℤ pos x.t) ((p -ℤ l.low) *ℤ pos x.t) (sym x.is ∙ is)) in
       same p l.high (omega (arith, sub p l.low, sub l.high l.low, ap pos_part w, ap neg_part w))
 
-pub end_exact : (a : Axis) (l : Limits) (h : Hairline) → earlier (start a) (end a) ≡ true → mapped a l (end a) ≡ Ok h →
+pub end_exact : (a : Axis) (l : Limits) (h : Hairline) → earlier a.start a.end ≡ true → mapped a l a.end ≡ Ok h →
     (h.exact ≡ true → h.pixel ≡ l.high) × (h.pixel ≡ l.high → h.exact ≡ true)
 unfolding hairline
 end_exact a l h later m =
-    let none = (accepted a l (end a) h m).0 in
-    let row = map_questions a l (end a) in
+    let none = (accepted a l a.end h m).0 in
+    let row = map_questions a l a.end in
     let e = told 3 row none in
     let o = told 4 row none in
     subst (λ (k : Hairline). (k.exact ≡ true → k.pixel ≡ l.high) × (k.pixel ≡ l.high → k.exact ≡ true))
-    (accepted_as a l (end a) h m) (
-      exact_high a l e o later (placed a l (end a)),
-      λ high. ap (exact_at a l (end a)) high ∙ high_exact a l e o later,
+    (accepted_as a l a.end h m) (
+      exact_high a l e o later (placed a l a.end),
+      λ high. ap (exact_at a l a.end) high ∙ high_exact a l e o later,
     )

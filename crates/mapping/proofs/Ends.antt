@@ -28,7 +28,7 @@ use Rattle.values.proofs.Differences.{no_earlier_apart}
 use Rattle.values.proofs.Numbers.{is_le, bounded, or_true}
 use Rattle.axis.specs.declared.Axis.{Axis}
 use Rattle.axis.specs.declared.Limits.{Limits}
-use Rattle.axis.specs.Axes.{start, end, span_of, offset_of}
+use Rattle.axis.specs.Axes.{span_of, offset_of}
 use Rattle.axis.specs.Questions.{ends, in_order, is_pixel, pixels, value_on, mappable, fits_i32, equals}
 use Rattle.axis.proofs.Axes.{both_ends, span_from_0}
 use Rattle.axis.proofs.Questions.{pixel_range}
@@ -48,16 +48,16 @@ unfolding earlier
 itself v = rw (is_ge v.head v.head (omega arith), is_ge v.tail v.tail (omega arith))
     (and_false (le_z v.head v.head))
 
-module _ (a : Axis) (o : in_order a ≡ true) (some : earlier (start a) (end a) ≡ true) where
-  ordered : earlier (end a) (start a) ≡ false
+module _ (a : Axis) (o : in_order a ≡ true) (some : earlier a.start a.end ≡ true) where
+  ordered : earlier a.end a.start ≡ false
   unfolding in_order
-  ordered = not-true (earlier (end a) (start a)) o
+  ordered = not-true (earlier a.end a.start) o
 
-  start_inside : Inside a (start a)
-  start_inside = record { some_span = some; from_start = itself (start a); to_end = ordered }
+  start_inside : Inside a a.start
+  start_inside = record { some_span = some; from_start = itself a.start; to_end = ordered }
 
-  end_inside : Inside a (end a)
-  end_inside = record { some_span = some; from_start = ordered; to_end = itself (end a) }
+  end_inside : Inside a a.end
+  end_inside = record { some_span = some; from_start = ordered; to_end = itself a.end }
 
 -- ---- a whole position k: the cut is k, or one less
 at_most : (k q t f : ℕ) → q ≡ k * t → f * t < q + t → f ≤ k
@@ -113,37 +113,37 @@ answered a l v p f = in_parts a l v ∙ behind (scale_questions a l) (mapped_by 
     let (value, maps, page, is) = f none in rw (is, value, maps, on_page_fits p page) refl)
 
 -- ---- the start
-pub no_offset : (a : Axis) → offset_of a (start a) ≡ pos 0
+pub no_offset : (a : Axis) → offset_of a a.start ≡ pos 0
 unfolding offset_of difference
-no_offset a = let x = nanoseconds a.kind (start a) in same (x -ℤ x) (pos 0) (omega (arith, sub x x))
+no_offset a = let x = nanoseconds a.kind a.start in same (x -ℤ x) (pos 0) (omega (arith, sub x x))
 
 -- an end that is the start
-no_span : (a : Axis) → ends a ≡ true → in_order a ≡ true → earlier (start a) (end a) ≡ false → span_of a ≡ pos 0
+no_span : (a : Axis) → ends a ≡ true → in_order a ≡ true → earlier a.start a.end ≡ false → span_of a ≡ pos 0
 unfolding span_of difference
 no_span a e o nothing =
     let both = both_ends a e in
-    let s = nanoseconds a.kind (start a) in
-    let t = nanoseconds a.kind (end a) in
-    let back = no_earlier_apart a.kind (end a) (start a) (record { first = both.second; second = both.first }) nothing in
+    let s = nanoseconds a.kind a.start in
+    let t = nanoseconds a.kind a.end in
+    let back = no_earlier_apart a.kind a.end a.start (record { first = both.second; second = both.first }) nothing in
     same (t -ℤ s) (pos 0) (omega (arith, span_from_0 a e o, back, sub t s, sub s t))
 
 start_placed : (a : Axis) (l : Limits) → ends a ≡ true → in_order a ≡ true → pixels l ≡ true →
-    placed a l (start a) -ℤ l.low ≡ pos 0
+    placed a l a.start -ℤ l.low ≡ pos 0
 unfolding value_on
-start_placed a l e o page = go (earlier (start a) (end a)) refl
+start_placed a l e o page = go (earlier a.start a.end) refl
   where
-    go : (b : Bool) → earlier (start a) (end a) ≡ b → placed a l (start a) -ℤ l.low ≡ pos 0
+    go : (b : Bool) → earlier a.start a.end ≡ b → placed a l a.start -ℤ l.low ≡ pos 0
     go true some =
         let value = (both_ends a e).first in
         let i = start_inside a o some in
-        let n = z a l (start a) e value page i in
+        let n = z a l a.start e value page i in
         let none : n.o ≡ 0 = ap pos_part (sym n.offset_is ∙ no_offset a) in
         at_zero _ (below_zero (width l)) (nat_abs (width l) * n.o) n.t
         (ap (λ (x : ℕ). nat_abs (width l) * x) none ∙ mul-zero (nat_abs (width l)) ∙ sym (zero-mul n.t))
-        (pixel_cut a l (start a) e value page i)
+        (pixel_cut a l a.start e value page i)
     go false nothing =
         let s : span_of a ≡ pos 0 = no_span a e o nothing in
-        low_off l.low _ _ (sym (in_nanoseconds_law a l (start a) (ap fits_i64 s) (ap fits_i64 (no_offset a))))
+        low_off l.low _ _ (sym (in_nanoseconds_law a l a.start (ap fits_i64 s) (ap fits_i64 (no_offset a))))
         ∙ (λ i. cut_from (is_duration a.kind) (width l) (no_offset a i) (s i))
         ∙ ap (λ (x : Float). cut (nudged (is_duration a.kind) x)) (zero_by_zero (width l) (width_few l page))
         ∙ no_number (is_duration a.kind)
@@ -154,14 +154,14 @@ at_low p low e = same p low (omega (arith, sub p low, ap pos_part e, ap neg_part
 equals_itself : (v : Value) → equals v v ≡ true
 equals_itself v = rw (is_le v.head v.head (omega arith), is_le v.tail v.tail (omega arith))
 
-pub start_at_low : (a : Axis) (l : Limits) → mapped a l (start a) ≡ answered_at a l (hairline_at a l (start a) l.low)
+pub start_at_low : (a : Axis) (l : Limits) → mapped a l a.start ≡ answered_at a l (hairline_at a l a.start l.low)
 unfolding value_on mappable
-start_at_low a l = answered a l (start a) l.low (λ none.
+start_at_low a l = answered a l a.start l.low (λ none.
     let row = scale_questions a l in
     let e = told 3 row none in
     let page = told 7 row none in (
       (both_ends a e).first,
-      rw equals_itself (or_true (earlier (start a) (end a))),
+      rw equals_itself (or_true (earlier a.start a.end)),
       (limits_are l page).0,
       at_low _ _ (start_placed a l e (told 4 row none) page),
     ))
@@ -196,20 +196,20 @@ one_short l p page f =
       same p (l.low +ℤ one_nearer (width l)) (omega (arith, add l.low (one_nearer (width l)))),
     )
 
-end_placed : (a : Axis) (l : Limits) → earlier (start a) (end a) ≡ true → ends a ≡ true → in_order a ≡ true → pixels l ≡ true →
-    (placed a l (end a) -ℤ l.low ≡ width l) ⊎ (placed a l (end a) -ℤ l.low ≡ one_nearer (width l))
+end_placed : (a : Axis) (l : Limits) → earlier a.start a.end ≡ true → ends a ≡ true → in_order a ≡ true → pixels l ≡ true →
+    (placed a l a.end -ℤ l.low ≡ width l) ⊎ (placed a l a.end -ℤ l.low ≡ one_nearer (width l))
 unfolding value_on span_of offset_of
 end_placed a l some e o page =
     let value = (both_ends a e).second in
     let i = end_inside a o some in
-    let n = z a l (end a) e value page i in
+    let n = z a l a.end e value page i in
     let all : n.o ≡ n.t = ap pos_part (sym n.offset_is ∙ n.span_is) in
     at_width (width l) _ (nat_abs (width l) * n.o) n.t (ap (λ (x : ℕ). nat_abs (width l) * x) all)
-    (pixel_cut a l (end a) e value page i)
+    (pixel_cut a l a.end e value page i)
 
-pub end_at_high : (a : Axis) (l : Limits) → earlier (start a) (end a) ≡ true →
-    (mapped a l (end a) ≡ answered_at a l (hairline_at a l (end a) l.high))
-    ⊎ (mapped a l (end a) ≡ answered_at a l (hairline_at a l (end a) (l.low +ℤ one_nearer (width l))))
+pub end_at_high : (a : Axis) (l : Limits) → earlier a.start a.end ≡ true →
+    (mapped a l a.end ≡ answered_at a l (hairline_at a l a.end l.high))
+    ⊎ (mapped a l a.end ≡ answered_at a l (hairline_at a l a.end (l.low +ℤ one_nearer (width l))))
 unfolding value_on mappable
 end_at_high a l some = go (passes (scale_questions a l)) refl
   where
@@ -217,15 +217,15 @@ end_at_high a l some = go (passes (scale_questions a l)) refl
     row = scale_questions a l
 
     -- a pixel of the page
-    at : (p : ℤ) → (passes row ≡ true → (is_pixel p ≡ true) × (placed a l (end a) ≡ p)) →
-        mapped a l (end a) ≡ answered_at a l (hairline_at a l (end a) p)
-    at p f = answered a l (end a) p (λ none.
+    at : (p : ℤ) → (passes row ≡ true → (is_pixel p ≡ true) × (placed a l a.end ≡ p)) →
+        mapped a l a.end ≡ answered_at a l (hairline_at a l a.end p)
+    at p f = answered a l a.end p (λ none.
         let (page, is) = f none in
-        ((both_ends a (told 3 row none)).second, ap (λ (b : Bool). b || equals (end a) (start a)) some, page, is))
+        ((both_ends a (told 3 row none)).second, ap (λ (b : Bool). b || equals a.end a.start) some, page, is))
 
     go : (b : Bool) → passes row ≡ b →
-        (mapped a l (end a) ≡ answered_at a l (hairline_at a l (end a) l.high))
-        ⊎ (mapped a l (end a) ≡ answered_at a l (hairline_at a l (end a) (l.low +ℤ one_nearer (width l))))
+        (mapped a l a.end ≡ answered_at a l (hairline_at a l a.end l.high))
+        ⊎ (mapped a l a.end ≡ answered_at a l (hairline_at a l a.end (l.low +ℤ one_nearer (width l))))
     go false refuses = inl (at l.high (λ none. absurd (false≢true (sym refuses ∙ none))))
     go true none =
         let page = told 7 row none in

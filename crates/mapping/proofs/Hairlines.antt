@@ -22,7 +22,7 @@ use Rattle.values.proofs.Differences.{whole_range}
 use Rattle.values.proofs.Fits.{answer_none, answer_some}
 use Rattle.axis.specs.declared.Axis.{Axis}
 use Rattle.axis.specs.declared.Limits.{Limits}
-use Rattle.axis.specs.Axes.{start, end, span_of, offset_of}
+use Rattle.axis.specs.Axes.{span_of, offset_of}
 use Rattle.axis.specs.Questions.{ends, pixels, value_on}
 use Rattle.axis.proofs.Axes.{both_ends, with_value}
 use Rattle.axis.proofs.PixelRanges.{limits_are, between_few}
@@ -40,8 +40,8 @@ module _ (a : Axis) (v : Value) (e : ends a ≡ true) (value : value_on a v ≡ 
   unfolding offset_of span_of
   days_kept = rw (
     small_kept (whole_days (offset_of a v))
-        (few (whole_days (offset_of a v)) (whole_range a.kind (start a) v (with_value a e v value))),
-    small_kept (whole_days (span_of a)) (few (whole_days (span_of a)) (whole_range a.kind (start a) (end a) (both_ends a e))),
+        (few (whole_days (offset_of a v)) (whole_range a.kind a.start v (with_value a e v value))),
+    small_kept (whole_days (span_of a)) (few (whole_days (span_of a)) (whole_range a.kind a.start a.end (both_ends a e))),
   ) refl
 
 -- ---- by what is divided

@@ -28,7 +28,7 @@ use Rattle.values.proofs.Differences.{days_near, whole_range, no_earlier_apart, 
 use Rattle.values.proofs.Fits.{fits_yes, fits_range}
 use Rattle.axis.specs.declared.Axis.{Axis}
 use Rattle.axis.specs.declared.Limits.{Limits}
-use Rattle.axis.specs.Axes.{start, end, span_of, offset_of}
+use Rattle.axis.specs.Axes.{span_of, offset_of}
 use Rattle.axis.specs.Questions.{pixels, ends, value_on}
 use Rattle.axis.proofs.Axes.{both_ends, with_value}
 use Rattle.axis.proofs.PixelRanges.{limits_are, between_few}
@@ -78,12 +78,12 @@ sizes a v i e f =
     let both = both_ends a e in
     let k = a.kind in
     let first = with_value a e v f in
-    let last : Both k v (end a) = record { first = f; second = both.second } in
-    let (zt, st) = later_apart k (start a) (end a) both i.some_span in
-    let zo = no_earlier_apart k (start a) v first i.from_start in
-    let zr = no_earlier_apart k v (end a) last i.to_end in
-    let s = nanoseconds k (start a) in
-    let u = nanoseconds k (end a) in
+    let last : Both k v a.end = record { first = f; second = both.second } in
+    let (zt, st) = later_apart k a.start a.end both i.some_span in
+    let zo = no_earlier_apart k a.start v first i.from_start in
+    let zr = no_earlier_apart k v a.end last i.to_end in
+    let s = nanoseconds k a.start in
+    let u = nanoseconds k a.end in
     let x = nanoseconds k v in
     record {
       o = pos_part (offset_of a v);
@@ -99,7 +99,7 @@ days_most : (a : Axis) → ends a ≡ true → (t : ℕ) → span_of a ≡ pos t
 unfolding span_of
 days_most a e t is = omega (
   arith,
-  (whole_range a.kind (start a) (end a) (both_ends a e)).1,
+  (whole_range a.kind a.start a.end (both_ends a e)).1,
   ap (λ (x : ℤ). pos_part (whole_days x)) is,
 )
 
@@ -128,14 +128,14 @@ in_units w o t n D c F e f (x, y) = rw (e, f) (above (mul-le-mul_right c x), bel
 
 -- the days from the start to a date
 abbrev pub days_to : Axis → Value → ℕ
-days_to a v = pos_part (v.head -ℤ a.start_head)
+days_to a v = pos_part (v.head -ℤ a.start.head)
 
 -- a date's position n: a cut with the sign of the width, between whole numbers
 pub record DateCut (a : Axis) (l : Limits) (v : Value) (n : ℤ) : Type 0 where
   pub cut : ℕ
   pub is : n ≡ with_sign (below_zero (width l)) cut
-  pub between : (cut * days_to a (end a) ≤ nat_abs (width l) * days_to a v)
-      × (nat_abs (width l) * days_to a v ≤ suc cut * days_to a (end a))
+  pub between : (cut * days_to a a.end ≤ nat_abs (width l) * days_to a v)
+      × (nat_abs (width l) * days_to a v ≤ suc cut * days_to a a.end)
 
 -- ---- a value from start to end, its position being the pixel less low
 module _ (a : Axis) (l : Limits) (v : Value) (e : ends a ≡ true) (value : value_on a v ≡ true) (page : pixels l ≡ true)
@@ -251,22 +251,22 @@ module _ (a : Axis) (l : Limits) (v : Value) (e : ends a ≡ true) (value : valu
     offset_days : z.o ≡ days_to a v * 86400000000000
     unfolding offset_of
     offset_days =
-        sym (ap pos_part z.offset_is) ∙ ap pos_part (dates_apart a.kind (start a) v (with_value a e v value) dates)
-        ∙ mul_up (v.head -ℤ a.start_head) 86400000000000
+        sym (ap pos_part z.offset_is) ∙ ap pos_part (dates_apart a.kind a.start v (with_value a e v value) dates)
+        ∙ mul_up (v.head -ℤ a.start.head) 86400000000000
 
-    span_days : z.t ≡ days_to a (end a) * 86400000000000
+    span_days : z.t ≡ days_to a a.end * 86400000000000
     unfolding span_of
     span_days =
-        sym (ap pos_part z.span_is) ∙ ap pos_part (dates_apart a.kind (start a) (end a) (both_ends a e) dates)
-        ∙ mul_up (a.end_head -ℤ a.start_head) 86400000000000
+        sym (ap pos_part z.span_is) ∙ ap pos_part (dates_apart a.kind a.start a.end (both_ends a e) dates)
+        ∙ mul_up (a.end.head -ℤ a.start.head) 86400000000000
 
     product_days : w * z.o ≡ w * days_to a v * 86400000000000
     product_days = ap (λ (x : ℕ). w * x) offset_days ∙ sym (mul_assoc w (days_to a v) 86400000000000)
 
     few_days : w * days_to a v < 2 ^ 50
     few_days =
-        let most = (days_near a.kind (start a) (end a) (both_ends a e) no_duration).heads_up in
-        let in_span : days_to a v ≤ days_to a (end a) = omega (arith, z.inside, offset_days, span_days) in
+        let most = (days_near a.kind a.start a.end (both_ends a e) no_duration).heads_up in
+        let in_span : days_to a v ≤ days_to a a.end = omega (arith, z.inside, offset_days, span_days) in
         lt_of_le_of_lt (mul-le-mul W (le_trans in_span most)) (lit< tt)
 
     pub date_cut : DateCut a l v position
@@ -279,12 +279,12 @@ module _ (a : Axis) (l : Limits) (v : Value) (e : ends a ≡ true) (value : valu
               cut = cut_of w z.o z.t;
               is = near_is f ∙ ap (λ (b : Bool). cut_from b (width l) (pos z.o) (pos z.t)) no_duration
                   ∙ cut_is (width l) z.o z.t W z.some z.inside T;
-              between = between (width l) z.o z.t W z.some z.inside T (w * days_to a v) (days_to a (end a))
+              between = between (width l) z.o z.t W z.some z.inside T (w * days_to a v) (days_to a a.end)
                   86400000000000 product_days span_days (lit< tt) few_days;
             }
         go false f =
             let m = days_to a v in
-            let D = days_to a (end a) in
+            let D = days_to a a.end in
             let x : z.o / 86400000000000 ≡ m = rw offset_days (mul-div_cancel m (lit< tt)) in
             let y : z.t / 86400000000000 ≡ D = rw span_days (mul-div_cancel D (lit< tt)) in
             let some : 0 < D = omega (arith, z.some, span_days) in
@@ -296,7 +296,7 @@ module _ (a : Axis) (l : Limits) (v : Value) (e : ends a ≡ true) (value : valu
 
     pub on_dates : CutOrNearer a l v (placed a l v)
     on_dates = let c = date_cut in
-        from_sizes c.cut c.is (in_units w z.o z.t (w * days_to a v) (days_to a (end a)) 86400000000000 c.cut
+        from_sizes c.cut c.is (in_units w z.o z.t (w * days_to a v) (days_to a a.end) 86400000000000 c.cut
         product_days span_days c.between)
 
 -- THE THEOREM, of every pixel that mapping answers

@@ -11,8 +11,8 @@ use Rattle.axis.specs.Axes.{last}
 -- "those before the end"
 pub record DayOf (a : Axis) (i : ℤ) : Type 0 where
   pub dates : over_dates a.kind ≡ true
-  pub inside : within a.start_head i (last a).head ≡ true
+  pub inside : within a.start.head i (last a).head ≡ true
 
 -- "more pixels than days": |W| counts the pixels between the limits, end minus start the days between the ends as written
 abbrev pub MorePixels : Axis → Limits → Type 0
-MorePixels a l = nat_abs (a.end_head -ℤ a.start_head) < nat_abs (l.high -ℤ l.low)
+MorePixels a l = nat_abs (a.end.head -ℤ a.start.head) < nat_abs (l.high -ℤ l.low)

@@ -6,7 +6,7 @@ use Rattle.values.specs.Values.{over_dates}
 use Rattle.values.specs.Differences.{whole_days}
 use Rattle.axis.specs.declared.Axis.{Axis}
 use Rattle.axis.specs.declared.Limits.{Limits}
-use Rattle.axis.specs.Axes.{start, end, span_of, offset_of}
+use Rattle.axis.specs.Axes.{span_of, offset_of}
 use Rattle.axis.specs.Questions.{equals}
 use Rattle.mapping.specs.declared.Hairline.{Hairline}
 use Rattle.mapping.specs.Hairlines.{in_nanoseconds, divides_nothing}
@@ -37,7 +37,7 @@ pub record HowDrawn (a : Axis) (l : Limits) (v : Value) (h : Hairline) : Type 0 
   pub exact_dates : over_dates a.kind ≡ true → h.exact ≡ true → OnPosition a l v h.pixel
   pub dates_exact : over_dates a.kind ≡ true → OnPosition a l v h.pixel → h.exact ≡ true
   -- where start equals end, yes
-  pub one_value : equals (end a) (start a) ≡ true → h.exact ≡ true
+  pub one_value : equals a.end a.start ≡ true → h.exact ≡ true
   -- nothing is lost in whole days, where nothing is divided, and on kinds 1, 2, 3 and 8
   pub kept_days : in_nanoseconds a v ≡ false → h.lost ≡ false
   pub kept_dates : over_dates a.kind ≡ true → h.lost ≡ false

@@ -8,13 +8,13 @@ use Rattle.values.specs.Values.{over_dates, is_duration, earlier}
 use Rattle.values.specs.Differences.{fits_i64, whole_days}
 use Rattle.axis.specs.declared.Axis.{Axis}
 use Rattle.axis.specs.declared.Limits.{Limits}
-use Rattle.axis.specs.Axes.{start, end, span_of, offset_of}
+use Rattle.axis.specs.Axes.{span_of, offset_of}
 
 -- "a value in a span whose start is before its end": from the start to the written end, both included
 pub record Inside (a : Axis) (v : Value) : Type 0 where
-  pub some_span : earlier (start a) (end a) ≡ true
-  pub from_start : earlier v (start a) ≡ false
-  pub to_end : earlier (end a) v ≡ false
+  pub some_span : earlier a.start a.end ≡ true
+  pub from_start : earlier v a.start ≡ false
+  pub to_end : earlier a.end v ≡ false
 
 -- W: how far the high limit is above the low one
 abbrev pub width : Limits → ℤ

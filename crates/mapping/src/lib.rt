@@ -164,7 +164,7 @@ fn divide(s: Scale, a: Axis, v: Value) -> Divided
     requires { ScaleFor a s × (ends a ≡ true) × (value_on a v ≡ true) }
     ensures { hairline_from (limits_of s) result ≡ hairline a (limits_of s) v }
 {
-    if values::is_duration(a.kind) {
+    if a.kind.is_duration() {
         return map_duration(s, a, v);
     }
     map_coord(s, a, v)

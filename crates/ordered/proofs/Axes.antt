@@ -4,7 +4,6 @@ use lib.IntN.{ℤ}
 use mir.Syntax.{w64}
 use mir.Val.{SFits, to_z, of_z}
 use mir.Facts.{to_z-of_z}
-use Rattle.axis.specs.declared.Axis.{Axis}
 use Rattle.axis.specs.declared.Hint.{Hint}
 use Rattle.axis.specs.declared.Hint.TheVariants.{Bold, Light}
 
@@ -16,6 +15,6 @@ pub light_read : {bold n : ℤ} → SFits w64 bold → SFits w64 n →
 light_read bold n = λ i. Light (record { bold = to_z-of_z bold i; n = to_z-of_z n i })
 
 -- what is handed back and what is written, of the numbers that were read
-pub both_read : {A B : Type 0} {r : A} {w : B} {a b : Axis} {h k : Hint} (f : Axis → Hint → A) (g : Axis → Hint → B) → a ≡ b →
-    h ≡ k → (r ≡ f a h) × (w ≡ g a h) → (r ≡ f b k) × (w ≡ g b k)
+pub both_read : {S A B : Type 0} {r : A} {w : B} {a b : S} {h k : Hint} (f : S → Hint → A) (g : S → Hint → B) → a ≡ b → h ≡ k →
+    (r ≡ f a h) × (w ≡ g a h) → (r ≡ f b k) × (w ≡ g b k)
 both_read f g p q (x, y) = (x ∙ (λ i. f (p i) (q i)), y ∙ (λ i. g (p i) (q i)))

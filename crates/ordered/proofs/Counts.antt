@@ -11,7 +11,7 @@ use Rattle.std.specs.Prelude.{Option, Some, None, Result, Ok, Err}
 use Rattle.std.specs.Result.{result_unwrap_or}
 use Rattle.asking.specs.declared.Refusal.{Refusal}
 use Rattle.asking.specs.declared.Refusal.TheVariants as refusal
-use Rattle.asking.specs.Asking.{passes}
+use Rattle.asking.specs.Asking.{passes, and_then}
 use Rattle.asking.proofs.Asked.{answered_ok, passed}
 use Rattle.laws.specs.Numbers.{pos_part}
 use Rattle.axis.specs.declared.Axis.{Axis}
@@ -41,6 +41,22 @@ pub index_fits : (x : Result (Option ℕ) Refusal) {a : Result (Option ℕ) Refu
 index_fits (Ok (Some n)) e small = small n (sym e)
 index_fits (Ok None) e small = omega arith
 index_fits (Err q) e small = omega arith
+
+-- an answer has an axis, where question 1 is asked before it
+pub answered_on : {A B : Type 0} (x : Result A Refusal) (f : A → Result B Refusal) (b : B) → and_then x f ≡ Ok b →
+    (a : A) × (f a ≡ Ok b)
+answered_on (Ok a) f b e = (a, e)
+answered_on (Err q) f b e = absurd (let z : ⊥ = cc in z)
+
+module _ (x : Result Axis Refusal) where
+  -- so it fits where it does on every axis
+  pub number_on : (f : Axis → Result ℕ Refusal) (r : Result ℕ Refusal) → r ≡ and_then x f →
+      ((a : Axis) (n : ℕ) → f a ≡ Ok n → n < 2 ^ 63) → result_unwrap_or r 0 < 2 ^ 63
+  number_on f r e small = number_fits r e (λ n p. let (a, q) = answered_on x f n p in small a n q)
+
+  pub index_on : (f : Axis → Result (Option ℕ) Refusal) (r : Result (Option ℕ) Refusal) → r ≡ and_then x f →
+      ((a : Axis) (n : ℕ) → f a ≡ Ok (Some n) → n < 2 ^ 63) → number_in r < 2 ^ 63
+  index_on f r e small = index_fits r e (λ n p. let (a, q) = answered_on x f (Some n) p in small a n q)
 
 -- ---- a count of ticks: the lent numbers have room for two of each
 listed_most : (l : List Value) (k n : ℕ) → k < 2 ^ 64 → listed_of l k ≡ Ok n → n < 2 ^ 63

@@ -1,3 +1,4 @@
 -- Laws that the exports share.
 pub mod Axes
 pub mod Counts
+pub mod Ruled

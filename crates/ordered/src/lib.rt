@@ -6,6 +6,7 @@ ghost use Rattle.std.specs.Prelude.{◌≡◌, ◌^◌, ◌<◌, length};
 ghost use Rattle.std.specs.Result.{result_unwrap_or};
 ghost use Rattle.calendar.specs.Questions.{number_of, date_at};
 ghost use Rattle.weeks.specs.Questions.{week_day_number, week_date_at};
+ghost use Rattle.asking.specs.Asking.{and_then};
 ghost use Rattle.axis.specs.Axes.{axis_of};
 ghost use Rattle.discrete.specs.Answers.{size_answer, index_answer, from_index_answer, next_answer, previous_answer};
 ghost use Rattle.discrete.specs.Answers.{values_answer, unmap_answer};
@@ -13,10 +14,11 @@ ghost use Rattle.mapping.specs.Mapping.{mapped};
 ghost use Rattle.segmented.specs.Answers.{segment_map_answer, segment_ticks_answer, segment_ticks_written};
 ghost use Rattle.segmented.specs.Answers.{segment_size_answer, segment_index_answer, segment_from_answer};
 ghost use Rattle.rules.specs.Table.{rules_answer};
-ghost use Rattle.ruled.specs.Answers.{ruled_answer, ruled_written};
+ghost use Rattle.ruled.specs.Answers.{ruled_written};
 ghost use Rattle.ticks.specs.Answers.{ticks_answer, ticks_written, period_answer};
 ghost use Rattle.ordered.specs.Replies.{number_reply, number_in, index_reply, period_reply, date_reply, week_reply};
 ghost use Rattle.ordered.specs.Replies.{pixel_reply, value_reply, value_if_reply, step_reply, segment_reply};
+ghost use Rattle.ordered.specs.Replies.{after, table_first, ruled_call};
 
 use asking::Refusal;
 use axis::{Axis, BoldPoints, Hint, LightPoints, Limits};
@@ -129,19 +131,10 @@ fn period_reply(answer: Result<Option<u64>, Refusal>) -> OrderedPeriod
     requires { number_in answer < 2 ^ 63 }
     ensures { result ≡ period_reply answer }
 {
-    match answer {
-        Ok(Some(k)) => OrderedPeriod {
-            status: 0,
-            nanoseconds: k as i64,
-        },
-        Ok(None) => OrderedPeriod {
-            status: -1,
-            nanoseconds: 0,
-        },
-        Err(q) => OrderedPeriod {
-            status: i64::from(q),
-            nanoseconds: 0,
-        },
+    let reply = index_reply(answer);
+    OrderedPeriod {
+        status: reply.status,
+        nanoseconds: reply.value,
     }
 }
 
@@ -332,11 +325,11 @@ pub fn ordered_map(
     head: i64,
     tail: i64,
 ) -> OrderedPixel
-    ensures { result ≡ pixel_reply (mapped
+    ensures { result ≡ pixel_reply (and_then
         (axis_of kind start_head start_tail end_head end_tail end_excluded)
-        (record { low = low; high = high }) (record { head = head; tail = tail })) }
+        (λ a. mapped a (record { low = low; high = high }) (record { head = head; tail = tail }))) }
 {
-    let a = axis::axis_of(
+    let axis = axis::axis_of(
         kind,
         start_head,
         start_tail,
@@ -346,28 +339,35 @@ pub fn ordered_map(
     );
     let l = Limits { low, high };
     let v = Value { head, tail };
-    OrderedPixel::from(mapping::map(a, l, v))
+    OrderedPixel::from(axis.and_then(|a| mapping::map(a, l, v)))
 }
 
 // Either hint: the count of ticks, and their list.
-fn count_ticks(a: Axis, h: Hint, lent_len: u64) -> OrderedNumber
-    ensures { result ≡ number_reply (ticks_answer a h lent_len) }
+fn count_ticks(axis: Result<Axis, Refusal>, h: Hint, lent_len: u64) -> OrderedNumber
+    ensures { result ≡ number_reply (and_then axis (λ a. ticks_answer a h lent_len)) }
 {
-    number_reply(ticks::count(a, h, lent_len))
+    number_reply(axis.and_then(|a| ticks::count(a, h, lent_len)))
 }
 
-fn list_ticks(a: Axis, h: Hint, lent: &mut [i64]) -> OrderedNumber
-    ensures value { result ≡ number_reply (ticks_answer a h (length lent.old)) }
-    ensures after_call { lent.new ≡ ticks_written a h lent.old }
+// A list has a match where a count has and_then: of what a closure writes nothing is known after the call.
+fn list_ticks(axis: Result<Axis, Refusal>, h: Hint, lent: &mut [i64]) -> OrderedNumber
+    ensures value { result ≡ number_reply (and_then axis (λ a. ticks_answer a h (length lent.old))) }
+    ensures after_call { lent.new ≡ after axis (λ a. ticks_written a h lent.old) lent.old }
 {
-    number_reply(ticks::list(a, h, lent))
+    match axis {
+        Ok(a) => number_reply(ticks::list(a, h, lent)),
+        Err(q) => number_reply(Err(q)),
+    }
 }
 
-fn list_segment_ticks(a: Axis, h: Hint, lent: &mut [i64]) -> OrderedNumber
-    ensures value { result ≡ number_reply (segment_ticks_answer a h (length lent.old)) }
-    ensures after_call { lent.new ≡ segment_ticks_written a h lent.old }
+fn list_segment_ticks(axis: Result<Axis, Refusal>, h: Hint, lent: &mut [i64]) -> OrderedNumber
+    ensures value { result ≡ number_reply (and_then axis (λ a. segment_ticks_answer a h (length lent.old))) }
+    ensures after_call { lent.new ≡ after axis (λ a. segment_ticks_written a h lent.old) lent.old }
 {
-    number_reply(segmented::list(a, h, lent))
+    match axis {
+        Ok(a) => number_reply(segmented::list(a, h, lent)),
+        Err(q) => number_reply(Err(q)),
+    }
 }
 
 pub fn ordered_ticks_bold(
@@ -380,14 +380,14 @@ pub fn ordered_ticks_bold(
     n: i64,
     lent: &mut [i64],
 ) -> OrderedNumber
-    ensures value { result ≡ number_reply (ticks_answer
+    ensures value { result ≡ number_reply (and_then
         (axis_of kind start_head start_tail end_head end_tail end_excluded)
-        (Hint.Bold (record { n = n })) (length lent.old)) }
-    ensures after_call { lent.new ≡ ticks_written
+        (λ a. ticks_answer a (Hint.Bold (record { n = n })) (length lent.old))) }
+    ensures after_call { lent.new ≡ after
         (axis_of kind start_head start_tail end_head end_tail end_excluded)
-        (Hint.Bold (record { n = n })) lent.old }
+        (λ a. ticks_written a (Hint.Bold (record { n = n })) lent.old) lent.old }
 {
-    let a = axis::axis_of(
+    let axis = axis::axis_of(
         kind,
         start_head,
         start_tail,
@@ -396,7 +396,7 @@ pub fn ordered_ticks_bold(
         end_excluded,
     );
     let h = BoldPoints { n };
-    list_ticks(a, Hint::Bold(h), lent)
+    list_ticks(axis, Hint::Bold(h), lent)
 }
 
 pub fn ordered_count_bold(
@@ -409,11 +409,11 @@ pub fn ordered_count_bold(
     n: i64,
     lent_len: usize,
 ) -> OrderedNumber
-    ensures { result ≡ number_reply (ticks_answer
+    ensures { result ≡ number_reply (and_then
         (axis_of kind start_head start_tail end_head end_tail end_excluded)
-        (Hint.Bold (record { n = n })) lent_len) }
+        (λ a. ticks_answer a (Hint.Bold (record { n = n })) lent_len)) }
 {
-    let a = axis::axis_of(
+    let axis = axis::axis_of(
         kind,
         start_head,
         start_tail,
@@ -422,7 +422,7 @@ pub fn ordered_count_bold(
         end_excluded,
     );
     let h = BoldPoints { n };
-    count_ticks(a, Hint::Bold(h), lent_len as u64)
+    count_ticks(axis, Hint::Bold(h), lent_len as u64)
 }
 
 pub fn ordered_ticks_light(
@@ -436,14 +436,14 @@ pub fn ordered_ticks_light(
     n: i64,
     lent: &mut [i64],
 ) -> OrderedNumber
-    ensures value { result ≡ number_reply (ticks_answer
+    ensures value { result ≡ number_reply (and_then
         (axis_of kind start_head start_tail end_head end_tail end_excluded)
-        (Hint.Light (record { bold = bold; n = n })) (length lent.old)) }
-    ensures after_call { lent.new ≡ ticks_written
+        (λ a. ticks_answer a (Hint.Light (record { bold = bold; n = n })) (length lent.old))) }
+    ensures after_call { lent.new ≡ after
         (axis_of kind start_head start_tail end_head end_tail end_excluded)
-        (Hint.Light (record { bold = bold; n = n })) lent.old }
+        (λ a. ticks_written a (Hint.Light (record { bold = bold; n = n })) lent.old) lent.old }
 {
-    let a = axis::axis_of(
+    let axis = axis::axis_of(
         kind,
         start_head,
         start_tail,
@@ -452,7 +452,7 @@ pub fn ordered_ticks_light(
         end_excluded,
     );
     let h = LightPoints { bold, n };
-    list_ticks(a, Hint::Light(h), lent)
+    list_ticks(axis, Hint::Light(h), lent)
 }
 
 pub fn ordered_count_light(
@@ -466,11 +466,11 @@ pub fn ordered_count_light(
     n: i64,
     lent_len: usize,
 ) -> OrderedNumber
-    ensures { result ≡ number_reply (ticks_answer
+    ensures { result ≡ number_reply (and_then
         (axis_of kind start_head start_tail end_head end_tail end_excluded)
-        (Hint.Light (record { bold = bold; n = n })) lent_len) }
+        (λ a. ticks_answer a (Hint.Light (record { bold = bold; n = n })) lent_len)) }
 {
-    let a = axis::axis_of(
+    let axis = axis::axis_of(
         kind,
         start_head,
         start_tail,
@@ -479,13 +479,42 @@ pub fn ordered_count_light(
         end_excluded,
     );
     let h = LightPoints { bold, n };
-    count_ticks(a, Hint::Light(h), lent_len as u64)
+    count_ticks(axis, Hint::Light(h), lent_len as u64)
 }
 
 pub fn ordered_rules(table: &[u8]) -> OrderedNumber
     ensures { result ≡ number_reply (rules_answer table.now) }
 {
     number_reply(rules::count(table))
+}
+
+// House rules: the table is asked before question 1.
+fn ask_table_first(axis: Result<Axis, Refusal>, table: &[u8]) -> Result<Axis, Refusal>
+    ensures { result ≡ table_first table.now axis }
+{
+    match axis {
+        Ok(a) => Ok(a),
+        Err(q) => {
+            rules::checked(table)?;
+            Err(q)
+        }
+    }
+}
+
+fn count_ruled(axis: Result<Axis, Refusal>, table: &[u8], lent_len: u64) -> OrderedNumber
+    ensures { result ≡ number_reply (ruled_call table.now axis lent_len) }
+{
+    number_reply(ask_table_first(axis, table).and_then(|a| ruled::count(a, table, lent_len)))
+}
+
+fn list_ruled(axis: Result<Axis, Refusal>, table: &[u8], lent: &mut [i64]) -> OrderedNumber
+    ensures value { result ≡ number_reply (ruled_call table.now axis (length lent.old)) }
+    ensures after_call { lent.new ≡ after axis (λ a. ruled_written table.now a lent.old) lent.old }
+{
+    match ask_table_first(axis, table) {
+        Ok(a) => number_reply(ruled::list(a, table, lent)),
+        Err(q) => number_reply(Err(q)),
+    }
 }
 
 pub fn ordered_ticks_ruled(
@@ -498,12 +527,13 @@ pub fn ordered_ticks_ruled(
     table: &[u8],
     lent: &mut [i64],
 ) -> OrderedNumber
-    ensures value { result ≡ number_reply (ruled_answer table.now
+    ensures value { result ≡ number_reply (ruled_call table.now
         (axis_of kind start_head start_tail end_head end_tail end_excluded) (length lent.old)) }
-    ensures after_call { lent.new ≡ ruled_written table.now
-        (axis_of kind start_head start_tail end_head end_tail end_excluded) lent.old }
+    ensures after_call { lent.new ≡ after
+        (axis_of kind start_head start_tail end_head end_tail end_excluded)
+        (λ a. ruled_written table.now a lent.old) lent.old }
 {
-    let a = axis::axis_of(
+    let axis = axis::axis_of(
         kind,
         start_head,
         start_tail,
@@ -511,7 +541,7 @@ pub fn ordered_ticks_ruled(
         end_tail,
         end_excluded,
     );
-    number_reply(ruled::list(a, table, lent))
+    list_ruled(axis, table, lent)
 }
 
 pub fn ordered_count_ruled(
@@ -524,10 +554,10 @@ pub fn ordered_count_ruled(
     table: &[u8],
     lent_len: usize,
 ) -> OrderedNumber
-    ensures { result ≡ number_reply (ruled_answer table.now
+    ensures { result ≡ number_reply (ruled_call table.now
         (axis_of kind start_head start_tail end_head end_tail end_excluded) lent_len) }
 {
-    let a = axis::axis_of(
+    let axis = axis::axis_of(
         kind,
         start_head,
         start_tail,
@@ -535,7 +565,7 @@ pub fn ordered_count_ruled(
         end_tail,
         end_excluded,
     );
-    number_reply(ruled::count(a, table, lent_len as u64))
+    count_ruled(axis, table, lent_len as u64)
 }
 
 pub fn ordered_period_per_point(
@@ -547,11 +577,11 @@ pub fn ordered_period_per_point(
     end_excluded: i64,
     n: i64,
 ) -> OrderedPeriod
-    ensures { result ≡ period_reply (period_answer
+    ensures { result ≡ period_reply (and_then
         (axis_of kind start_head start_tail end_head end_tail end_excluded)
-        (record { n = n })) }
+        (λ a. period_answer a (record { n = n }))) }
 {
-    let a = axis::axis_of(
+    let axis = axis::axis_of(
         kind,
         start_head,
         start_tail,
@@ -560,7 +590,7 @@ pub fn ordered_period_per_point(
         end_excluded,
     );
     let h = BoldPoints { n };
-    period_reply(ticks::period_per_point(a, h))
+    period_reply(axis.and_then(|a| ticks::period_per_point(a, h)))
 }
 
 pub fn ordered_unmap(
@@ -574,11 +604,11 @@ pub fn ordered_unmap(
     high: i64,
     pixel: i64,
 ) -> OrderedValue
-    ensures { result ≡ value_reply (unmap_answer
+    ensures { result ≡ value_reply (and_then
         (axis_of kind start_head start_tail end_head end_tail end_excluded)
-        (record { low = low; high = high }) pixel) }
+        (λ a. unmap_answer a (record { low = low; high = high }) pixel)) }
 {
-    let a = axis::axis_of(
+    let axis = axis::axis_of(
         kind,
         start_head,
         start_tail,
@@ -587,7 +617,7 @@ pub fn ordered_unmap(
         end_excluded,
     );
     let l = Limits { low, high };
-    OrderedValue::from(discrete::unmap(a, l, pixel))
+    OrderedValue::from(axis.and_then(|a| discrete::unmap(a, l, pixel)))
 }
 
 pub fn ordered_size(
@@ -598,10 +628,11 @@ pub fn ordered_size(
     end_tail: i64,
     end_excluded: i64,
 ) -> OrderedNumber
-    ensures { result ≡ number_reply (size_answer
-        (axis_of kind start_head start_tail end_head end_tail end_excluded)) }
+    ensures { result ≡ number_reply (and_then
+        (axis_of kind start_head start_tail end_head end_tail end_excluded)
+        size_answer) }
 {
-    let a = axis::axis_of(
+    let axis = axis::axis_of(
         kind,
         start_head,
         start_tail,
@@ -609,7 +640,7 @@ pub fn ordered_size(
         end_tail,
         end_excluded,
     );
-    number_reply(discrete::size(a))
+    number_reply(axis.and_then(discrete::size))
 }
 
 pub fn ordered_index_of(
@@ -622,11 +653,11 @@ pub fn ordered_index_of(
     head: i64,
     tail: i64,
 ) -> OrderedNumber
-    ensures { result ≡ index_reply (index_answer
+    ensures { result ≡ index_reply (and_then
         (axis_of kind start_head start_tail end_head end_tail end_excluded)
-        (record { head = head; tail = tail })) }
+        (λ a. index_answer a (record { head = head; tail = tail }))) }
 {
-    let a = axis::axis_of(
+    let axis = axis::axis_of(
         kind,
         start_head,
         start_tail,
@@ -635,7 +666,7 @@ pub fn ordered_index_of(
         end_excluded,
     );
     let v = Value { head, tail };
-    index_reply(discrete::index_of(a, v))
+    index_reply(axis.and_then(|a| discrete::index_of(a, v)))
 }
 
 pub fn ordered_from_index(
@@ -647,11 +678,11 @@ pub fn ordered_from_index(
     end_excluded: i64,
     index: i64,
 ) -> OrderedValue
-    ensures { result ≡ value_reply (from_index_answer
+    ensures { result ≡ value_reply (and_then
         (axis_of kind start_head start_tail end_head end_tail end_excluded)
-        index) }
+        (λ a. from_index_answer a index)) }
 {
-    let a = axis::axis_of(
+    let axis = axis::axis_of(
         kind,
         start_head,
         start_tail,
@@ -659,7 +690,7 @@ pub fn ordered_from_index(
         end_tail,
         end_excluded,
     );
-    OrderedValue::from(discrete::from_index(a, index))
+    OrderedValue::from(axis.and_then(|a| discrete::from_index(a, index)))
 }
 
 pub fn ordered_next(
@@ -672,11 +703,11 @@ pub fn ordered_next(
     head: i64,
     tail: i64,
 ) -> OrderedValue
-    ensures { result ≡ value_if_reply (next_answer
+    ensures { result ≡ value_if_reply (and_then
         (axis_of kind start_head start_tail end_head end_tail end_excluded)
-        (record { head = head; tail = tail })) }
+        (λ a. next_answer a (record { head = head; tail = tail }))) }
 {
-    let a = axis::axis_of(
+    let axis = axis::axis_of(
         kind,
         start_head,
         start_tail,
@@ -685,7 +716,7 @@ pub fn ordered_next(
         end_excluded,
     );
     let v = Value { head, tail };
-    OrderedValue::from(discrete::next(a, v))
+    OrderedValue::from(axis.and_then(|a| discrete::next(a, v)))
 }
 
 pub fn ordered_previous(
@@ -698,11 +729,11 @@ pub fn ordered_previous(
     head: i64,
     tail: i64,
 ) -> OrderedValue
-    ensures { result ≡ value_if_reply (previous_answer
+    ensures { result ≡ value_if_reply (and_then
         (axis_of kind start_head start_tail end_head end_tail end_excluded)
-        (record { head = head; tail = tail })) }
+        (λ a. previous_answer a (record { head = head; tail = tail }))) }
 {
-    let a = axis::axis_of(
+    let axis = axis::axis_of(
         kind,
         start_head,
         start_tail,
@@ -711,7 +742,7 @@ pub fn ordered_previous(
         end_excluded,
     );
     let v = Value { head, tail };
-    OrderedValue::from(discrete::previous(a, v))
+    OrderedValue::from(axis.and_then(|a| discrete::previous(a, v)))
 }
 
 pub fn ordered_values(
@@ -723,11 +754,11 @@ pub fn ordered_values(
     end_excluded: i64,
     place: i64,
 ) -> OrderedStep
-    ensures { result ≡ step_reply (values_answer
+    ensures { result ≡ step_reply (and_then
         (axis_of kind start_head start_tail end_head end_tail end_excluded)
-        (record { place = place })) }
+        (λ a. values_answer a (record { place = place }))) }
 {
-    let a = axis::axis_of(
+    let axis = axis::axis_of(
         kind,
         start_head,
         start_tail,
@@ -736,7 +767,7 @@ pub fn ordered_values(
         end_excluded,
     );
     let c = Cursor { place };
-    OrderedStep::from(discrete::values(a, c))
+    OrderedStep::from(axis.and_then(|a| discrete::values(a, c)))
 }
 
 pub fn ordered_segment_map(
@@ -752,11 +783,11 @@ pub fn ordered_segment_map(
     head: i64,
     tail: i64,
 ) -> OrderedPixel
-    ensures { result ≡ pixel_reply (segment_map_answer
+    ensures { result ≡ pixel_reply (and_then
         (axis_of kind start_head start_tail end_head end_tail end_excluded)
-        (record { low = low; high = high }) (record { case = segment; head = head; tail = tail })) }
+        (λ a. segment_map_answer a (record { low = low; high = high }) (record { case = segment; head = head; tail = tail }))) }
 {
-    let a = axis::axis_of(
+    let axis = axis::axis_of(
         kind,
         start_head,
         start_tail,
@@ -770,7 +801,7 @@ pub fn ordered_segment_map(
         head,
         tail,
     };
-    OrderedPixel::from(segmented::map(a, l, s))
+    OrderedPixel::from(axis.and_then(|a| segmented::map(a, l, s)))
 }
 
 pub fn ordered_segment_ticks_bold(
@@ -783,14 +814,14 @@ pub fn ordered_segment_ticks_bold(
     n: i64,
     lent: &mut [i64],
 ) -> OrderedNumber
-    ensures value { result ≡ number_reply (segment_ticks_answer
+    ensures value { result ≡ number_reply (and_then
         (axis_of kind start_head start_tail end_head end_tail end_excluded)
-        (Hint.Bold (record { n = n })) (length lent.old)) }
-    ensures after_call { lent.new ≡ segment_ticks_written
+        (λ a. segment_ticks_answer a (Hint.Bold (record { n = n })) (length lent.old))) }
+    ensures after_call { lent.new ≡ after
         (axis_of kind start_head start_tail end_head end_tail end_excluded)
-        (Hint.Bold (record { n = n })) lent.old }
+        (λ a. segment_ticks_written a (Hint.Bold (record { n = n })) lent.old) lent.old }
 {
-    let a = axis::axis_of(
+    let axis = axis::axis_of(
         kind,
         start_head,
         start_tail,
@@ -799,7 +830,7 @@ pub fn ordered_segment_ticks_bold(
         end_excluded,
     );
     let h = BoldPoints { n };
-    list_segment_ticks(a, Hint::Bold(h), lent)
+    list_segment_ticks(axis, Hint::Bold(h), lent)
 }
 
 pub fn ordered_segment_ticks_light(
@@ -813,14 +844,14 @@ pub fn ordered_segment_ticks_light(
     n: i64,
     lent: &mut [i64],
 ) -> OrderedNumber
-    ensures value { result ≡ number_reply (segment_ticks_answer
+    ensures value { result ≡ number_reply (and_then
         (axis_of kind start_head start_tail end_head end_tail end_excluded)
-        (Hint.Light (record { bold = bold; n = n })) (length lent.old)) }
-    ensures after_call { lent.new ≡ segment_ticks_written
+        (λ a. segment_ticks_answer a (Hint.Light (record { bold = bold; n = n })) (length lent.old))) }
+    ensures after_call { lent.new ≡ after
         (axis_of kind start_head start_tail end_head end_tail end_excluded)
-        (Hint.Light (record { bold = bold; n = n })) lent.old }
+        (λ a. segment_ticks_written a (Hint.Light (record { bold = bold; n = n })) lent.old) lent.old }
 {
-    let a = axis::axis_of(
+    let axis = axis::axis_of(
         kind,
         start_head,
         start_tail,
@@ -829,7 +860,7 @@ pub fn ordered_segment_ticks_light(
         end_excluded,
     );
     let h = LightPoints { bold, n };
-    list_segment_ticks(a, Hint::Light(h), lent)
+    list_segment_ticks(axis, Hint::Light(h), lent)
 }
 
 pub fn ordered_segment_size(
@@ -840,10 +871,11 @@ pub fn ordered_segment_size(
     end_tail: i64,
     end_excluded: i64,
 ) -> OrderedNumber
-    ensures { result ≡ number_reply
-        (segment_size_answer (axis_of kind start_head start_tail end_head end_tail end_excluded)) }
+    ensures { result ≡ number_reply (and_then
+        (axis_of kind start_head start_tail end_head end_tail end_excluded)
+        segment_size_answer) }
 {
-    let a = axis::axis_of(
+    let axis = axis::axis_of(
         kind,
         start_head,
         start_tail,
@@ -851,7 +883,7 @@ pub fn ordered_segment_size(
         end_tail,
         end_excluded,
     );
-    number_reply(segmented::size(a))
+    number_reply(axis.and_then(segmented::size))
 }
 
 pub fn ordered_segment_index_of(
@@ -865,11 +897,11 @@ pub fn ordered_segment_index_of(
     head: i64,
     tail: i64,
 ) -> OrderedNumber
-    ensures { result ≡ index_reply (segment_index_answer
+    ensures { result ≡ index_reply (and_then
         (axis_of kind start_head start_tail end_head end_tail end_excluded)
-        (record { case = segment; head = head; tail = tail })) }
+        (λ a. segment_index_answer a (record { case = segment; head = head; tail = tail }))) }
 {
-    let a = axis::axis_of(
+    let axis = axis::axis_of(
         kind,
         start_head,
         start_tail,
@@ -882,7 +914,7 @@ pub fn ordered_segment_index_of(
         head,
         tail,
     };
-    index_reply(segmented::index_of(a, s))
+    index_reply(axis.and_then(|a| segmented::index_of(a, s)))
 }
 
 pub fn ordered_segment_from_index(
@@ -894,10 +926,11 @@ pub fn ordered_segment_from_index(
     end_excluded: i64,
     index: i64,
 ) -> OrderedSegment
-    ensures { result ≡ segment_reply (segment_from_answer
-        (axis_of kind start_head start_tail end_head end_tail end_excluded) index) }
+    ensures { result ≡ segment_reply (and_then
+        (axis_of kind start_head start_tail end_head end_tail end_excluded)
+        (λ a. segment_from_answer a index)) }
 {
-    let a = axis::axis_of(
+    let axis = axis::axis_of(
         kind,
         start_head,
         start_tail,
@@ -905,5 +938,5 @@ pub fn ordered_segment_from_index(
         end_tail,
         end_excluded,
     );
-    OrderedSegment::from(segmented::from_index(a, index))
+    OrderedSegment::from(axis.and_then(|a| segmented::from_index(a, index)))
 }

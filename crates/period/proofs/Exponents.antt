@@ -32,7 +32,8 @@ module _ (span n : ℕ) where
   at_test k = refl
 
   -- the first of the powers that goes into the span n times
-  pub first_power : 0 < n → (k : ℕ) → unwrap_or (find (λ (x : ℕ). leb x (span / n)) (powers_to k)) 1 ≡ 10 ^ exponent_up_to k span n
+  pub first_power : 0 < n → (k : ℕ) → unwrap_or (find (λ (x : ℕ). leb x (span / n)) (powers_to k)) 1
+      ≡ 10 ^ exponent_up_to k span n
   first_power N zero = rw at_none (by_test (leb 1 (span / n)))
     where
       by_test : (b : Bool) → unwrap_or {T = ℕ} (cond b (Some 1) None) 1 ≡ 1

@@ -24,11 +24,11 @@ use Rattle.values.proofs.Joining.{joint}
 use Rattle.values.proofs.Fits.{fits_range}
 use Rattle.values.proofs.Differences.{days_apart, durations_apart}
 use Rattle.axis.specs.declared.Axis.{Axis}
-use Rattle.axis.specs.Axes.{start, end, span_of}
+use Rattle.axis.specs.Axes.{span_of}
 use Rattle.axis.specs.Questions.{ends, in_order}
 use Rattle.axis.proofs.Axes.{both_ends, span_from_0}
-use Rattle.counting.specs.Counting.{Dated, monthly, yearly, weekly, from_day, to_day}
-use Rattle.counting.proofs.Counting.{one_dates, monthly_dated, yearly_dated, weekly_dated, starts, end_value, from_range}
+use Rattle.counting.specs.Counting.{Dated, from_day, to_day}
+use Rattle.counting.proofs.Counting.{starts, end_value, from_range}
 use Rattle.counting.proofs.Counting.{to_range, from_start, from_next, date_from, to_is}
 use Rattle.weeks.proofs.Mondays.{first_monday_law}
 use Rattle.period.specs.Ladders.{first_fit}
@@ -53,14 +53,14 @@ use Rattle.plans.proofs.Cases.{choose, by_test}
 use Rattle.plans.proofs.Days.{step_wide, days_kept}
 use Rattle.plans.proofs.Weeks.{week_wide, weeks_kept}
 use Rattle.plans.proofs.Months.{Wide, last_month, first_month, last_most, first_most, year_wide, month_wide, months_kept}
-use Rattle.plans.proofs.Plans.{four_or_seven}
+use Rattle.plans.proofs.Plans.{by_plan}
 use Rattle.plans.proofs.Spans.{start_duration, end_duration, shift_small, no_period, some_period, spaced_out, timed, long}
 use Rattle.plans.proofs.Spans.{from, to, begins, not_fitting, left_dn, left_small, left_most, left_last}
 use Rattle.plans.proofs.Spans.{total_range}
 
 pub record Good (a : Axis) (n : ℕ) (s : Steps) : Type 0 where
   pub sound : Sound s
-  pub fine : Fine n (start a) (end a) (numbers (ticks s))
+  pub fine : Fine n a.start a.end (numbers (ticks s))
 
 mag_of : (z : ℤ) (k : ℕ) → pos_part z < k → neg_part z ≤ k → mag z < k
 mag_of (pos n) k a b = a
@@ -110,9 +110,9 @@ module _ (a : Axis) (n : ℕ) (r : Dated a) where
             (omega arith))
             (rw (div-one (date_step d n)) (omega (arith, step_wide d n (omega arith))))
             (rw (div-one (0 + (d + 1))) (omega arith)) no_months;
-        fine = steps_fine s n (d + 1) d (start a) (end a) (omega arith) k (λ h. omega arith)
-            (rw (heads_tick s 0 refl refl, x) (day_from_law (start a) (from_day a) v.head_dn p q))
-            (rw (heads_tick s d refl refl, e) (day_to (end a) (to_day a) w.head_dn w.tail_dn
+        fine = steps_fine s n (d + 1) d a.start a.end (omega arith) k (λ h. omega arith)
+            (rw (heads_tick s 0 refl refl, x) (day_from_law a.start (from_day a) v.head_dn p q))
+            (rw (heads_tick s d refl refl, e) (day_to a.end (to_day a) w.head_dn w.tail_dn
             (omega (arith, to_is a))));
       }
 
@@ -139,11 +139,11 @@ module _ (a : Axis) (n : ℕ) (r : Dated a) where
         fine = elim (dec_le f e) [
           | yes l ↦
               let y : f + (e - f) ≡ to_day a = omega arith in
-              steps_fine s n room (e - f) (start a) (end a) (omega arith) k (λ h. omega arith)
-              (rw (heads_tick s 0 refl refl, x) (day_from_law (start a) f v.head_dn (omega arith) (λ i. q (omega arith))))
-              (rw (heads_tick s (e - f) refl refl, y) (day_to (end a) (to_day a) w.head_dn w.tail_dn
+              steps_fine s n room (e - f) a.start a.end (omega arith) k (λ h. omega arith)
+              (rw (heads_tick s 0 refl refl, x) (day_from_law a.start f v.head_dn (omega arith) (λ i. q (omega arith))))
+              (rw (heads_tick s (e - f) refl refl, y) (day_to a.end (to_day a) w.head_dn w.tail_dn
               (omega (arith, to_is a))))
-          | no l ↦ let none : e + 1 - f ≡ 0 = omega arith in rw none (none_fine n (start a) (end a))
+          | no l ↦ let none : e + 1 - f ≡ 0 = omega arith in rw none (none_fine n a.start a.end)
         ];
       }
 
@@ -171,9 +171,9 @@ module _ (a : Axis) (n : ℕ) (r : Dated a) where
       record {
         sound = kept_sound s n room h (omega arith) (omega arith) (omega arith) (rw (div-one k) (omega (arith, wide.2)))
             (rw (div-one (m + room)) (omega arith)) (λ t. top);
-        fine = steps_fine s n room e (start a) (end a) (omega arith) h (λ t. omega arith)
-            (day_from_law (start a) (first_day m) v.head_dn (omega (arith, f.ahead)) (λ i. q (omega (arith, f.ahead))))
-            (day_to (end a) (first_day e) w.head_dn w.tail_dn (omega (arith, l.begun, to_is a)));
+        fine = steps_fine s n room e a.start a.end (omega arith) h (λ t. omega arith)
+            (day_from_law a.start (first_day m) v.head_dn (omega (arith, f.ahead)) (λ i. q (omega (arith, f.ahead))))
+            (day_to a.end (first_day e) w.head_dn w.tail_dn (omega (arith, l.begun, to_is a)));
       }
 
   month_good : Good a n (month_plan a n)
@@ -195,44 +195,44 @@ number_tick s q t x h u m p e l b r =
     let c : x % s.per ≡ t = ap (λ (y : ℕ). y % s.per) e ∙ (mul-add-mod_self_right q s.per t ∙ mod-eq_of_lt l) in
     rw (m, d, c, b, r)
 
-pub heads_in_order : (a : Axis) → in_order a ≡ true → pos_part a.start_head + neg_part a.end_head ≤ pos_part a.end_head
-    + neg_part a.start_head
+pub heads_in_order : (a : Axis) → in_order a ≡ true → pos_part a.start.head + neg_part a.end.head ≤ pos_part a.end.head
+    + neg_part a.start.head
 unfolding in_order earlier
 heads_in_order a o =
-    lt_false a.end_head a.start_head (either_false (lt_z a.end_head a.start_head)
-    (le_z a.end_head a.start_head && lt_z a.end_tail a.start_tail) (not-true _ o)).0
+    lt_false a.end.head a.start.head (either_false (lt_z a.end.head a.start.head)
+    (le_z a.end.head a.start.head && lt_z a.end.tail a.start.tail) (not-true _ o)).0
 
 module _ (a : Axis) (o : in_order a ≡ true) where
   abbrev heads : ℤ
-  heads = a.end_head -ℤ a.start_head
+  heads = a.end.head -ℤ a.start.head
 
   heads_dn : neg_part heads ≡ 0
-  heads_dn = not_below heads (omega (arith, sub a.end_head a.start_head, heads_in_order a o))
+  heads_dn = not_below heads (omega (arith, sub a.end.head a.start.head, heads_in_order a o))
 
-  heads_up : a.start_head +ℤ pos (pos_part heads) ≡ a.end_head
-  heads_up = same (a.start_head +ℤ pos (pos_part heads)) a.end_head
-      (omega (arith, add a.start_head (pos (pos_part heads)), sub a.end_head a.start_head, heads_dn))
+  heads_up : a.start.head +ℤ pos (pos_part heads) ≡ a.end.head
+  heads_up = same (a.start.head +ℤ pos (pos_part heads)) a.end.head
+      (omega (arith, add a.start.head (pos (pos_part heads)), sub a.end.head a.start.head, heads_dn))
 
   -- the end, counted from the start's head
-  at_end : (per : ℕ) → span_of a ≡ heads *ℤ pos per +ℤ (a.end_tail -ℤ a.start_tail) → neg_part (span_of a) ≡ 0 →
-      neg_part a.start_tail ≡ 0 → neg_part a.end_tail ≡ 0
-      → pos_part a.start_tail + pos_part (span_of a) ≡ pos_part heads * per + pos_part a.end_tail
+  at_end : (per : ℕ) → span_of a ≡ heads *ℤ pos per +ℤ (a.end.tail -ℤ a.start.tail) → neg_part (span_of a) ≡ 0 →
+      neg_part a.start.tail ≡ 0 → neg_part a.end.tail ≡ 0
+      → pos_part a.start.tail + pos_part (span_of a) ≡ pos_part heads * per + pos_part a.end.tail
   at_end per e z s t =
       let y : neg_part heads * per ≡ 0 = rw heads_dn (zero-mul per) in
-      let x = joint heads (a.end_tail -ℤ a.start_tail) per in
-      omega (arith, ap pos_part e, ap neg_part e, sub a.end_tail a.start_tail)
+      let x = joint heads (a.end.tail -ℤ a.start.tail) per in
+      omega (arith, ap pos_part e, ap neg_part e, sub a.end.tail a.start.tail)
 
 -- the numbers of an axis over date-times or durations, per to a head
 pub record Counts (a : Axis) (per : ℕ) : Type 0 where
   pub least : per_second ≤ per
   pub most : per ≤ per_day
-  pub start_dn : neg_part a.start_tail ≡ 0
-  pub start_most : pos_part a.start_tail < per
-  pub end_dn : neg_part a.end_tail ≡ 0
-  pub end_most : pos_part a.end_tail < per
-  pub head_dn : neg_part a.start_head ≤ 315576000000
-  pub head_up : pos_part a.start_head ≤ 315576000000
-  pub parts : span_of a ≡ (a.end_head -ℤ a.start_head) *ℤ pos per +ℤ (a.end_tail -ℤ a.start_tail)
+  pub start_dn : neg_part a.start.tail ≡ 0
+  pub start_most : pos_part a.start.tail < per
+  pub end_dn : neg_part a.end.tail ≡ 0
+  pub end_most : pos_part a.end.tail < per
+  pub head_dn : neg_part a.start.head ≤ 315576000000
+  pub head_up : pos_part a.start.head ≤ 315576000000
+  pub parts : span_of a ≡ (a.end.head -ℤ a.start.head) *ℤ pos per +ℤ (a.end.tail -ℤ a.start.tail)
 
 pub counts : (a : Axis) → ends a ≡ true → Counts a (unit a.kind)
 unfolding span_of
@@ -249,7 +249,7 @@ counts a r =
       end_most = omega arith;
       head_dn = v.head_least;
       head_up = v.head_most;
-      parts = durations_apart a.kind (start a) (end a) e;
+      parts = durations_apart a.kind a.start a.end e;
     })
     (λ e. let v = starts a (record { real = r; dates = e }) in
     let w = end_value a (record { real = r; dates = e }) in
@@ -262,19 +262,19 @@ counts a r =
       end_most = omega arith;
       head_dn = omega arith;
       head_up = omega arith;
-      parts = days_apart a.kind (start a) (end a) e;
+      parts = days_apart a.kind a.start a.end e;
     })
 
 module _ (a : Axis) (n k per x : ℕ) (t : Timed a k) (c : Counts a per) (few : pos_part (span_of a) < (n + 1) * k)
     (near : x ≤ k) where
   abbrev from_head : ℕ
-  from_head = pos_part a.start_tail
+  from_head = pos_part a.start.tail
 
   abbrev pub even : Steps
   even =
       evenly (record {
         per = per;
-        base = a.start_head;
+        base = a.start.head;
         first = from_head + x;
         end = from_head + pos_part (span_of a);
         step = k;
@@ -283,18 +283,18 @@ module _ (a : Axis) (n k per x : ℕ) (t : Timed a k) (c : Counts a per) (few : 
   above : 0 < per
   above = omega (arith, c.least)
 
-  at_start_tick : tick_of_number even from_head ≡ start a
+  at_start_tick : tick_of_number even from_head ≡ a.start
   at_start_tick =
       let y : from_head ≡ 0 * per + from_head = omega (arith, zero-mul per) in
-      number_tick even 0 from_head from_head a.start_head a.start_tail refl above y c.start_most
-      (+ℤ_idr a.start_head) (pos_up a.start_tail c.start_dn)
+      number_tick even 0 from_head from_head a.start.head a.start.tail refl above y c.start_most
+      (+ℤ_idr a.start.head) (pos_up a.start.tail c.start_dn)
 
-  pub at_end_tick : tick_of_number even (from_head + pos_part (span_of a)) ≡ end a
+  pub at_end_tick : tick_of_number even (from_head + pos_part (span_of a)) ≡ a.end
   at_end_tick =
       let o = t.order in
       let e = at_end a o per c.parts (span_from_0 a t.real o) c.start_dn c.end_dn in
-      number_tick even (pos_part (heads a o)) (pos_part a.end_tail) (from_head + pos_part (span_of a)) a.end_head
-      a.end_tail refl above e c.end_most (heads_up a o) (pos_up a.end_tail c.end_dn)
+      number_tick even (pos_part (heads a o)) (pos_part a.end.tail) (from_head + pos_part (span_of a)) a.end.head
+      a.end.tail refl above e c.end_most (heads_up a o) (pos_up a.end.tail c.end_dn)
 
   even_good : Good a n even
   even_good =
@@ -308,10 +308,10 @@ module _ (a : Axis) (n k per x : ℕ) (t : Timed a k) (c : Counts a per) (few : 
       let top : f + (e - f) < 2 ^ 60 * per = omega (arith, t.small, c.least, c.most, c.start_most) in
       record {
         sound = kept_sound even n (e - f) h above (omega (arith, c.most))
-            (mag_of a.start_head (2 ^ 60) (omega (arith, c.head_up)) (omega (arith, c.head_dn)))
+            (mag_of a.start.head (2 ^ 60) (omega (arith, c.head_up)) (omega (arith, c.head_dn)))
             ((div-lt_iff_lt-mul above).1 stride) ((div-lt_iff_lt-mul above).1 top) no_months;
-        fine = steps_fine even n (e - f) (e - 1) (start a) (end a) above h (λ g. omega arith)
-            (not_before_second (tick_of_number even f) (start a) c.start_dn
+        fine = steps_fine even n (e - f) (e - 1) a.start a.end above h (λ g. omega arith)
+            (not_before_second (tick_of_number even f) a.start c.start_dn
             (subst (λ (v : Value). Later (tick_of_number even f) v → ⊥) at_start_tick
             (not_earlier even from_head f above (omega arith))))
             (subst (λ (v : Value). Later v (tick_of_number even (e - 1)) → ⊥) at_end_tick
@@ -332,24 +332,24 @@ module _ (a : Axis) (n : ℕ) (q : Accepted a n) (some : 1 ≤ n) (k : ℕ) (h :
 -- ---- whole days of a long duration
 module _ (a : Axis) (n : ℕ) (l : Long a) where
   abbrev seconds : ℤ
-  seconds = first_second (start a)
+  seconds = first_second a.start
 
   abbrev stride : ℕ
-  stride = seconds_per_day * first_fit (pos_part (days_in (end a) -ℤ days_in (start a))) n
+  stride = seconds_per_day * first_fit (pos_part (days_in a.end -ℤ days_in a.start)) n
 
-  seconds_from : Later (midnight (seconds +ℤ pos 0)) (start a) → ⊥
+  seconds_from : Later (midnight (seconds +ℤ pos 0)) a.start → ⊥
   seconds_from (by_head p) = let f = begins a l in omega (arith, is_smaller p, add seconds (pos 0))
   seconds_from (by_tail e q) =
       let f = begins a l in
-      let z : pos_part a.start_tail ≡ 0 = f.whole (omega (arith, ap pos_part e, ap neg_part e, add seconds (pos 0))) in
+      let z : pos_part a.start.tail ≡ 0 = f.whole (omega (arith, ap pos_part e, ap neg_part e, add seconds (pos 0))) in
       omega (arith, is_smaller q)
 
-  seconds_to : (x : ℕ) → x ≤ pos_part (a.end_head -ℤ seconds) → Later (end a) (midnight (seconds +ℤ pos x)) → ⊥
+  seconds_to : (x : ℕ) → x ≤ pos_part (a.end.head -ℤ seconds) → Later a.end (midnight (seconds +ℤ pos x)) → ⊥
   seconds_to x h (by_head p) = omega (
     arith,
     is_smaller p,
     add seconds (pos x),
-    sub a.end_head seconds,
+    sub a.end.head seconds,
     left_dn a l,
   )
   seconds_to x h (by_tail e q) = let w = to a l in omega (arith, is_smaller q)
@@ -359,7 +359,7 @@ module _ (a : Axis) (n : ℕ) (l : Long a) where
   long_good =
       let left = seconds_left a in
       let s = evenly (record { per = 1; base = seconds; first = 0; end = left; step = stride }) in
-      let total = pos_part (days_in (end a) -ℤ days_in (start a)) in
+      let total = pos_part (days_in a.end -ℤ days_in a.start) in
       let (small, f) = total_range a l in
       let p = fit_above total n in
       let q = fit_room total n (omega arith) in
@@ -372,13 +372,13 @@ module _ (a : Axis) (n : ℕ) (l : Long a) where
       let b = begins a l in
       let (x, y) = bounded seconds 400000000000 400000000000 (omega arith) (omega arith) in
       let (last, even) = left_last a l in
-      let end-at : left - 1 ≤ pos_part (a.end_head -ℤ seconds) = omega arith in
+      let end-at : left - 1 ≤ pos_part (a.end.head -ℤ seconds) = omega arith in
       record {
         sound = kept_sound s n left h (omega arith) (omega arith) (mag_of seconds (2 ^ 60) (omega arith) (omega arith))
             (rw (div-one stride) (omega (arith, fit_most total n)))
             (rw (div-one (0 + left)) (omega (arith, left_small a l))) no_months;
-        fine = steps_fine s n left (left - 1) (start a) (end a) (omega arith) h (λ g. omega arith)
-            (rw (heads_tick s 0 refl refl) (not_before_second (midnight (seconds +ℤ pos 0)) (start a) v.tail_dn
+        fine = steps_fine s n left (left - 1) a.start a.end (omega arith) h (λ g. omega arith)
+            (rw (heads_tick s 0 refl refl) (not_before_second (midnight (seconds +ℤ pos 0)) a.start v.tail_dn
             seconds_from))
             (rw (heads_tick s (left - 1) refl refl) (seconds_to (left - 1) end-at));
       }
@@ -386,8 +386,8 @@ module _ (a : Axis) (n : ℕ) (l : Long a) where
 -- ---- the days of an axis are in order
 pub date_order : (a : Axis) (n : ℕ) → Accepted a n → over_dates a.kind ≡ true → from_day a ≤ to_day a
 date_order a n q d =
-    let v = date_value a.kind (start a) (both_ends a q.real).first d in
-    let w = date_value a.kind (end a) (both_ends a q.real).second d in
+    let v = date_value a.kind a.start (both_ends a q.real).first d in
+    let w = date_value a.kind a.end (both_ends a q.real).second d in
     omega (arith, date_from a q.real d, to_is a, heads_in_order a q.order)
 
 -- date-times have no period just from 10^14 ns for each of the n on
@@ -417,9 +417,9 @@ module _ (a : Axis) (n : ℕ) (q : Accepted a n) (some : 1 ≤ n) (d : is_durati
       let o = q.order in
       let per : unit a.kind ≡ per_day = rw d in
       let e = at_end a o (unit a.kind) c.parts (span_from_0 a q.real o) c.start_dn c.end_dn in
-      let f : pos_part a.start_tail + pos_part (span_of a) ≡ pos_part (heads a o) * per_day + pos_part a.end_tail =
+      let f : pos_part a.start.tail + pos_part (span_of a) ≡ pos_part (heads a o) * per_day + pos_part a.end.tail =
       rw per at e in
-      omega (arith, from_none h, from_next a, to_is a, sub a.end_head a.start_head, heads_dn a o)
+      omega (arith, from_none h, from_next a, to_is a, sub a.end.head a.start.head, heads_dn a o)
 
 -- ---- every plan
 module _ (a : Axis) (n : ℕ) (q : Accepted a n) where
@@ -437,11 +437,10 @@ module _ (a : Axis) (n : ℕ) (q : Accepted a n) where
           (λ d. day_good a n (dated d) (day_order a n q some d h))
 
   pub plan_good : Good a n (plan_of a n)
-  unfolding plan_of
   plan_good =
-      choose (Good a n) (le_z a.kind (pos 1))
-      (λ o. let d = one_dates a q.kind o in day_good a n (dated (dates_no_duration a.kind d)) (date_order a n q d))
-      (λ o. choose (Good a n) (monthly a) (λ m. month_good a n (dated (monthly_dated a m)))
-      (λ m. choose (Good a n) (yearly a) (λ y. year_good a n (dated (yearly_dated a y)))
-      (λ y. choose (Good a n) (weekly a) (λ w. week_good a n (dated (weekly_dated a w)))
-      (λ w. period_good (q.some (four_or_seven a q.kind o m y w))))))
+      by_plan (Good a n) a n
+      (λ d. day_good a n (dated (dates_no_duration a.kind d)) (date_order a n q d))
+      (λ m. month_good a n (dated m))
+      (λ y. year_good a n (dated y))
+      (λ w. week_good a n (dated (dates_no_duration a.kind w)))
+      (λ _ o. period_good (q.some o))

@@ -12,6 +12,7 @@ use Rattle.std.specs.Prelude.{Some, None, is_some}
 use Rattle.laws.specs.Numbers.{pos_part, neg_part}
 use Rattle.laws.specs.Units.{per_second, per_day}
 use Rattle.laws.proofs.Signed.{add, sub, mul_up, mul_dn, quot_up, quot_dn, fits, is_ge}
+use Rattle.values.specs.declared.Kind.TheVariants.{Span}
 use Rattle.values.specs.declared.Value.{Value}
 use Rattle.values.specs.Values.{is_duration, is_value}
 use Rattle.values.specs.Differences.{nanoseconds, fits_i64, of_days, days_in}
@@ -21,7 +22,7 @@ use Rattle.values.proofs.Fits.{fits_yes, fits_range}
 use Rattle.values.proofs.Joining.{joint}
 use Rattle.values.proofs.Differences.{durations_apart}
 use Rattle.axis.specs.declared.Axis.{Axis}
-use Rattle.axis.specs.Axes.{start, end, span_of}
+use Rattle.axis.specs.Axes.{span_of}
 use Rattle.axis.specs.Questions.{ends, equals}
 use Rattle.axis.proofs.Axes.{both_ends, span_from_0, equal}
 use Rattle.axis.proofs.Questions.{of_seven, near_where_fits, near_range}
@@ -36,34 +37,34 @@ use Rattle.plans.proofs.Times.{up_most, shift_most}
 
 -- ---- the start's tail, and the start of a duration
 module _ (a : Axis) (r : ends a ≡ true) where
-  pub tail_range : (neg_part a.start_tail ≡ 0) × (pos_part a.start_tail ≤ 86399999999999)
+  pub tail_range : (neg_part a.start.tail ≡ 0) × (pos_part a.start.tail ≤ 86399999999999)
   tail_range = by_test (is_duration a.kind)
-      (λ e. let v = duration_value a.kind (start a) (both_ends a r).first e in (v.tail_dn, omega arith))
-      (λ e. let v = day_value a.kind (start a) (both_ends a r).first e in (v.tail_dn, v.tail_most))
+      (λ e. let v = duration_value a.kind a.start (both_ends a r).first e in (v.tail_dn, omega arith))
+      (λ e. let v = day_value a.kind a.start (both_ends a r).first e in (v.tail_dn, v.tail_most))
 
   module _ (e : is_duration a.kind ≡ true) where
-    pub start_seven : is_value (pos 7) (start a) ≡ true
-    start_seven = of_seven a (start a) e (both_ends a r).first
+    pub start_seven : is_value Span a.start ≡ true
+    start_seven = of_seven a a.start e (both_ends a r).first
 
-    pub end_seven : is_value (pos 7) (end a) ≡ true
-    end_seven = of_seven a (end a) e (both_ends a r).second
+    pub end_seven : is_value Span a.end ≡ true
+    end_seven = of_seven a a.end e (both_ends a r).second
 
-    pub start_duration : DurationValue (start a)
-    start_duration = duration_value a.kind (start a) (both_ends a r).first e
+    pub start_duration : DurationValue a.start
+    start_duration = duration_value a.kind a.start (both_ends a r).first e
 
-    pub end_duration : DurationValue (end a)
-    end_duration = duration_value a.kind (end a) (both_ends a r).second e
+    pub end_duration : DurationValue a.end
+    end_duration = duration_value a.kind a.end (both_ends a r).second e
 
 pub near_start : (a : Axis) (k : ℕ) → Timed a k → is_duration a.kind ≡ true →
-    (neg_part (nanoseconds (pos 7) (start a)) ≤ 4000000000000000000)
-    × (pos_part (nanoseconds (pos 7) (start a)) ≤ 4000000000000000000)
-near_start a k t e = near_range (start a) (near_where_fits a e t.near t.fits).0
+    (neg_part (nanoseconds Span a.start) ≤ 4000000000000000000)
+    × (pos_part (nanoseconds Span a.start) ≤ 4000000000000000000)
+near_start a k t e = near_range a.start (near_where_fits a e t.near t.fits).0
 
 pub shift_small : (a : Axis) (k : ℕ) → 0 < k → shift a k ≤ k
 unfolding shift
 shift_small a k p =
-    choose (λ (s : ℕ). s ≤ k) (is_duration a.kind) (λ _. shift_most k p (nanoseconds (pos 7) (start a)))
-    (λ _. up_most k p (pos_part a.start_tail))
+    choose (λ (s : ℕ). s ≤ k) (is_duration a.kind) (λ _. shift_most k p (nanoseconds Span a.start))
+    (λ _. up_most k p (pos_part a.start.tail))
 
 -- ---- the period
 module _ (a : Axis) (n : ℕ) where
@@ -199,25 +200,25 @@ not_fitting z e f =
     ]
 
 module _ (a : Axis) (l : Long a) where
-  pub from : DurationValue (start a)
+  pub from : DurationValue a.start
   from = start_duration a l.real l.duration
 
-  pub to : DurationValue (end a)
+  pub to : DurationValue a.end
   to = end_duration a l.real l.duration
 
   above : 9223372036854775807 < pos_part (span_of a)
   above = not_fitting (span_of a) (span_from_0 a l.real l.order) l.beyond
 
-  parts : span_of a ≡ (a.end_head -ℤ a.start_head) *ℤ pos per_second +ℤ (a.end_tail -ℤ a.start_tail)
+  parts : span_of a ≡ (a.end.head -ℤ a.start.head) *ℤ pos per_second +ℤ (a.end.tail -ℤ a.start.tail)
   unfolding span_of
-  parts = durations_apart a.kind (start a) (end a) l.duration
+  parts = durations_apart a.kind a.start a.end l.duration
 
-  apart : pos_part a.start_head + neg_part a.end_head + 9000000000 ≤ pos_part a.end_head + neg_part a.start_head
+  apart : pos_part a.start.head + neg_part a.end.head + 9000000000 ≤ pos_part a.end.head + neg_part a.start.head
   apart =
       let s = from in
       let e = to in
-      let h = a.end_head -ℤ a.start_head in
-      let t = a.end_tail -ℤ a.start_tail in
+      let h = a.end.head -ℤ a.start.head in
+      let t = a.end.tail -ℤ a.start.tail in
       let z = span_from_0 a l.real l.order in
       omega (
         arith,
@@ -225,53 +226,53 @@ module _ (a : Axis) (l : Long a) where
         ap pos_part parts,
         ap neg_part parts,
         joint h t per_second,
-        sub a.end_head a.start_head,
-        sub a.end_tail a.start_tail,
+        sub a.end.head a.start.head,
+        sub a.end.tail a.start.tail,
       )
 
   abbrev first : ℤ
-  first = first_second (start a)
+  first = first_second a.start
 
-  pub begins : First (start a) first
-  begins = first_is (start a) from
+  pub begins : First a.start first
+  begins = first_is a.start from
 
   -- to the end
-  pub left_dn : neg_part (a.end_head -ℤ first) ≡ 0
-  left_dn = let s = begins in not_below (a.end_head -ℤ first) (omega (arith, sub a.end_head first, apart))
+  pub left_dn : neg_part (a.end.head -ℤ first) ≡ 0
+  left_dn = let s = begins in not_below (a.end.head -ℤ first) (omega (arith, sub a.end.head first, apart))
 
-  pub left_fits : SFits w64 (a.end_head -ℤ first)
+  pub left_fits : SFits w64 (a.end.head -ℤ first)
   left_fits =
       let s = begins in
       let v = from in
       let w = to in
-      fits (a.end_head -ℤ first) (pos_part a.end_head + neg_part first) (neg_part a.end_head + pos_part first)
-      (omega (arith, sub a.end_head first))
+      fits (a.end.head -ℤ first) (pos_part a.end.head + neg_part first) (neg_part a.end.head + pos_part first)
+      (omega (arith, sub a.end.head first))
       (omega arith) (omega arith)
 
-  pub left_small : pos_part (a.end_head -ℤ first) < 1000000000000
+  pub left_small : pos_part (a.end.head -ℤ first) < 1000000000000
   left_small =
       let s = begins in
       let v = from in
       let w = to in
-      omega (arith, sub a.end_head first, apart, left_dn)
+      omega (arith, sub a.end.head first, apart, left_dn)
 
   -- in whole days
   abbrev total : ℤ
-  total = days_in (end a) -ℤ days_in (start a)
+  total = days_in a.end -ℤ days_in a.start
 
-  ends_apart : pos_part (days_in (start a)) + neg_part (days_in (end a)) ≤ pos_part (days_in (end a)) + neg_part
-      (days_in (start a))
+  ends_apart : pos_part (days_in a.start) + neg_part (days_in a.end) ≤ pos_part (days_in a.end) + neg_part
+      (days_in a.start)
   ends_apart =
-      omega (arith, apart, days_low (start a) from, days_high (end a) to)
+      omega (arith, apart, days_low a.start from, days_high a.end to)
 
   pub total_dn : neg_part total ≡ 0
-  total_dn = not_below total (omega (arith, sub (days_in (end a)) (days_in (start a)), ends_apart))
+  total_dn = not_below total (omega (arith, sub (days_in a.end) (days_in a.start), ends_apart))
 
   pub total_range : (pos_part total ≤ 7305004) × SFits w64 total
   total_range =
-      let v = days_range (start a) from in
-      let w = days_range (end a) to in
-      let x = sub (days_in (end a)) (days_in (start a)) in
+      let v = days_range a.start from in
+      let w = days_range a.end to in
+      let x = sub (days_in a.end) (days_in a.start) in
       let z = total_dn in
       (omega arith, fits total (pos_part total) (neg_part total) refl (omega arith) (omega arith))
 
@@ -280,20 +281,20 @@ module _ (a : Axis) (l : Long a) where
   unfolding seconds_left
   left_most =
       let s = begins in
-      let b = bit (lt_z (pos 0) a.end_tail) in
+      let b = bit (lt_z (pos 0) a.end.tail) in
       omega (
         arith,
         total_dn,
         left_dn,
-        sub (days_in (end a)) (days_in (start a)),
-        sub a.end_head first,
-        days_high (end a) to,
+        sub (days_in a.end) (days_in a.start),
+        sub a.end.head first,
+        days_high a.end to,
       )
 
   -- and the last of them is not after the end
-  pub left_last : (seconds_left a ≤ pos_part (a.end_head -ℤ first) + 1) × (pos_part a.end_tail ≡ 0 →
-      seconds_left a ≤ pos_part (a.end_head -ℤ first))
+  pub left_last : (seconds_left a ≤ pos_part (a.end.head -ℤ first) + 1) × (pos_part a.end.tail ≡ 0 →
+      seconds_left a ≤ pos_part (a.end.head -ℤ first))
   unfolding seconds_left
   left_last =
-      let b = bit (lt_z (pos 0) a.end_tail) in
-      (omega arith, λ e. rw (is_ge (pos 0) a.end_tail (omega arith)) (omega arith))
+      let b = bit (lt_z (pos 0) a.end.tail) in
+      (omega arith, λ e. rw (is_ge (pos 0) a.end.tail (omega arith)) (omega arith))

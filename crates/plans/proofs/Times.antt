@@ -8,6 +8,7 @@ use lib.Dec.{eqb}
 use lib.IntN.{ℤ, pos, negsuc, nat_abs, neg_ℤ, ◌-ℤ◌}
 use lib.Signed.{lt_z, rem_z}
 use Rattle.laws.proofs.Signed.{sub, same}
+use Rattle.values.specs.declared.Kind.TheVariants.{Span}
 use Rattle.values.specs.declared.Value.{Value}
 use Rattle.values.specs.Values.{is_value}
 use Rattle.values.specs.Differences.{nanoseconds, difference}
@@ -40,13 +41,13 @@ module _ (k : ℕ) (p : 0 < k) where
 abbrev pub zero_span : Value
 zero_span = record { head = pos 0; tail = pos 0 }
 
-pub zero_value : is_value (pos 7) zero_span ≡ true
+pub zero_value : is_value Span zero_span ≡ true
 unfolding is_value
 zero_value = refl
 
-pub from_zero : (v : Value) → difference (pos 7) zero_span v ≡ nanoseconds (pos 7) v
+pub from_zero : (v : Value) → difference Span zero_span v ≡ nanoseconds Span v
 unfolding difference nanoseconds
-from_zero v = let n = nanoseconds (pos 7) v in same (n -ℤ pos 0) n (omega (arith, sub n (pos 0)))
+from_zero v = let n = nanoseconds Span v in same (n -ℤ pos 0) n (omega (arith, sub n (pos 0)))
 
 -- what the whole days of a duration know of zero
 pub ruleset zero_first = (zero_value, from_zero)

@@ -1,28 +1,25 @@
 -- Every tick of a plan is a value of the axis's kind, and only kinds 4 and 7 have ticks with a tail. Assumes nothing.
 use mathlib.Core.Path.{◌≡◌, refl, sym, ap, ◌∙◌, subst}
-use mathlib.Core.Logic.{inl, inr}
-use mathlib.Core.Bool.{Bool, true, false, ◌&&◌, ◌||◌}
+use mathlib.Core.Bool.{true, false, ◌&&◌, true≢false}
 use Prim.Native.Nat.{ℕ, ◌*◌, ◌≤◌, ◌<◌}
 use native.Mathlib.Nat.{mod-lt}
 use native.Mathlib.Omega.{arith}
 use lib.IntN.{ℤ, pos}
-use lib.Signed.{le_z}
 use lib.ListN.{length}
 use Rattle.std.specs.Prelude.{Option, Some, None}
 use Rattle.laws.specs.Numbers.{minus, within, pos_part, neg_part}
 use Rattle.laws.specs.Units.{per_second, per_day}
 use Rattle.laws.proofs.Signed.{same}
-use Rattle.laws.proofs.Tests.{both_true, and_false}
+use Rattle.laws.proofs.Tests.{both_true}
 use Rattle.values.specs.declared.Value.{Value}
 use Rattle.values.specs.Values.{over_dates, is_duration, is_value}
 use Rattle.values.specs.Differences.{unit}
-use Rattle.values.proofs.Numbers.{is_le, is_gt, within_true}
-use Rattle.values.proofs.Values.{dates_range, times_no_duration, of_dates, of_date_times, of_durations, by_form}
+use Rattle.values.proofs.Numbers.{is_le, within_true}
+use Rattle.values.proofs.Values.{dates_no_stamp, dates_no_duration, times_no_duration}
+use Rattle.values.proofs.Values.{of_dates, of_date_times, of_durations, by_form}
 use Rattle.axis.specs.declared.Axis.{Axis}
-use Rattle.axis.specs.Axes.{start, end}
 use Rattle.axis.specs.Questions.{has_period}
 use Rattle.axis.proofs.Axes.{both_ends}
-use Rattle.counting.specs.Counting.{monthly, yearly, weekly}
 use Rattle.steps.specs.declared.Steps.{Steps}
 use Rattle.steps.specs.Progression.{number_at, ticks}
 use Rattle.steps.specs.Listing.{numbers}
@@ -35,7 +32,7 @@ use Rattle.plans.specs.Months.{month_plan, year_plan}
 use Rattle.plans.specs.Times.{period_in, time_plan, span_days_plan}
 use Rattle.plans.specs.Plans.{Accepted, plan_by, period_plan, plan_of}
 use Rattle.plans.proofs.Cases.{choose}
-use Rattle.plans.proofs.Plans.{none_left}
+use Rattle.plans.proofs.Plans.{by_plan}
 use Rattle.plans.proofs.Promise.{counts, plan_good}
 
 -- how many numbers of a plan make a head: at most its nanoseconds, and one on all kinds but 4 and 7
@@ -46,16 +43,7 @@ record Counted (a : Axis) (s : Steps) : Type 0 where
 -- kinds over dates have no period
 no_period : (a : Axis) → over_dates a.kind ≡ true → has_period a ≡ false
 unfolding has_period
-no_period a e =
-    let k = a.kind in
-    let (z, l, h) = dates_range k e in
-    elim h [
-      | inl m ↦ rw (is_gt (pos 4) k (omega arith), is_gt (pos 7) k (omega arith))
-      | inr m ↦ rw (is_gt k (pos 4) (omega arith), is_gt k (pos 7) (omega arith)) (neither (le_z (pos 4) k) (le_z (pos 7) k))
-    ]
-  where
-    neither : (p q : Bool) → (p && false) || (q && false) ≡ false
-    neither p q = rw (and_false p, and_false q)
+no_period a e = rw (dates_no_stamp a.kind e, dates_no_duration a.kind e)
 
 -- a tail below p
 abbrev Small : ℕ → Value → Type 0
@@ -67,18 +55,14 @@ module _ (a : Axis) (n : ℕ) (q : Accepted a n) where
   heads s e = record { most = omega (arith, (counts a q.real).least); one = λ _. e }
 
   counted : Counted a (plan_of a n)
-  unfolding day_plan week_plan month_plan year_plan time_plan span_days_plan period_plan plan_of
+  unfolding day_plan week_plan month_plan year_plan time_plan span_days_plan period_plan
   counted =
-      choose (Counted a) (le_z a.kind (pos 1)) (λ _. heads _ refl)
-      (λ o. choose (Counted a) (monthly a) (λ _. heads _ refl)
-      (λ m. choose (Counted a) (yearly a) (λ _. heads _ refl)
-      (λ y. choose (Counted a) (weekly a) (λ _. heads _ refl)
-      (λ w. by_period o m y w (period_in a n)))))
+      by_plan (Counted a) a n (λ _. heads _ refl) (λ _. heads _ refl) (λ _. heads _ refl) (λ _. heads _ refl)
+      (λ h _. by_period h (period_in a n))
     where
-      by_period : le_z a.kind (pos 1) ≡ false → monthly a ≡ false → yearly a ≡ false → weekly a ≡ false → (p : Option ℕ) →
-          Counted a (plan_by a n p)
-      by_period o m y w (Some k) = record { most = omega arith; one = λ e. absurd (none_left a q.kind o m y w e) }
-      by_period o m y w None = choose (Counted a) (is_duration a.kind) (λ _. heads _ refl) (λ _. heads _ refl)
+      by_period : has_period a ≡ true → (p : Option ℕ) → Counted a (plan_by a n p)
+      by_period h (Some k) = record { most = omega arith; one = λ e. absurd (true≢false (sym h ∙ e)) }
+      by_period h None = choose (Counted a) (is_duration a.kind) (λ _. heads _ refl) (λ _. heads _ refl)
 
   module _ (i : ℕ) (l : 2 * i < length (numbers (ticks (plan_of a n)))) where
     abbrev v : Value
@@ -100,12 +84,12 @@ module _ (a : Axis) (n : ℕ) (q : Accepted a n) where
         pos_part v.tail ≤ m → is_value a.kind v ≡ true
     row low high m is t =
         let f = (plan_good a n q).fine in
-        let x = (both_true _ _ (sym (is (start a)) ∙ (both_ends a q.real).first)).0 in
-        let y = (both_true _ _ (sym (is (end a)) ∙ (both_ends a q.real).second)).0 in
-        let s = within_true low a.start_head high x in
-        let e = within_true low a.end_head high y in
-        let from = at_least v.head a.start_head (λ w. f.from i l (by_head w)) in
-        let to = at_least a.end_head v.head (λ w. f.to i l (by_head w)) in
+        let x = (both_true _ _ (sym (is a.start) ∙ (both_ends a q.real).first)).0 in
+        let y = (both_true _ _ (sym (is a.end) ∙ (both_ends a q.real).second)).0 in
+        let s = within_true low a.start.head high x in
+        let e = within_true low a.end.head high y in
+        let from = at_least v.head a.start.head (λ w. f.from i l (by_head w)) in
+        let to = at_least a.end.head v.head (λ w. f.to i l (by_head w)) in
         is v ∙ rw (
           is_le low v.head (omega arith),
           is_le v.head high (omega arith),
@@ -116,7 +100,7 @@ module _ (a : Axis) (n : ℕ) (q : Accepted a n) where
     pub is_value_law : is_value a.kind v ≡ true
     is_value_law =
         let k = a.kind in
-        by_form k (start a) (both_ends a q.real).first
+        by_form k a.start (both_ends a q.real).first
         (λ e _. row (pos 1) (pos 3652059) 0 (λ w. of_dates k w e) (omega (arith, ap pos_part (no_tail (no_period a e)))))
         (λ e _. let d : unit k ≡ per_day = rw (times_no_duration k e) in
         row (pos 1) (pos 3652059) 86399999999999 (λ w. of_date_times k w e) (omega (arith, small, counted.most)))

@@ -1,14 +1,16 @@
 -- The lists of date-times below the day branch and of durations, the end left out: a period apart where the span fits
 -- nanoseconds, and whole days of a duration where it does not. Definitions only.
-use Rattle.std.specs.Prelude.{◌≡◌, true, false, not, cond, ℕ, ◌+◌, ◌-◌, ◌*◌, ◌%◌, ◌^◌, ◌<◌, eqb, ℤ, pos, nat_abs, ◌+ℤ◌, ◌-ℤ◌, Option, None}
+use Rattle.std.specs.Prelude.{◌≡◌, true, false, not, cond, ℕ, ◌+◌, ◌-◌, ◌*◌, ◌%◌, ◌^◌, ◌<◌, eqb, ℤ, pos, nat_abs}
+use Rattle.std.specs.Prelude.{◌+ℤ◌, ◌-ℤ◌, Option, None}
 use Rattle.std.specs.Int.Signed.{lt_z, rem_z}
 use Rattle.laws.specs.Numbers.{pos_part, as_u64}
 use Rattle.laws.specs.Units.{seconds_per_day}
+use Rattle.values.specs.declared.Kind.TheVariants.{Span}
 use Rattle.values.specs.declared.Value.{Value}
 use Rattle.values.specs.Values.{is_duration}
 use Rattle.values.specs.Differences.{unit, nanoseconds, fits_i64, days_in, of_days}
 use Rattle.axis.specs.declared.Axis.{Axis}
-use Rattle.axis.specs.Axes.{start, end, span_of}
+use Rattle.axis.specs.Axes.{span_of}
 use Rattle.axis.specs.Questions.{ends, in_order, near_or_long, equals}
 use Rattle.period.specs.Ladders.{first_fit}
 use Rattle.period.specs.Periods.{period_of}
@@ -34,16 +36,16 @@ shift_of z k =
 
 -- from the start to the first tick: a date-time counts from midnight of its date, a duration from zero
 unfoldable pub shift : Axis → ℕ → ℕ
-shift a k = cond (is_duration a.kind) (shift_of (nanoseconds (pos 7) (start a)) k) (shift_up (pos_part a.start_tail) k)
+shift a k = cond (is_duration a.kind) (shift_of (nanoseconds Span a.start) k) (shift_up (pos_part a.start.tail) k)
 
 -- the list of an axis whose ticks are the period k apart
 unfoldable pub time_plan : Axis → ℕ → Steps
 time_plan a k =
     evenly (record {
       per = unit a.kind;
-      base = a.start_head;
-      first = pos_part a.start_tail + shift a k;
-      end = pos_part a.start_tail + pos_part (span_of a);
+      base = a.start.head;
+      first = pos_part a.start.tail + shift a k;
+      end = pos_part a.start.tail + pos_part (span_of a);
       step = k;
     })
 
@@ -63,17 +65,17 @@ first_second v = (of_days (days_in v)).head +ℤ cond (equals v (of_days (days_i
 
 -- a second less where the end is one
 unfoldable pub seconds_left : Axis → ℕ
-seconds_left a = pos_part (a.end_head -ℤ first_second (start a)) + cond (lt_z (pos 0) a.end_tail) 1 0
+seconds_left a = pos_part (a.end.head -ℤ first_second a.start) + cond (lt_z (pos 0) a.end.tail) 1 0
 
 -- 1, 2, 5, 10, .. days
 unfoldable pub span_days_plan : Axis → ℕ → Steps
 span_days_plan a n =
     evenly (record {
       per = 1;
-      base = first_second (start a);
+      base = first_second a.start;
       first = 0;
       end = seconds_left a;
-      step = seconds_per_day * first_fit (pos_part (days_in (end a) -ℤ days_in (start a))) n;
+      step = seconds_per_day * first_fit (pos_part (days_in a.end -ℤ days_in a.start)) n;
     })
 
 -- a duration axis whose span does not fit nanoseconds

@@ -3,9 +3,9 @@
 #![tactic(auto)]
 
 ghost use Rattle.std.specs.Prelude.{◌≡◌, true, ◌+◌, ◌≤◌, ◌<◌, ◌^◌, min, pos};
+ghost use Rattle.values.specs.declared.Kind.TheVariants.{Span};
 ghost use Rattle.values.specs.Values.{is_value};
 ghost use Rattle.values.specs.Differences.{unit, days_in};
-ghost use Rattle.axis.specs.Axes.{start};
 ghost use Rattle.counting.specs.Counting.{Dated, from_day};
 ghost use Rattle.calendar.specs.Questions.{last_day};
 ghost use Rattle.plans.specs.Days.{evenly, date_step, day_plan};
@@ -18,7 +18,7 @@ ghost use Rattle.plans.specs.Plans.{Accepted, period_plan, plan_of};
 
 use axis::Axis;
 use steps::Steps;
-use values::Value;
+use values::{Kind, Value};
 
 // Ticks step apart from the number first to the number end, which is left out. A head has per numbers, and base is the
 // head of 0.
@@ -202,7 +202,7 @@ pub fn period_in(a: Axis, n: u64) -> Option<u64>
     ensures { result ≡ period_in a n }
 {
     let span = axis::span(a)?;
-    let sub_daily = !values::is_duration(a.kind);
+    let sub_daily = !a.kind.is_duration();
     let p = period::compute_period_per_point(calendar::as_count(span), n, sub_daily)?;
     Some(p.nanoseconds)
 }
@@ -236,21 +236,21 @@ fn shift(a: Axis, k: u64) -> u64
     requires { Timed a k }
     ensures { result ≡ shift a k }
 {
-    if !values::is_duration(a.kind) {
-        return shift_up(calendar::as_count(a.start_tail), k);
+    if !a.kind.is_duration() {
+        return shift_up(calendar::as_count(a.start.tail), k);
     }
     let zero = Value { head: 0, tail: 0 };
     shift_of(
-        values::nanoseconds_between(7, zero, axis::start(a)).unwrap(),
+        values::nanoseconds_between(Kind::Span, zero, a.start).unwrap(),
         k,
     )
 }
 
 // The nanoseconds of a head.
-fn unit(kind: i64) -> u64
+fn unit(kind: Kind) -> u64
     ensures { result ≡ unit kind }
 {
-    if values::is_duration(kind) {
+    if kind.is_duration() {
         1000000000
     } else {
         86400000000000
@@ -263,10 +263,10 @@ fn time_plan(a: Axis, k: u64) -> Steps
     ensures { result ≡ time_plan a k }
 {
     let span = axis::span(a).unwrap();
-    let tail = calendar::as_count(a.start_tail);
+    let tail = calendar::as_count(a.start.tail);
     even_plan(Even {
         per: unit(a.kind),
-        base: a.start_head,
+        base: a.start.head,
         first: tail + shift(a, k),
         end: tail + calendar::as_count(span),
         step: k,
@@ -276,16 +276,16 @@ fn time_plan(a: Axis, k: u64) -> Steps
 // The whole days of a duration, cut toward zero.
 #[tactic(auto, using(crate::proofs::Times::zero_first), unfolding(values::specs::Differences::days_in))]
 fn days_in(v: Value) -> i64
-    requires { is_value (pos 7) v ≡ true }
+    requires { is_value Span v ≡ true }
     ensures { result ≡ days_in v }
 {
     let zero = Value { head: 0, tail: 0 };
-    values::whole_days_between(7, zero, v)
+    values::whole_days_between(Kind::Span, zero, v)
 }
 
 // The first tick of whole days, in seconds.
 fn first_second(v: Value) -> i64
-    requires { is_value (pos 7) v ≡ true }
+    requires { is_value Span v ≡ true }
     ensures { result ≡ first_second v }
 {
     let whole = days_in(v) * 86400;
@@ -298,11 +298,11 @@ fn first_second(v: Value) -> i64
 
 // From the first tick to the end, which is left out.
 fn seconds_left(a: Axis, first: i64) -> u64
-    requires { Long a × (first ≡ first_second (start a)) }
+    requires { Long a × (first ≡ first_second a.start) }
     ensures { result ≡ seconds_left a }
 {
-    let whole = calendar::as_count(a.end_head - first);
-    if 0 < a.end_tail { whole + 1 } else { whole }
+    let whole = calendar::as_count(a.end.head - first);
+    if 0 < a.end.tail { whole + 1 } else { whole }
 }
 
 // Whole days of a duration.
@@ -310,8 +310,8 @@ fn span_days_plan(a: Axis, n: u64) -> Steps
     requires { Long a }
     ensures { result ≡ span_days_plan a n }
 {
-    let first = first_second(axis::start(a));
-    let d = days_in(axis::end(a)) - days_in(axis::start(a));
+    let first = first_second(a.start);
+    let d = days_in(a.end) - days_in(a.start);
     let step = 86400 * period::first_fit(calendar::as_count(d), n);
     even_plan(Even {
         per: 1,
@@ -329,7 +329,7 @@ fn period_plan(a: Axis, n: u64) -> Steps
 {
     match period_in(a, n) {
         Some(k) => time_plan(a, k),
-        None if values::is_duration(a.kind) => span_days_plan(a, n),
+        None if a.kind.is_duration() => span_days_plan(a, n),
         None => day_plan(a, n),
     }
 }
@@ -339,15 +339,11 @@ pub fn plan_of(a: Axis, n: u64) -> Steps
     requires { Accepted a n }
     ensures { result ≡ plan_of a n }
 {
-    if a.kind <= 1 {
-        day_plan(a, n)
-    } else if counting::monthly(a) {
-        month_plan(a, n)
-    } else if counting::yearly(a) {
-        year_plan(a, n)
-    } else if counting::weekly(a) {
-        week_plan(a, n)
-    } else {
-        period_plan(a, n)
+    match a.kind {
+        Kind::Date => day_plan(a, n),
+        Kind::Month | Kind::StampMonth => month_plan(a, n),
+        Kind::Year | Kind::StampYear => year_plan(a, n),
+        Kind::Stamp | Kind::Span => period_plan(a, n),
+        Kind::Week => week_plan(a, n),
     }
 }

@@ -8,17 +8,18 @@ use lib.IntN.{pos}
 use borrow.Author.Tests.{le-leb, le-ltb}
 use Rattle.asking.specs.Asking.{passes}
 use Rattle.laws.proofs.Tests.{and_false}
+use Rattle.values.specs.declared.Kind.TheVariants as kind
 use Rattle.values.specs.Values.{is_value, earlier, midnight}
 use Rattle.axis.specs.declared.Axis.{Axis}
 use Rattle.axis.specs.declared.BoldPoints.{BoldPoints}
 use Rattle.axis.specs.declared.Hint.TheVariants.{Bold}
-use Rattle.axis.specs.Questions.{known, ends, in_order, excludable, near_or_long, is_count, hint_on, bold_hint}
+use Rattle.axis.specs.Questions.{ends, in_order, excludable, near_or_long, is_count, hint_on, bold_hint}
 use Rattle.ticks.specs.Answers.{tick_questions}
 use Rattle.promises.specs.Examples.{axis_from}
 
 module _ (s e : ℕ) (first : 1 ≤ s) (order : s ≤ e) (last : e ≤ 3652059) where
   abbrev a : Axis
-  a = axis_from (pos 1) (midnight (pos s)) (midnight (pos e))
+  a = axis_from kind.Date (midnight (pos s)) (midnight (pos e))
 
   real : ends a ≡ true
   unfolding ends is_value
@@ -36,5 +37,5 @@ module _ (s e : ℕ) (first : 1 ≤ s) (order : s ≤ e) (last : e ≤ 3652059) 
   hint h c = rw c
 
   pub dates_accepted : (h : BoldPoints) → is_count h.n ≡ true → passes (tick_questions a (Bold h)) ≡ true
-  unfolding known excludable near_or_long
+  unfolding excludable near_or_long
   dates_accepted h c = rw (real, in_order_law, hint h c)

@@ -14,7 +14,7 @@ use Rattle.values.specs.Values.{midnight}
 use Rattle.axis.specs.declared.Axis.{Axis}
 use Rattle.axis.specs.declared.Hint.{Hint}
 use Rattle.axis.specs.declared.Limits.{Limits}
-use Rattle.axis.specs.Axes.{start, last}
+use Rattle.axis.specs.Axes.{last}
 use Rattle.mapping.specs.declared.Hairline.{Hairline}
 use Rattle.mapping.specs.Mapping.{hairline, map_questions, mapped}
 use Rattle.mapping.proofs.Days.{days_differ}
@@ -35,13 +35,13 @@ use Rattle.promises.proofs.Rows.{no_refusal}
 -- ---- from an answer to its numbers
 -- a refused call counts none
 reply_fine : (a : Axis) (h : Hint) (r : Result ℕ Refusal) (l : List ℤ) → 2 * count_of r ≤ length l →
-    ((c : ℕ) → r ≡ Ok c → Fine (limit h) (start a) (last a) (take (2 * c) l)) → FineList a h (number_reply r) l
+    ((c : ℕ) → r ≡ Ok c → Fine (limit h) a.start (last a) (take (2 * c) l)) → FineList a h (number_reply r) l
 reply_fine a h (Err q) l room f s = record {
   count = 0;
   counted = refl;
   few = omega arith;
   held = omega arith;
-  fine = none_fine (limit h) (start a) (last a);
+  fine = none_fine (limit h) a.start (last a);
 }
 reply_fine a h (Ok c) l room f s =
     let g = f c refl in

@@ -7,7 +7,7 @@ use Rattle.calendar.specs.Gregorian.{leap, leap_day, month_length, months, year_
 use Rattle.calendar.specs.Questions.{is_date, in_ranges, number_of}
 use Rattle.floats.specs.Rounding as rounding
 use Rattle.values.specs.Differences.{nanoseconds, difference, nanoseconds_of}
-use Rattle.values.specs.Values.{over_dates, is_value, earlier}
+use Rattle.values.specs.Values.{is_value, earlier}
 use Rattle.axis.specs.Axes.{span_of, offset_of, closed}
 use Rattle.axis.specs.Questions as asks
 use Rattle.mapping.specs.Mapping as mapping
@@ -46,29 +46,28 @@ no_whole_month = λ i.
 
 -- ---- the others
 negative_start : Holds rows.negative_start
-unfolding closed over_dates is_value earlier span_of difference nanoseconds nanoseconds_of asks.known asks.ends asks.in_order
-    asks.excludable asks.near_zero asks.near_or_long asks.bold_hint count.monthly count.yearly count.weekly while
-    periods.exponent_from periods.determine_actual_ns_per_point periods.period_from periods.compute_period_per_point times.plus
-    times.period_on times.aligned times.duration_of times.durations_by times.duration_key_points key_points key_points_for
-    ticks.ticks_of ticks.ticks_answer ticks.ticks_written
+unfolding closed is_value earlier span_of difference nanoseconds nanoseconds_of asks.ends asks.in_order asks.excludable
+    asks.near_zero asks.near_or_long asks.bold_hint count.monthly count.yearly count.weekly while periods.exponent_from
+    periods.determine_actual_ns_per_point periods.period_from periods.compute_period_per_point times.plus times.period_on
+    times.aligned times.duration_of times.durations_by times.duration_key_points key_points key_points_for ticks.ticks_of
+    ticks.ticks_answer ticks.ticks_written
 negative_start = refl
 
 high_limit : Holds rows.high_limit
 unfolding closed ieee.span ieee.climb ieee.size ieee.odd ieee.units ieee.round ieee.mul ieee.div ieee.of_int ieee.to_unsigned
-    rounding.floor_f over_dates is_value earlier asks.known asks.has_unmap asks.ends asks.in_order asks.excludable asks.pixels
-    asks.differ asks.unmap_pixels asks.checked count.monthly count.yearly count.weekly count.from_day
-    count.size_of index.value_at index.index_at index.index_under discrete.value_under discrete.unmap_answer
+    rounding.floor_f is_value earlier asks.has_unmap asks.ends asks.in_order asks.excludable asks.pixels asks.differ
+    asks.unmap_pixels asks.checked count.monthly count.yearly count.weekly count.from_day count.size_of index.value_at
+    index.index_at index.index_under discrete.value_under discrete.unmap_answer
 high_limit = refl
 
 first_centre : Holds rows.first_centre
 unfolding closed ieee.span ieee.climb ieee.size ieee.odd ieee.units ieee.round ieee.mul ieee.div ieee.of_int ieee.to_unsigned
-    ieee.to_signed rounding.floor_f rounding.round_f rounding.quotient_of nanoseconds difference nanoseconds_of over_dates
-    is_value
-    earlier span_of offset_of asks.known asks.has_period asks.has_index asks.ends asks.in_order asks.excludable asks.pixels
-    asks.value_on asks.mappable asks.checked mapping.scale_of mapping.map_coord mapping.placed mapping.hairline
-    count.monthly count.yearly count.weekly count.origin count.position count.size_of index.is_indexed index.index_of
-    index.value_at discrete.next_in segments.segment_on segments.segment_of segments.segment_mappable segments.margin_of
-    segments.inner segments.segment_worked segment_map_answer
+    ieee.to_signed rounding.floor_f rounding.round_f rounding.quotient_of nanoseconds difference nanoseconds_of is_value
+    earlier span_of offset_of asks.has_period asks.has_index asks.ends asks.in_order asks.excludable asks.pixels
+    asks.value_on asks.mappable asks.checked mapping.scale_of mapping.map_coord mapping.placed mapping.hairline count.monthly
+    count.yearly count.weekly count.origin count.position count.size_of index.is_indexed index.index_of index.value_at
+    discrete.next_in segments.segment_on segments.segment_of segments.segment_mappable segments.margin_of segments.inner
+    segments.segment_worked segment_map_answer
 first_centre = refl
 
 later : AllHold (rows.high_limit ∷ (rows.earlier_year ∷ (rows.no_whole_month ∷ (rows.first_centre ∷ []))))

@@ -17,16 +17,17 @@ use Rattle.asking.specs.declared.Refusal.TheVariants as refusal
 use Rattle.asking.specs.Asking.{Question, ask, asked, passes}
 use Rattle.asking.proofs.Asked.{told, passes_append, passed}
 use Rattle.calendar.specs.Questions.{is_day}
+use Rattle.values.specs.declared.Kind.TheVariants as kind
 use Rattle.values.specs.declared.Value.{Value}
-use Rattle.values.specs.Values.{over_dates, is_value, earlier}
+use Rattle.values.specs.Values.{is_value, earlier}
 use Rattle.values.specs.Differences.{nanoseconds, difference, nanoseconds_of}
 use Rattle.floats.specs.Rounding as rounding
 use Rattle.axis.specs.declared.Axis.{Axis}
 use Rattle.axis.specs.declared.Hint.{Hint}
 use Rattle.axis.specs.declared.Limits.{Limits}
-use Rattle.axis.specs.Axes.{axis_of, end, span_of, offset_of, closed, last}
+use Rattle.axis.specs.Axes.{day_earlier, span_of, offset_of, closed, last}
 use Rattle.axis.specs.Questions as asks
-use Rattle.axis.specs.Questions.{known, has_index, has_unmap, has_period, value_on, is_index, unmap_pixels, hint_on}
+use Rattle.axis.specs.Questions.{has_index, has_unmap, has_period, value_on, is_index, unmap_pixels, hint_on}
 use Rattle.axis.specs.Questions.{checked, checked_if, plain_questions, axis_questions}
 use Rattle.axis.proofs.ClosedAxes.{same_kind, shortened, closed_twice, plain_passed, axis_passed}
 use Rattle.mapping.specs.Mapping as mapping
@@ -64,8 +65,9 @@ use Rattle.segmented.specs.Segments.{alone, between, beside, centred, segment_wo
 use Rattle.segmented.specs.Answers.{segment_index_in, segment_at, segment_checked, segment_kind_questions}
 use Rattle.segmented.specs.Answers as segmented
 use Rattle.promises.specs.Examples.{limits_of, AllHold}
-use Rattle.promises.specs.ExcludedEnds.{AsOf, AsDayEarlier, ToWrittenEnd, SegmentsMix, NoneFromEnd, AsManyPixels}
-use Rattle.promises.specs.ExcludedEnds.{midway, before, excluded_table}
+use Rattle.promises.specs.ExcludedEnds.{AsOf, AsDayEarlier, InNumbers, ToWrittenEnd, SegmentsMix, NoneFromEnd, AsManyPixels}
+use Rattle.promises.specs.ExcludedEnds.{to_written, midway, before, excluded_table}
+use Rattle.promises.proofs.Numbers.{changed}
 use Rattle.promises.proofs.Rows.{same_behind, more_on, more_pass}
 
 module _ (a : Axis) where
@@ -200,40 +202,33 @@ module _ (a : Axis) where
   unfolding segmented.segment_from_answer
   segment_from i = by_value (λ x. segment_checked (segment_at x (pos_part i))) (is_index i) (is_index i) refl
 
-  same_known : known b ≡ known a
-  unfolding known
-  same_known = rw (same_kind a)
-
   -- where the kind has segments, what is left are the questions of the axis
-  module _ (k : known a ≡ true) (h : has_index a ≡ true) where
-    kind_passed : passes (segment_kind_questions b) ≡ true
-    kind_passed = rw (same_known, same_index, k, h)
+  kind_passed : has_index a ≡ true → passes (segment_kind_questions b) ≡ true
+  kind_passed h = rw (same_index, h)
 
   segment_count : (h : Hint) (k : ℕ) →
       segmented.segment_ticks_answer a h k ≡ asked (axis_questions (has_index a) a) (segmented.segment_ticks_answer b h k)
   unfolding segmented.segment_ticks_answer
-  segment_count h n = go (known a) (has_index a) refl refl
+  segment_count h n = go (has_index a) refl
     where
-      go : (k i : Bool) → known a ≡ k → has_index a ≡ i →
-          asked (ask refusal.Kind k ∷ (ask refusal.Operation i ∷ [])) (ticks_answer a h n)
+      go : (i : Bool) → has_index a ≡ i →
+          asked (ask refusal.Operation i ∷ []) (ticks_answer a h n)
           ≡ asked (axis_questions i a) (asked (segment_kind_questions b) (ticks_answer b h n))
-      go true true k i = count h n ∙ ap (asked (axis_questions true a))
-          (passed (segment_kind_questions b) (ticks_answer b h n) (kind_passed k i))
-      go true false k i = rw k
-      go false i k _ = rw k
+      go true i = count h n ∙ ap (asked (axis_questions true a))
+          (passed (segment_kind_questions b) (ticks_answer b h n) (kind_passed i))
+      go false i = refl
 
   segment_written : (h : Hint) (d : List ℤ) →
       segmented.segment_ticks_written a h d
       ≡ cond (passes (axis_questions (has_index a) a)) (segmented.segment_ticks_written b h d) d
   unfolding segmented.segment_ticks_written
-  segment_written h d = go (known a) (has_index a) refl refl
+  segment_written h d = go (has_index a) refl
     where
-      go : (k i : Bool) → known a ≡ k → has_index a ≡ i →
-          cond (passes (ask refusal.Kind k ∷ (ask refusal.Operation i ∷ []))) (ticks_written a h d) d
+      go : (i : Bool) → has_index a ≡ i →
+          cond (passes (ask refusal.Operation i ∷ [])) (ticks_written a h d) d
           ≡ cond (passes (axis_questions i a)) (cond (passes (segment_kind_questions b)) (ticks_written b h d) d) d
-      go true true k i = written h d ∙ rw (kind_passed k i)
-      go true false k i = rw k
-      go false i k _ = rw k
+      go true i = written h d ∙ rw (kind_passed i)
+      go false i = refl
 
   -- ---- lists by house rules
   same_rules : has_rules b ≡ has_rules a
@@ -291,18 +286,18 @@ module _ (a : Axis) where
 
 -- THE THEOREM, of all operations that count or list
 pub as_day_earlier : AsDayEarlier
-as_day_earlier k sh st eh et x e =
-    let a = axis_of k sh st eh et x in
-    subst (AsOf a) (sym (shortened a e)) (as_closed a)
+as_day_earlier a e = subst (AsOf a) (sym (shortened a e)) (as_closed a)
+
+-- and that axis in numbers, with the one to the end as written
+pub in_numbers : InNumbers
+in_numbers k sh st eh et x = (changed k sh st eh et x day_earlier, changed k sh st eh et x to_written)
 
 -- ---- mapping goes to the end as written
 pub to_written_end : ToWrittenEnd
-unfolding over_dates is_value earlier span_of offset_of asks.known asks.ends asks.in_order asks.excludable asks.near_or_long
-    asks.value_on
+unfolding is_value earlier span_of offset_of asks.ends asks.in_order asks.excludable asks.near_or_long asks.value_on
     asks.mappable mapping.scale_of mapping.placed mapping.hairline mapping.mapped exact_at lost_at
-to_written_end k sh st eh et x l v =
-    let a = axis_of k sh st eh et x in
-    let w = axis_of k sh st eh et (pos 0) in
+to_written_end a l v =
+    let w = to_written a in
     let p = mapping.placed a l v in
     let h = Ok (mapping.hairline a l v) in
     let rest =
@@ -312,7 +307,7 @@ to_written_end k sh st eh et x l v =
     ∷ (ask refusal.Range (asks.fits_i32 p)
     ∷ []))) in
     more_on (axis_questions true a) (axis_questions true w) rest rest h h (λ z.
-    let row = axis_questions true a in rw (told 1 row z, told 3 row z, told 4 row z, told 5 row z)) refl
+    let row = axis_questions true a in rw (told 3 row z, told 4 row z, told 5 row z)) refl
 
 -- ---- segments go by both
 by_next : (a w b : Axis) (l : Limits) (left : Hairline) (n : Option Value) →
@@ -323,27 +318,24 @@ by_next a w b l left (Some u) p e =
     worked c.hairline (is_day u.head && c.fits)
 by_next a w b l left None p e = λ i. beside left (margin_of (size_of (e i)) l)
 
--- a pixel does not look at the sixth number
-same_pixel : (k sh st eh et x : ℤ) (m : Limits) (u : Value) →
-    hairline (axis_of k sh st eh et x) m u ≡ hairline (axis_of k sh st eh et (pos 0)) m u
+-- a pixel does not look at whether the end is excluded
+same_pixel : (a : Axis) (m : Limits) (u : Value) → hairline a m u ≡ hairline (to_written a) m u
 unfolding span_of offset_of mapping.scale_of mapping.placed mapping.hairline exact_at lost_at
-same_pixel k sh st eh et x m u = refl
+same_pixel a m u = refl
 
 pub segments_mix : SegmentsMix
 unfolding segment_worked
-segments_mix k sh st eh et x l (Exact v) y =
-    let a = axis_of k sh st eh et x in
+segments_mix a l (Exact v) y =
     let e = sym (shortened a y) in
-    ap alone (ap (λ (z : Axis). hairline a (inner (size_of z) l) v) e ∙ same_pixel k sh st eh et x _ v)
-segments_mix k sh st eh et x l (CenterOf v) y =
-    let a = axis_of k sh st eh et x in
-    let w = axis_of k sh st eh et (pos 0) in
-    let b = axis_of k sh st (eh -ℤ pos 1) et (pos 0) in
+    ap alone (ap (λ (z : Axis). hairline a (inner (size_of z) l) v) e ∙ same_pixel a _ v)
+segments_mix a l (CenterOf v) y =
+    let w = to_written a in
+    let b = day_earlier a in
     let e = sym (shortened a y) in
-    let left = ap (λ (z : Axis). hairline a (inner (size_of z) l) v) e ∙ same_pixel k sh st eh et x (inner (size_of b) l) v in
+    let left = ap (λ (z : Axis). hairline a (inner (size_of z) l) v) e ∙ same_pixel a (inner (size_of b) l) v in
     (λ i. centred a l (left i) (next_in (e i) v))
-    ∙ by_next a w b l (hairline w (inner (size_of b) l) v) (next_in b v) (same_pixel k sh st eh et x) e
-segments_mix k sh st eh et x l Last y = refl
+    ∙ by_next a w b l (hairline w (inner (size_of b) l) v) (next_in b v) (same_pixel a) e
+segments_mix a l Last y = refl
 
 -- ---- demand 3, of an excluded end
 pub none_from_end : NoneFromEnd
@@ -352,25 +344,25 @@ none_from_end a h d c i x e l = go (lt_z (last a).head t.head) refl
     t : Value
     t = nth (take (2 * c) (ticks_written a h d)) i
 
-    day : (last a).head ≡ a.end_head -ℤ pos 1
-    day = ap (λ (z : Axis). z.end_head) (sym (shortened a x))
+    day : (last a).head ≡ a.end.head -ℤ pos 1
+    day = ap (λ (z : Axis). z.end.head) (sym (shortened a x))
 
-    go : (b : Bool) → lt_z (last a).head t.head ≡ b → Later t (end a)
+    go : (b : Bool) → lt_z (last a).head t.head ≡ b → Later t a.end
     go true f = absurd ((list_fine a h d c e).to i l (by_head (record { lt = is_true _ f })))
-    go false f = by_head (smaller t.head a.end_head
-        (omega (arith, lt_false (last a).head t.head f, ap pos_part day, ap neg_part day, sub a.end_head (pos 1))))
+    go false f = by_head (smaller t.head a.end.head
+        (omega (arith, lt_false (last a).head t.head f, ap pos_part day, ap neg_part day, sub a.end.head (pos 1))))
 
 -- ---- as many pixels as days between the ends: days 2613 and 2614 of 1 to 2616 are both at 2612
 pub days_share : AsManyPixels → ⊥
 unfolding closed ieee.span ieee.climb ieee.size ieee.odd ieee.units ieee.round ieee.mul ieee.div ieee.of_int ieee.to_signed
-    rounding.quotient_of nanoseconds difference nanoseconds_of over_dates is_value earlier span_of offset_of asks.known asks.ends
-    asks.in_order asks.excludable asks.near_or_long asks.pixels asks.value_on asks.mappable mapping.scale_of mapping.map_coord
+    rounding.quotient_of nanoseconds difference nanoseconds_of is_value earlier span_of offset_of asks.ends asks.in_order
+    asks.excludable asks.near_or_long asks.pixels asks.value_on asks.mappable mapping.scale_of mapping.map_coord
     mapping.placed mapping.hairline mapping.mapped
 days_share f =
-    let day : (i : ℤ) → within (pos 1) i (pos 2615) ≡ true → DayOf (before 1 1 2616) i =
+    let day : (i : ℤ) → within (pos 1) i (pos 2615) ≡ true → DayOf (before kind.Date 1 2616) i =
     λ i e. record { dates = refl; inside = e } in
     let e : pos 2613 ≡ pos 2614 =
-    f (before 1 1 2616) (limits_of (pos 0) (pos 2615)) (pos 2613) (pos 2614) _ _ refl (omega arith) (day (pos 2613) refl)
+    f (before kind.Date 1 2616) (limits_of (pos 0) (pos 2615)) (pos 2613) (pos 2614) _ _ refl (omega arith) (day (pos 2613) refl)
     (day (pos 2614) refl) refl refl refl in
     let z = ap pos_part e in
     omega arith
@@ -378,13 +370,14 @@ days_share f =
 -- ---- the table
 pub excluded_settled : AllHold excluded_table
 unfolding closed calendar.leap calendar.leap_day calendar.month_length calendar.months calendar.year_length calendar.years
-    calendar.day_number calendar.next_day calendar.days_later calendar.date_of ieee.span ieee.climb ieee.size ieee.odd ieee.units
-    ieee.round ieee.mul ieee.div ieee.of_int ieee.to_unsigned ieee.to_signed rounding.round_f rounding.quotient_of nanoseconds
-    difference nanoseconds_of over_dates is_value earlier span_of offset_of asks.known asks.has_period asks.has_index asks.ends
+    calendar.day_number calendar.next_day calendar.days_later calendar.date_of ieee.span ieee.climb ieee.size ieee.odd
+    ieee.units ieee.round ieee.mul ieee.div ieee.of_int ieee.to_unsigned ieee.to_signed rounding.round_f rounding.quotient_of
+    nanoseconds difference nanoseconds_of is_value earlier span_of offset_of asks.has_period asks.has_index asks.ends
     asks.in_order asks.excludable asks.near_or_long asks.bold_hint asks.pixels asks.value_on asks.mappable mapping.scale_of
-    mapping.map_coord mapping.placed mapping.hairline mapping.mapped counts.monthly counts.yearly
-    counts.weekly counts.from_day counts.to_day counts.first_date counts.date_on counts.origin counts.position counts.size_of
-    while months.start_of months.carried months.generate_key_points months.total_month months.months_from months.month_key_points
+    mapping.map_coord mapping.placed mapping.hairline mapping.mapped counts.monthly counts.yearly counts.weekly
+    counts.from_day counts.to_day counts.first_date counts.date_on counts.origin counts.position counts.size_of while
+    months.start_of months.carried months.generate_key_points months.total_month months.months_from months.month_key_points
     key_points key_points_for ticks_of ticks_answer ticks_written discrete.size_answer segment_on segment_of
-    segmentRows.segment_mappable segmentRows.margin_of segmentRows.inner segmentRows.segment_worked segmented.segment_map_answer
+    segmentRows.segment_mappable segmentRows.margin_of segmentRows.inner segmentRows.segment_worked
+    segmented.segment_map_answer
 excluded_settled = (refl, (refl, (refl, (refl, (refl, (refl, tt))))))

@@ -10,12 +10,13 @@ use Rattle.laws.specs.Numbers.{pos_part}
 use Rattle.asking.specs.declared.Refusal.{Refusal}
 use Rattle.floats.specs.Rounding as rounding
 use Rattle.floats.specs.Losses.{is_whole, lost_in}
+use Rattle.values.specs.declared.Kind.TheVariants as kind
 use Rattle.values.specs.declared.Value.{Value}
 use Rattle.values.specs.Differences.{nanoseconds, difference, nanoseconds_of}
-use Rattle.values.specs.Values.{over_dates, is_value, earlier, midnight}
+use Rattle.values.specs.Values.{is_value, earlier, midnight}
 use Rattle.axis.specs.declared.Axis.{Axis}
 use Rattle.axis.specs.declared.Limits.{Limits}
-use Rattle.axis.specs.Axes.{start, end, span_of, offset_of, closed}
+use Rattle.axis.specs.Axes.{span_of, offset_of, closed}
 use Rattle.axis.specs.Questions as asks
 use Rattle.mapping.specs.declared.Hairline.{Hairline}
 use Rattle.mapping.specs.Hairlines.{exact_at, lost_at}
@@ -77,23 +78,23 @@ drawn_of a l v = record {
 }
 
 -- the start, where it is answered
-start_one : (a : Axis) (l : Limits) → (pixel_reply (mapped a l (start a))).status ≡ pos 0 →
-    (pixel_reply (mapped a l (start a))).exact ≡ pos 1
+start_one : (a : Axis) (l : Limits) → (pixel_reply (mapped a l a.start)).status ≡ pos 0 →
+    (pixel_reply (mapped a l a.start)).exact ≡ pos 1
 start_one a l =
     let P : (Result Hairline Refusal → Type 0) = λ r. (pixel_reply r).status ≡ pos 0 → (pixel_reply r).exact ≡ pos 1 in
     subst P (sym (start_drawn a l))
-    (by_row (scale_questions a l) (Ok (record { pixel = l.low; exact = true; lost = lost_at a (start a) }))
+    (by_row (scale_questions a l) (Ok (record { pixel = l.low; exact = true; lost = lost_at a a.start }))
     (λ (b : Bool) (r : Result Hairline Refusal). P r) (λ s. refl) (λ q s. absurd (no_refusal q s)))
 
-pub ends_of : (a : Axis) (l : Limits) → EndsDrawn a l (pixel_reply (mapped a l (start a))) (pixel_reply (mapped a l (end a)))
+pub ends_of : (a : Axis) (l : Limits) → EndsDrawn a l (pixel_reply (mapped a l a.start)) (pixel_reply (mapped a l a.end))
 ends_of a l = record {
   start_exact = start_one a l;
   exact_high = λ later s.
-      let m = is_at a l (end a) s in
+      let m = is_at a l a.end s in
       subst (λ (r : Result Hairline Refusal). (pixel_reply r).exact ≡ pos 1 → (pixel_reply r).pixel ≡ l.high) (sym m)
       (λ e. (end_exact a l _ later m).0 (one _ e));
   high_exact = λ later s.
-      let m = is_at a l (end a) s in
+      let m = is_at a l a.end s in
       subst (λ (r : Result Hairline Refusal). (pixel_reply r).pixel ≡ l.high → (pixel_reply r).exact ≡ pos 1) (sym m)
       (λ e. ap flag ((end_exact a l _ later m).1 e));
 }
@@ -121,18 +122,16 @@ drawn_ends_as a l p q f = rw (p, q) f
 -- ---- what one may not expect
 pub not_expected : NotExpected
 unfolding closed ieee.span ieee.climb ieee.size ieee.odd ieee.units ieee.round ieee.mul ieee.div ieee.of_int ieee.to_signed
-    rounding.round_f rounding.quotient_of is_whole lost_in nanoseconds difference nanoseconds_of over_dates is_value earlier
-    span_of
-    offset_of asks.known asks.has_period asks.has_index asks.ends asks.in_order asks.excludable asks.near_or_long asks.pixels
+    rounding.round_f rounding.quotient_of is_whole lost_in nanoseconds difference nanoseconds_of is_value earlier span_of
+    offset_of asks.has_period asks.has_index asks.ends asks.in_order asks.excludable asks.near_or_long asks.pixels
     asks.value_on asks.mappable asks.checked mapping.scale_of mapping.map_coord mapping.placed mapping.hairline
-    mapping.mapped exact_at lost_at cut_position count.monthly count.yearly count.weekly count.origin count.position count.size_of
-    index.is_indexed index.index_of index.value_at discrete.next_in segments.segment_on segments.segment_of
-    segments.segment_mappable
-    segments.margin_of segments.inner segments.segment_worked segment_map_answer
+    mapping.mapped exact_at lost_at cut_position count.monthly count.yearly count.weekly count.origin count.position
+    count.size_of index.is_indexed index.index_of index.value_at discrete.next_in segments.segment_on segments.segment_of
+    segments.segment_mappable segments.margin_of segments.inner segments.segment_worked segment_map_answer
 not_expected = record {
-  whole_exact = λ f. false≢true (f (axis_from (pos 1) (midnight (pos 1)) (midnight (pos 1808))) (limits_of (pos 0) (pos 3781))
+  whole_exact = λ f. false≢true (f (axis_from kind.Date (midnight (pos 1)) (midnight (pos 1808))) (limits_of (pos 0) (pos 3781))
       (midnight (pos 1808)) _ refl refl refl);
-  lost_not_exact = λ f. true≢false (f (axis_from (pos 4) (midnight (pos 1)) (midnight (pos 2))) (limits_of (pos 0) (pos 0))
+  lost_not_exact = λ f. true≢false (f (axis_from kind.Stamp (midnight (pos 1)) (midnight (pos 2))) (limits_of (pos 0) (pos 0))
       (at_nano (midnight (pos 105)) 21599254740993) _ refl refl);
   centre_exact = λ f. false≢true (f one_day (limits_of (pos 0) (pos 7)) (centre_at (midnight (pos 10))) _ refl refl);
 }
@@ -140,12 +139,11 @@ not_expected = record {
 -- ---- the table
 pub hairlines_settled : AllHold hairline_table
 unfolding closed ieee.span ieee.climb ieee.size ieee.odd ieee.units ieee.round ieee.add ieee.mul ieee.div ieee.of_int
-    ieee.to_signed
-    rounding.round_f rounding.quotient_of is_whole lost_in nanoseconds difference nanoseconds_of over_dates is_value earlier
-    span_of
-    offset_of asks.known asks.has_period asks.has_index asks.ends asks.in_order asks.excludable asks.near_zero asks.near_or_long
-    asks.pixels asks.value_on asks.mappable asks.checked mapping.scale_of mapping.nudge mapping.map_coord mapping.map_duration
-    mapping.placed mapping.hairline mapping.mapped exact_at lost_at count.monthly count.yearly count.weekly
-    count.origin count.position count.size_of index.is_indexed index.index_of index.value_at discrete.next_in segments.segment_on
-    segments.segment_of segments.segment_mappable segments.margin_of segments.inner segments.segment_worked segment_map_answer
+    ieee.to_signed rounding.round_f rounding.quotient_of is_whole lost_in nanoseconds difference nanoseconds_of is_value
+    earlier span_of offset_of asks.has_period asks.has_index asks.ends asks.in_order asks.excludable asks.near_zero
+    asks.near_or_long asks.pixels asks.value_on asks.mappable asks.checked mapping.scale_of mapping.nudge mapping.map_coord
+    mapping.map_duration mapping.placed mapping.hairline mapping.mapped exact_at lost_at count.monthly count.yearly
+    count.weekly count.origin count.position count.size_of index.is_indexed index.index_of index.value_at discrete.next_in
+    segments.segment_on segments.segment_of segments.segment_mappable segments.margin_of segments.inner
+    segments.segment_worked segment_map_answer
 hairlines_settled = (refl, (refl, (refl, (refl, (refl, (refl, (refl, (refl, (refl, (refl, tt))))))))))

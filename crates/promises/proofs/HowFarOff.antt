@@ -11,12 +11,13 @@ use Rattle.std.specs.Prelude.{Result}
 use Rattle.laws.specs.Numbers.{pos_part}
 use Rattle.asking.specs.declared.Refusal.{Refusal}
 use Rattle.floats.specs.Rounding as rounding
+use Rattle.values.specs.declared.Kind.TheVariants as kind
 use Rattle.values.specs.declared.Value.{Value}
 use Rattle.values.specs.Differences.{nanoseconds, difference, nanoseconds_of}
-use Rattle.values.specs.Values.{over_dates, is_value, earlier, midnight}
+use Rattle.values.specs.Values.{is_value, earlier, midnight}
 use Rattle.axis.specs.declared.Axis.{Axis}
 use Rattle.axis.specs.declared.Limits.{Limits}
-use Rattle.axis.specs.Axes.{start, end, span_of, offset_of}
+use Rattle.axis.specs.Axes.{span_of, offset_of}
 use Rattle.axis.specs.Questions as asks
 use Rattle.mapping.specs.Mapping as mapping
 use Rattle.mapping.specs.declared.Hairline.{Hairline}
@@ -35,7 +36,7 @@ off_of a l v s =
     subst (λ (r : Result Hairline Refusal). HowFarOff a l v (pixel_reply r).pixel) (sym m) (how_far_off a l v _ m)
 
 pub at_ends : (a : Axis) (l : Limits) →
-    AtEnds a l (pixel_reply (mapping.mapped a l (start a))) (pixel_reply (mapping.mapped a l (end a)))
+    AtEnds a l (pixel_reply (mapping.mapped a l a.start)) (pixel_reply (mapping.mapped a l a.end))
 at_ends a l = record {
   at_start = ap pixel_reply (start_at_low a l);
   at_end = λ some. elim (end_at_high a l some) [ inl e ↦ inl (ap pixel_reply e) | inr e ↦ inr (ap pixel_reply e) ];
@@ -55,16 +56,16 @@ ends_as a l p q f = rw (p, q) f
 -- ---- narrower claims
 -- date-times from a nanosecond of day 1 to a later midnight
 abbrev times : ℕ → ℕ → Axis
-times nano day = axis_from (pos 4) (at_nano (midnight (pos 1)) nano) (midnight (pos day))
+times nano day = axis_from kind.Stamp (at_nano (midnight (pos 1)) nano) (midnight (pos day))
 
 -- dates from day 1
 abbrev dates : ℕ → Axis
-dates day = axis_from (pos 1) (midnight (pos 1)) (midnight (pos day))
+dates day = axis_from kind.Date (midnight (pos 1)) (midnight (pos day))
 
 abbrev up_to : ℕ → Limits
 up_to high = limits_of (pos 0) (pos high)
 
-inside : {a : Axis} {v : Value} → earlier (start a) (end a) ≡ true → earlier v (start a) ≡ false → earlier (end a) v ≡ false →
+inside : {a : Axis} {v : Value} → earlier a.start a.end ≡ true → earlier v a.start ≡ false → earlier a.end v ≡ false →
     Inside a v
 inside x y z = record { some_span = x; from_start = y; to_end = z }
 
@@ -73,8 +74,8 @@ inside x y z = record { some_span = x; from_start = y; to_end = z }
 -- 13: one whose position is just below 12 is at 12
 pub no_narrower : NoNarrower
 unfolding ieee.span ieee.climb ieee.size ieee.odd ieee.units ieee.round ieee.mul ieee.div ieee.of_int ieee.to_signed
-    rounding.quotient_of nanoseconds difference nanoseconds_of over_dates is_value earlier span_of offset_of asks.known asks.ends
-    asks.in_order asks.excludable asks.near_or_long asks.pixels asks.value_on asks.mappable mapping.scale_of mapping.map_coord
+    rounding.quotient_of nanoseconds difference nanoseconds_of is_value earlier span_of offset_of asks.ends asks.in_order
+    asks.excludable asks.near_or_long asks.pixels asks.value_on asks.mappable mapping.scale_of mapping.map_coord
     mapping.placed mapping.hairline mapping.mapped cut_position
 no_narrower = record {
   always_cut = λ f.

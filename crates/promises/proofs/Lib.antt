@@ -1,6 +1,7 @@
 -- The claim, proved.
 pub mod Rows
 pub mod Demand
+pub mod Numbers
 pub mod Pixels
 pub mod DayNumbers
 pub mod DateAxes

@@ -4,7 +4,7 @@ use mathlib.Core.Bool.{Bool, true, false, not, cond, ◌||◌}
 use mathlib.Core.List.{List, []}
 use Prim.Native.Nat.{ℕ, ◌≤◌}
 use native.Mathlib.Omega.{arith}
-use lib.IntN.{ℤ, pos}
+use lib.IntN.{ℤ}
 use lib.ListN.{length}
 use Rattle.std.specs.Prelude.{Option, Some, None, Result, Ok, Err}
 use Rattle.laws.specs.Numbers.{minus, pos_part, neg_part}
@@ -13,13 +13,13 @@ use Rattle.asking.specs.declared.Refusal.{Refusal}
 use Rattle.asking.specs.Asking.{passes}
 use Rattle.asking.proofs.Asked.{told, answered_ok, passed}
 use Rattle.values.specs.declared.Value.{Value}
-use Rattle.values.specs.Values.{over_dates}
+use Rattle.values.specs.Values.{is_duration}
 use Rattle.axis.specs.declared.Axis.{Axis}
 use Rattle.axis.specs.declared.BoldPoints.{BoldPoints}
 use Rattle.axis.specs.declared.Hint.{Hint}
 use Rattle.axis.specs.declared.Hint.TheVariants.{Bold, Light}
-use Rattle.axis.specs.Axes.{axis_of, excluded, closed}
-use Rattle.axis.specs.Questions.{has_period, has_index, known, excludable, is_count, enough, bold_hint}
+use Rattle.axis.specs.Axes.{closed}
+use Rattle.axis.specs.Questions.{has_period, has_index, excludable, is_count, enough, bold_hint}
 use Rattle.axis.proofs.ClosedAxes.{kept}
 use Rattle.counting.specs.Counting.{Dated, from_day, to_day}
 use Rattle.counting.proofs.Counting.{from_range, to_range}
@@ -55,7 +55,7 @@ module _ (a : Axis) (h : Hint) (l : ListsDates a h) where
   t = date_times a
 
   abbrev b : Axis
-  b = days (ceil_of_start a) (floor_of_end a) (pos 0)
+  b = days (ceil_of_start a) (floor_of_end a) false
 
   abbrev g : Hint
   g = Bold (bold_points h)
@@ -88,8 +88,8 @@ module _ (a : Axis) (h : Hint) (l : ListsDates a h) where
 
   -- ---- and its list is that of the date-times, whose end belongs to them
   included : a ≡ closed a
-  unfolding excludable over_dates
-  included = kept a (go (excluded a) (told 14 (period_questions t (bold_points h)) asked_none.0))
+  unfolding excludable
+  included = kept a (go a.end_excluded (told 14 (period_questions t (bold_points h)) asked_none.0))
     where
       go : (x : Bool) → not x || false ≡ true → x ≡ false
       go false e = refl
@@ -124,12 +124,12 @@ module _ (a : Axis) (h : Hint) (l : ListsDates a h) where
 
   -- ---- segments, where the kind has them
   segment_count : has_index a ≡ true → (k : ℕ) → segment_ticks_answer a h k ≡ segment_ticks_answer b g k
-  unfolding segment_ticks_answer known has_index has_period
-  segment_count i k = rw (told 1 (tick_questions a h) l.accepted, i) (count k)
+  unfolding segment_ticks_answer has_index has_period
+  segment_count i k = rw i (count k)
 
   segment_written : has_index a ≡ true → (d : List ℤ) → segment_ticks_written a h d ≡ segment_ticks_written b g d
-  unfolding segment_ticks_written known has_index has_period
-  segment_written i d = rw (told 1 (tick_questions a h) l.accepted, i) (written d)
+  unfolding segment_ticks_written has_index has_period
+  segment_written i d = rw i (written d)
 
   pub alike : Alike a h b g
   alike = record {
@@ -141,18 +141,18 @@ module _ (a : Axis) (h : Hint) (l : ListsDates a h) where
     segment_written = segment_written;
   }
 
--- THE THEOREM, of any six numbers and any hint
+-- THE THEOREM, of any axis and any hint
 pub one_list : OneList
-one_list k sh st eh et x h l = alike (axis_of k sh st eh et x) h l
+one_list a h l = alike a h l
 
 -- ---- where dates are listed, in numbers
 pub none_from_span : NoneFrom
-none_from_span sh st eh et x h z =
-    let a = axis_of (pos 4) sh st eh et x in
+none_from_span a h s z =
     let n = pos_part h.n in
-    let (q, many, _) = period_accepted a h z in (
-      λ e. from_none a n q many refl (none_in a h z e),
-      λ l. sym (period_answered a h z) ∙ ap Ok (sym (none_from a n q many refl l)),
+    let (q, many, _) = period_accepted a h z in
+    let d : is_duration a.kind ≡ false = ap is_duration s in (
+      λ e. from_none a n q many d (none_in a h z e),
+      λ l. sym (period_answered a h z) ∙ ap Ok (sym (none_from a n q many d l)),
     )
 
 -- ---- of what three calls handed back, each as defined
@@ -164,13 +164,13 @@ status_none (Err q) e = absurd (let z : ⊥ = omega (arith, ap neg_part e) in z)
 pub lists_as : (a : Axis) (h : Hint) (from to : ℤ) (d e : List ℤ) (r : Lists) (l m : List ℤ) →
     r.period ≡ period_reply (period_answer (date_times a) (bold_points h)) →
     (r.times ≡ number_reply (ticks_answer a h (length d))) × (l ≡ ticks_written a h d) →
-    let b = days from to (pos 0) in
+    let b = days from to false in
     (r.dates ≡ number_reply (ticks_answer b (Bold (bold_points h)) (length e))) × (m ≡ ticks_written b (Bold (bold_points h)) e) →
     SameLists a h from to d e r l m
 lists_as a h from to d e r l m p (t, w) (u, v) z k s f g q =
     let period = status_none (period_answer (date_times a) (bold_points h)) (ap (λ (x : OrderedPeriod). x.status) (sym p) ∙ s) in
     let same = alike a h (record { accepted = z; as_times = k; no_period = period }) in
-    let axis : days from to (pos 0) ≡ days (ceil_of_start a) (floor_of_end a) (pos 0) = λ i. days (f i) (g i) (pos 0) in (
+    let axis : days from to false ≡ days (ceil_of_start a) (floor_of_end a) false = λ i. days (f i) (g i) false in (
       t
           ∙ ap number_reply (same.count (length d))
           ∙ sym (λ i. number_reply (ticks_answer (axis i) (Bold (bold_points h)) (length (sym q i))))

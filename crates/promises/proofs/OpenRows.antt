@@ -16,13 +16,14 @@ use Rattle.laws.proofs.Tests.{and_false}
 use Rattle.asking.specs.Asking.{passes}
 use Rattle.asking.proofs.Asked.{passed}
 use Rattle.floats.specs.Rounding.{ceil_f, ceil_of}
+use Rattle.values.specs.declared.Kind.TheVariants as kind
 use Rattle.values.specs.declared.Value.{Value}
 use Rattle.values.specs.Values.{is_value, earlier, midnight}
 use Rattle.values.specs.Differences.{fits_i64}
 use Rattle.axis.specs.declared.Axis.{Axis}
 use Rattle.axis.specs.declared.Hint.{Hint}
-use Rattle.axis.specs.Axes.{excluded, closed}
-use Rattle.axis.specs.Questions.{known, has_index, has_period, ends, in_order, excludable, near_or_long, is_count, hint_on}
+use Rattle.axis.specs.Axes.{closed}
+use Rattle.axis.specs.Questions.{has_index, has_period, ends, in_order, excludable, near_or_long, is_count, hint_on}
 use Rattle.axis.specs.Questions.{bold_hint, value_on}
 use Rattle.axis.proofs.Questions.{other_kind}
 use Rattle.counting.specs.Counting.{from_day, to_day, monthly, yearly, first_date, date_on, origin, position, size_of}
@@ -92,18 +93,18 @@ two_weeks day d first last room =
     (accepted day 14 1 first last few) (days day 14 1 first last few ∙ both_ends day) room
 
 -- ---- the periods
-has_period_law : (a : Axis) → a.kind ≡ pos 4 → ends a ≡ true → in_order a ≡ true → excluded a ≡ false →
+has_period_law : (a : Axis) → a.kind ≡ kind.Stamp → ends a ≡ true → in_order a ≡ true → a.end_excluded ≡ false →
     passes (period_questions a (record { n = pos 100 })) ≡ true
-unfolding known has_period excludable bold_hint
-has_period_law a kind real order kept =
-    let near : near_or_long a ≡ true = sym (other_kind a (rw kind)) in
-    rw (real, order, kept, near, kind)
+unfolding has_period excludable bold_hint
+has_period_law a stamp real order kept =
+    let near : near_or_long a ≡ true = sym (other_kind a (rw stamp)) in
+    rw (real, order, near, kept, stamp)
 
 -- where the span has a period, the axis has
 spanned : (span k : ℕ) → fits_i64 (pos span) ≡ true → compute_period_per_point 130 span 100 true ≡ Some k → PeriodOf span k
 unfolding period_answer period_on
-spanned span k f e a kind real order kept s =
-    sym (passed (period_questions a (record { n = pos 100 })) _ (has_period_law a kind real order kept)) ∙ rw (s, f, kind, e)
+spanned span k f e a stamp real order kept s =
+    sym (passed (period_questions a (record { n = pos 100 })) _ (has_period_law a stamp real order kept)) ∙ rw (s, f, stamp, e)
 
 pub below_the_power : BelowThePower
 unfolding exponent_from determine_actual_ns_per_point period_from compute_period_per_point
@@ -115,9 +116,8 @@ at_the_power = spanned (10 ^ 15) (4 * per_hour) refl refl
 
 -- ---- an index
 pub earlier_year : EarlierYear
-unfolding closed index_answer index_in is_indexed index_of known has_index ends is_value in_order excludable earlier value_on
-    monthly
-    yearly from_day first_date date_on origin position
+unfolding closed index_answer index_in is_indexed index_of has_index ends is_value in_order excludable earlier value_on
+    monthly yearly from_day first_date date_on origin position
 earlier_year last least most =
     rw (
       le-leb 1 last (omega arith),
@@ -143,7 +143,7 @@ module _ (n : ℕ) (least : 1 ≤ n) (few : n ≤ 4096) where
   any_hint = rw (le-leb 0 n (omega arith), le-leb 1 n least, le-leb n 4096 few)
 
   year_accepted : passes (tick_questions new_year (bold_of n)) ≡ true
-  unfolding known near_or_long ends is_value in_order excludable earlier
+  unfolding near_or_long ends is_value in_order excludable earlier
   year_accepted = rw any_hint
 
   no_ticks : ticks_of new_year (bold_of n) ≡ []
@@ -156,5 +156,5 @@ no_whole_month n d least few =
 
 -- its size is 12
 pub twelve : size_answer new_year ≡ Ok 12
-unfolding closed size_answer size_of known has_index ends is_value in_order excludable earlier monthly first_date date_on from_day
+unfolding closed size_answer size_of has_index ends is_value in_order excludable earlier monthly first_date date_on from_day
 twelve = rw (december_2021, january_2022)

@@ -10,8 +10,9 @@ use lib.ListN.{get_or}
 use Rattle.std.specs.Prelude.{None, Ok}
 use Rattle.laws.specs.Numbers.{pos_part}
 use Rattle.asking.specs.Asking.{passes}
+use Rattle.values.specs.declared.Kind.TheVariants as kind
 use Rattle.values.specs.Differences.{nanoseconds, difference, nanoseconds_of}
-use Rattle.values.specs.Values.{over_dates, is_value, earlier, midnight}
+use Rattle.values.specs.Values.{is_value, earlier, midnight}
 use Rattle.axis.specs.declared.Axis.{Axis}
 use Rattle.axis.specs.declared.LightPoints.{LightPoints}
 use Rattle.axis.specs.declared.Hint.{Hint}
@@ -31,24 +32,23 @@ use Rattle.promises.specs.OneList.{ListsDates, NoOtherList, OnEachKind}
 
 -- from a nanosecond of day 1 to one of another day
 abbrev span : ℕ → ℕ → ℕ → Axis
-span from day to = axis_from (pos 4) (at_nano (midnight (pos 1)) from) (at_nano (midnight (pos day)) to)
+span from day to = axis_from kind.Stamp (at_nano (midnight (pos 1)) from) (at_nano (midnight (pos day)) to)
 
 -- the number at a place
 abbrev number_at : ℕ → List ℤ → ℕ
 number_at i l = pos_part (get_or l i (pos 0))
 
 -- on kind 4, where the questions and the period compute
-shown : {a : Axis} {h : Hint} → a.kind ≡ pos 4 → passes (tick_questions a h) ≡ true →
+shown : {a : Axis} {h : Hint} → a.kind ≡ kind.Stamp → passes (tick_questions a h) ≡ true →
     period_answer (date_times a) (bold_points h) ≡ Ok None → ListsDates a h
 shown k z e = record { accepted = z; as_times = times k; no_period = e }
 
 -- N 1: from 00:00:01 of day 1 to day 3, days 2 and 3, and not day 1 alone; from day 1 to 00:00:01 of day 7, day 1 alone, and
 -- not days 1 and 8; to day 3, day 1 alone, and not days 1 and 2, nor days 1 to 3, as for N 2
 pub no_other_list : NoOtherList
-unfolding closed nanoseconds difference nanoseconds_of over_dates is_value earlier span_of asks.known asks.has_period asks.ends
-    asks.in_order asks.excludable asks.near_or_long asks.bold_hint asks.light_hint count.monthly count.yearly count.weekly
-    count.from_day count.to_day dates_from date_key_points exponent_from determine_actual_ns_per_point period_from
-    compute_period_per_point
+unfolding closed nanoseconds difference nanoseconds_of is_value earlier span_of asks.has_period asks.ends asks.in_order
+    asks.excludable asks.near_or_long asks.bold_hint asks.light_hint count.monthly count.yearly count.weekly count.from_day
+    count.to_day dates_from date_key_points exponent_from determine_actual_ns_per_point period_from compute_period_per_point
     period_on date_time_key_points key_points light_key_points key_points_for ticks_of ticks_written period_answer
 no_other_list = record {
   from_floor = λ f. let z = ap (number_at 0) (f (span 1000000000 3 0) (bold_of 1) sevens (shown refl refl refl)) in omega arith;
@@ -59,12 +59,10 @@ no_other_list = record {
 
 pub on_each_kind : OnEachKind
 unfolding calendar.leap calendar.leap_day calendar.month_length calendar.months calendar.year_length calendar.years
-    calendar.day_number calendar.next_day calendar.days_later calendar.date_of nanoseconds difference nanoseconds_of over_dates
-    is_value
-    earlier span_of asks.known asks.has_period asks.ends asks.in_order asks.excludable asks.near_or_long asks.bold_hint
-    asks.light_hint
-    count.monthly count.yearly count.weekly count.from_day count.to_day count.first_date count.date_on count.size_of exponent_from
-    determine_actual_ns_per_point period_from compute_period_per_point period_on period_answer
+    calendar.day_number calendar.next_day calendar.days_later calendar.date_of nanoseconds difference nanoseconds_of is_value
+    earlier span_of asks.has_period asks.ends asks.in_order asks.excludable asks.near_or_long asks.bold_hint asks.light_hint
+    count.monthly count.yearly count.weekly count.from_day count.to_day count.first_date count.date_on count.size_of
+    exponent_from determine_actual_ns_per_point period_from compute_period_per_point period_on period_answer
 on_each_kind =
     let one : LightPoints = record { bold = pos 1; n = pos 1 } in
     record {

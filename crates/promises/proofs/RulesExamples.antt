@@ -7,6 +7,7 @@ use Prim.Native.Nat.{ℕ, ◌≤◌, ◌<◌}
 use native.Mathlib.Decide.{dec_le}
 use native.Mathlib.Omega.{arith}
 use borrow.Author.Tests.{le-leb, lt-leb}
+use lib.IntN.{ℤ}
 use lib.ListN.{length}
 use Rattle.std.specs.Prelude.{⊤, Option, None, Some, Result, Ok, Err, is_ok}
 use Rattle.std.specs.Result.{result_and}
@@ -17,8 +18,9 @@ use Rattle.asking.proofs.Asked.{asked_append, passes_append, all_pass}
 use Rattle.text_read.specs.Fields as fields
 use Rattle.text_read.specs.Lines as lines
 use Rattle.calendar.specs.Gregorian as calendar
+use Rattle.values.specs.declared.Kind.TheVariants as kind
 use Rattle.values.specs.declared.Value.{Value}
-use Rattle.values.specs.Values.{over_dates, is_value, earlier}
+use Rattle.values.specs.Values.{is_value, earlier}
 use Rattle.axis.specs.declared.Axis.{Axis}
 use Rattle.axis.specs.Axes.{closed}
 use Rattle.axis.specs.Questions as asks
@@ -219,36 +221,38 @@ none_and_two =
 
 -- ---- lists
 table_first : Holds examples.table_first
-table_first = count_by [] (between 0 1 5) (Err refusal.Table) ((judges []).twelve.1 reads.nothing)
+table_first =
+    let answer : (Result ℕ Refusal → List ℤ) = λ r. count_numbers (number_reply r) in
+    ap answer (behind (table_questions []) (Err refusal.Kind))
+    ∙ ap (λ (v : Result ⊤ Refusal). answer (result_and v (Err refusal.Kind))) ((judges []).twelve.1 reads.nothing)
 
 by_days_law : verdict (names_line ++ all_second_days) ≡ fine
 by_days_law = accepts (names_line ++ all_second_days) unit.Day 2 reads.days
 
 pub date_times : Holds examples.date_times
-unfolding over_dates is_value earlier asks.known asks.ends asks.in_order asks.excludable has_rules
-date_times = count_by (names_line ++ all_second_days) (between 4 1 5) fine by_days_law
+unfolding is_value earlier asks.ends asks.in_order asks.excludable has_rules
+date_times = count_by (names_line ++ all_second_days) (between kind.Stamp 1 5) fine by_days_law
 
 pub days_listed : Holds examples.second_days × Holds examples.row_before_end
-unfolding closed over_dates is_value earlier asks.known asks.ends asks.in_order asks.excludable has_rules from_day to_day
-    fields.until_of fields.digits_from fields.digits_of fields.read_number lines.lines_of lines.occurrences
-    lines.in_form rows.in_range rows.row_read rows.read_row rows_of_lines table_of first_for every.days_from
-    every.days_on
-    weekly.every_after is_of ruled_ticks ruled_on
+unfolding closed is_value earlier asks.ends asks.in_order asks.excludable has_rules from_day to_day fields.until_of
+    fields.digits_from fields.digits_of fields.read_number lines.lines_of lines.occurrences lines.in_form rows.in_range
+    rows.row_read rows.read_row rows_of_lines table_of first_for every.days_from every.days_on weekly.every_after is_of
+    ruled_ticks ruled_on
 days_listed =
     let s = names_line ++ short_daily ++ long_second_days in
     let v = ((judges s).others _ reads.two).accepted.1 one_of_two in
-    (into_by (names_line ++ all_second_days) (between 1 1 5) fine by_days_law, into_by s (before 1 1 4) fine v)
+    (into_by (names_line ++ all_second_days) (between kind.Date 1 5) fine by_days_law, into_by s (before kind.Date 1 4) fine v)
 
 -- by the plan that has the same ticks: the definition looks at each day
 pub second_januaries : Holds examples.second_januaries
-unfolding closed over_dates is_value earlier asks.known asks.ends asks.in_order asks.excludable has_rules calendar.leap
-    calendar.leap_day calendar.month_length calendar.months calendar.year_length calendar.years calendar.day_number
-    calendar.next_day calendar.days_later calendar.date_of from_day to_day fields.until_of fields.digits_from fields.digits_of
-    fields.read_number lines.lines_of lines.occurrences lines.in_form rows.in_range rows.row_read
-    rows.read_row rows_of_lines table_of first_for steps.month_of steps.whole_month steps.first_day from_month to_month ruled_plan
+unfolding closed is_value earlier asks.ends asks.in_order asks.excludable has_rules calendar.leap calendar.leap_day
+    calendar.month_length calendar.months calendar.year_length calendar.years calendar.day_number calendar.next_day
+    calendar.days_later calendar.date_of from_day to_day fields.until_of fields.digits_from fields.digits_of
+    fields.read_number lines.lines_of lines.occurrences lines.in_form rows.in_range rows.row_read rows.read_row rows_of_lines
+    table_of first_for steps.month_of steps.whole_month steps.first_day from_month to_month ruled_plan
 second_januaries =
     let s = names_line ++ all_second_years in
-    let a = between 3 2 1096 in
+    let a = between kind.Year 2 1096 in
     let v = accepts s unit.Year 2 reads.years in
     let row = plain_questions (has_rules a) a in
     let z : passes (ruled_questions s a) ≡ true =

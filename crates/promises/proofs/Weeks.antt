@@ -28,8 +28,9 @@ use Rattle.weeks.proofs.Weeks.{weekday_most, week_day_is, weeks_is, weeks_rule, 
 use Rattle.weeks.proofs.Weeks.{day_back, day_after_monday}
 use Rattle.weeks.proofs.Questions as weekdates
 use Rattle.weeks.proofs.Questions.{is_week_date_law, raw, week_at_law, number_of_law, number_is, same_numbers, monday_answered}
+use Rattle.values.specs.declared.Kind.TheVariants as kind
 use Rattle.values.specs.declared.Value.{Value}
-use Rattle.values.specs.Values.{over_dates, is_value, earlier, midnight}
+use Rattle.values.specs.Values.{is_value, earlier, midnight}
 use Rattle.axis.specs.declared.Axis.{Axis}
 use Rattle.axis.specs.Axes.{closed}
 use Rattle.axis.specs.Questions as asks
@@ -165,14 +166,14 @@ weeks_of_year y w h l = rw (← weeks_rule y h) (go (leb 1 w && leb w (weeks_of 
 
 -- ---- what is false of a week axis
 one_day_law : ℕ → Axis
-one_day_law d = axis_from (pos 8) (midnight (pos d)) (midnight (pos d))
+one_day_law d = axis_from kind.Week (midnight (pos d)) (midnight (pos d))
 
 -- on day 1 alone the index of day 2 is 0, and index 0 is day 1
 pub no_index_inverse : IndexInverts → ⊥
-unfolding closed weeks.weekday weeks.counted weeks.mondays_to over_dates is_value earlier asks.known asks.has_period
-    asks.has_index asks.ends asks.in_order asks.excludable asks.value_on asks.checked count.monthly count.yearly
-    count.weekly count.origin count.position index.is_indexed index.index_of index.week_at index.value_at discrete.index_in
-    discrete.index_answer discrete.from_index_answer one_day_law
+unfolding closed weeks.weekday weeks.counted weeks.mondays_to is_value earlier asks.has_period asks.has_index asks.ends
+    asks.in_order asks.excludable asks.value_on asks.checked count.monthly count.yearly count.weekly count.origin
+    count.position index.is_indexed index.index_of index.week_at index.value_at discrete.index_in discrete.index_answer
+    discrete.from_index_answer one_day_law
 no_index_inverse f =
     let e = f (one_day_law 1) (midnight (pos 2)) (midnight (pos 1)) 0 refl refl refl in
     let z = ap (λ (v : Value). pos_part v.head) e in
@@ -180,9 +181,8 @@ no_index_inverse f =
 
 -- on day 2 alone index 0 is day 2, a Tuesday
 pub start_no_monday : AlwaysMondays → ⊥
-unfolding closed weeks.weekday over_dates is_value earlier asks.known asks.has_period asks.has_index asks.ends asks.in_order
-    asks.excludable asks.checked count.monthly count.yearly count.weekly index.week_at index.value_at
-    discrete.from_index_answer one_day_law
+unfolding closed weeks.weekday is_value earlier asks.has_period asks.has_index asks.ends asks.in_order asks.excludable
+    asks.checked count.monthly count.yearly count.weekly index.week_at index.value_at discrete.from_index_answer one_day_law
 start_no_monday f = let z = f (one_day_law 2) (midnight (pos 2)) 0 refl refl in omega arith
 
 -- ---- the table
@@ -246,8 +246,9 @@ no_53 = rw weeks_9999
 
 -- THE THEOREM, of all rows
 pub weeks_settled : AllHold week_table
-unfolding leap leap_day month_length months year_length years day_number is_date in_ranges number_of weeks.weekday weeks.counted
-    weeks.thursdays weeks.weeks_of weeks.day_from weeks.first_thursday weeks.week_day is_week_date week_day_number
+unfolding leap leap_day month_length months year_length years day_number is_date in_ranges number_of weeks.weekday
+    weeks.counted weeks.thursdays weeks.weeks_of weeks.day_from weeks.first_thursday weeks.week_day is_week_date
+    week_day_number
 weeks_settled = (
   row 1977 1 1 721720 1976 53 6 refl refl,
   (

@@ -16,7 +16,7 @@ use Rattle.weeks.specs.Weeks as weeks
 use Rattle.weeks.specs.Questions.{is_week_date, week_day_number, week_date_at}
 use Rattle.floats.specs.Rounding as rounding
 use Rattle.values.specs.Differences.{nanoseconds, difference, nanoseconds_of}
-use Rattle.values.specs.Values.{over_dates, is_value, earlier}
+use Rattle.values.specs.Values.{is_value, earlier}
 use Rattle.axis.specs.Axes.{span_of, offset_of, closed}
 use Rattle.axis.specs.Questions as asks
 use Rattle.floats.specs.Losses.{is_whole, lost_in}
@@ -87,32 +87,30 @@ ruled (r ∷ rs) e =
 
 computed_out : AllRuledOut computed_rows
 unfolding closed calendar.leap calendar.leap_day calendar.month_length calendar.months calendar.year_length calendar.years
-    calendar.day_number calendar.next_day calendar.days_later calendar.date_of is_date in_ranges number_of date_at weeks.weekday
-    weeks.monday weeks.thursday weeks.counted weeks.day_from weeks.week_year weeks.thursdays weeks.week_number weeks.week_date_of
-    weeks.weeks_of weeks.first_thursday weeks.week_day is_week_date week_day_number week_date_at weeks.mondays_to ieee.span
-    ieee.climb
-    ieee.size ieee.odd ieee.units ieee.round ieee.mul ieee.div ieee.of_int ieee.to_unsigned ieee.to_signed rounding.floor_f
-    rounding.ceil_f rounding.ceil_of rounding.round_f rounding.quotient_of nanoseconds difference nanoseconds_of over_dates
-    is_value
-    earlier span_of offset_of asks.known asks.has_unmap asks.has_index asks.has_period asks.ends asks.in_order asks.excludable
-    asks.near_or_long asks.bold_hint asks.light_hint asks.pixels asks.differ asks.unmap_pixels asks.value_on asks.mappable
-    asks.checked asks.checked_if mapping.scale_of mapping.map_coord mapping.placed mapping.hairline
-    mapping.mapped exact_at lost_at is_whole lost_in count.monthly count.yearly count.weekly count.from_day count.to_day
-    count.first_date count.date_on count.origin count.position count.size_of while mondays.mondays_from mondays.every_after
-    mondays.least_from mondays.weeks_per_point mondays.mondays_on mondays.week_key_points dates.dates_from dates.date_key_points
-    months.start_of months.carried months.generate_key_points months.last_year months.exp10_from months.try_freq months.freq_of
-    months.generate_yearly_keypoints months.total_month months.months_from months.month_key_points periods.exponent_from
-    periods.determine_actual_ns_per_point periods.days_from periods.period_from periods.compute_period_per_point times.plus
-    times.period_on times.aligned_up times.date_times_by times.date_time_key_points times.aligned times.duration_of
-    times.durations_by
-    times.duration_key_points key_points monthly_light light_key_points key_points_for ticks.ticks_of ticks.ticks_answer
-    ticks.ticks_written ticks.period_answer index.is_indexed index.index_of index.month_at index.january index.week_at
-    index.value_at index.index_at index.index_under discrete.index_in discrete.next_in discrete.previous_in discrete.value_in
-    discrete.size_answer discrete.index_answer discrete.from_index_answer discrete.next_answer discrete.previous_answer
-    discrete.values_answer discrete.value_under discrete.unmap_answer segments.segment_on segments.segment_of
-    segments.segment_mappable segments.margin_of segments.inner segments.segment_worked segmented.segment_map_answer
-    segmented.segment_size_answer segmented.segment_index_in segmented.segment_index_answer segmented.segment_at
-    segmented.segment_from_answer segmented.segment_ticks_answer segmented.segment_ticks_written
+    calendar.day_number calendar.next_day calendar.days_later calendar.date_of is_date in_ranges number_of date_at
+    weeks.weekday weeks.monday weeks.thursday weeks.counted weeks.day_from weeks.week_year weeks.thursdays weeks.week_number
+    weeks.week_date_of weeks.weeks_of weeks.first_thursday weeks.week_day is_week_date week_day_number week_date_at
+    weeks.mondays_to ieee.span ieee.climb ieee.size ieee.odd ieee.units ieee.round ieee.mul ieee.div ieee.of_int
+    ieee.to_unsigned ieee.to_signed rounding.floor_f rounding.ceil_f rounding.ceil_of rounding.round_f rounding.quotient_of
+    nanoseconds difference nanoseconds_of is_value earlier span_of offset_of asks.has_unmap asks.has_index asks.has_period
+    asks.ends asks.in_order asks.excludable asks.near_or_long asks.bold_hint asks.light_hint asks.pixels asks.differ
+    asks.unmap_pixels asks.value_on asks.mappable asks.checked asks.checked_if mapping.scale_of mapping.map_coord
+    mapping.placed mapping.hairline mapping.mapped exact_at lost_at is_whole lost_in count.monthly count.yearly count.weekly
+    count.from_day count.to_day count.first_date count.date_on count.origin count.position count.size_of while
+    mondays.mondays_from mondays.every_after mondays.least_from mondays.weeks_per_point mondays.mondays_on
+    mondays.week_key_points dates.dates_from dates.date_key_points months.start_of months.carried months.generate_key_points
+    months.last_year months.exp10_from months.try_freq months.freq_of months.generate_yearly_keypoints months.total_month
+    months.months_from months.month_key_points periods.exponent_from periods.determine_actual_ns_per_point periods.days_from
+    periods.period_from periods.compute_period_per_point times.plus times.period_on times.aligned_up times.date_times_by
+    times.date_time_key_points times.aligned times.duration_of times.durations_by times.duration_key_points key_points
+    monthly_light light_key_points key_points_for ticks.ticks_of ticks.ticks_answer ticks.ticks_written ticks.period_answer
+    index.is_indexed index.index_of index.month_at index.january index.week_at index.value_at index.index_at
+    index.index_under discrete.index_in discrete.next_in discrete.previous_in discrete.value_in discrete.size_answer
+    discrete.index_answer discrete.from_index_answer discrete.next_answer discrete.previous_answer discrete.values_answer
+    discrete.value_under discrete.unmap_answer segments.segment_on segments.segment_of segments.segment_mappable
+    segments.margin_of segments.inner segments.segment_worked segmented.segment_map_answer segmented.segment_size_answer
+    segmented.segment_index_in segmented.segment_index_answer segmented.segment_at segmented.segment_from_answer
+    segmented.segment_ticks_answer segmented.segment_ticks_written
 computed_out = ruled computed_rows refl
 
 -- ---- answers that are settled

@@ -6,7 +6,7 @@ use Rattle.values.specs.Values.{midnight}
 use Rattle.axis.specs.declared.Axis.{Axis}
 use Rattle.axis.specs.declared.Hint.{Hint}
 use Rattle.axis.specs.declared.Limits.{Limits}
-use Rattle.axis.specs.Axes.{start, last}
+use Rattle.axis.specs.Axes.{last}
 use Rattle.mapping.specs.Mapping.{mapped}
 use Rattle.mapping.specs.Days.{DayOf, MorePixels}
 use Rattle.steps.specs.Promise.{Fine}
@@ -29,11 +29,11 @@ pub record FineCount (n : ℕ) (start last : Value) (value : ℤ) (l : List ℤ)
 -- a call with the hint h that answered r and left l in the lent numbers, where it was not refused. The last value of an axis
 -- is its end, or the day before an excluded end
 abbrev pub FineList : Axis → Hint → OrderedNumber → List ℤ → Type 0
-FineList a h r l = r.status ≡ pos 0 → FineCount (limit h) (start a) (last a) r.value l
+FineList a h r l = r.status ≡ pos 0 → FineCount (limit h) a.start (last a) r.value l
 
 -- the part that is handed back, which is empty where the call was refused
 abbrev pub FinePart : Axis → Hint → List ℤ → Type 0
-FinePart a h part = Fine (limit h) (start a) (last a) part
+FinePart a h part = Fine (limit h) a.start (last a) part
 
 -- mappings that answered x for the day i and y for the day j: where none was refused, the days are different days of a date
 -- axis, and there are more pixels than days, the pixels differ

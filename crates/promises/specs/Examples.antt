@@ -1,6 +1,8 @@
 -- The settled examples of document 01: what the definitions answer, as the numbers that C gets, beside what is settled.
 -- Definitions only.
-use Rattle.std.specs.Prelude.{◌≡◌, List, [], ◌∷◌, ◌++◌, ℕ, ℤ, pos, length, drop}
+use Rattle.std.specs.Prelude.{◌≡◌, false, List, [], ◌∷◌, ◌++◌, ℕ, ℤ, pos, length, drop}
+use Rattle.values.specs.declared.Kind.{Kind}
+use Rattle.values.specs.declared.Kind.TheVariants as kind
 use Rattle.values.specs.declared.Value.{Value}
 use Rattle.axis.specs.declared.Axis.{Axis}
 use Rattle.axis.specs.declared.Limits.{Limits}
@@ -8,7 +10,6 @@ use Rattle.calendar.specs.declared.Ymd.{Ymd}
 use Rattle.calendar.specs.Questions.{number_of}
 use Rattle.axis.specs.declared.Hint.{Hint}
 use Rattle.axis.specs.declared.Hint.TheVariants.{Bold, Light}
-use Rattle.axis.specs.Axes.{axis_of}
 use Rattle.laws.specs.Numbers.{minus}
 use Rattle.values.specs.Values.{midnight}
 use Rattle.ticks.specs.Answers.{ticks_answer, ticks_written, period_answer}
@@ -50,8 +51,8 @@ abbrev pub at_nano : Value → ℕ → Value
 at_nano v t = record { head = v.head; tail = pos t }
 
 -- an axis of a kind between two values, which belong to it
-abbrev pub axis_from : ℤ → Value → Value → Axis
-axis_from kind s e = axis_of kind s.head s.tail e.head e.tail (pos 0)
+abbrev pub axis_from : Kind → Value → Value → Axis
+axis_from k s e = record { kind = k; start = s; end = e; end_excluded = false }
 
 -- a bold hint
 abbrev pub bold_of : ℕ → Hint
@@ -98,7 +99,7 @@ leap_year = record { answer = count_numbers (number_reply (number_of (ymd 2000 2
 abbrev pub six_days : Example
 six_days =
     record {
-      answer = listed_into (axis_from (pos 1) (midnight (pos 737850)) (midnight (pos 737856))) (bold_of 0) sevens;
+      answer = listed_into (axis_from kind.Date (midnight (pos 737850)) (midnight (pos 737856))) (bold_of 0) sevens;
       settled = pos 0 ∷ (pos 1 ∷ (pos 737850 ∷ (pos 0 ∷ drop 2 sevens)));
     }
 
@@ -106,13 +107,13 @@ six_days =
 abbrev pub two_weeks : Example
 two_weeks =
     record {
-      answer = listed_into (axis_from (pos 1) (midnight (pos 737850)) (midnight (pos 737864))) (bold_of 1) sevens;
+      answer = listed_into (axis_from kind.Date (midnight (pos 737850)) (midnight (pos 737864))) (bold_of 1) sevens;
       settled = pos 0 ∷ (pos 2 ∷ (pos 737850 ∷ (pos 0 ∷ (pos 737864 ∷ (pos 0 ∷ drop 4 sevens)))));
     }
 
 -- kind 4, from the first midnight to a nanosecond of the twelfth day
 abbrev pub span_from : ℕ → Axis
-span_from t = axis_from (pos 4) (midnight (pos 1)) (at_nano (midnight (pos 12)) t)
+span_from t = axis_from kind.Stamp (midnight (pos 1)) (at_nano (midnight (pos 12)) t)
 
 -- span 10^15 - 1 ns, N 100, kind 4: period 5 h
 abbrev pub below_the_power : Example
@@ -136,7 +137,7 @@ at_the_power =
 abbrev pub negative_start : Example
 negative_start =
     record {
-      answer = listed_into (axis_from (pos 7) (record { head = minus 1; tail = pos 999999999 }) (record {
+      answer = listed_into (axis_from kind.Span (record { head = minus 1; tail = pos 999999999 }) (record {
         head = pos 0;
         tail =
             pos 4;
@@ -148,7 +149,7 @@ negative_start =
 abbrev pub high_limit : Example
 high_limit =
     record {
-      answer = value_numbers (value_reply (unmap_answer (axis_from (pos 1) (midnight (pos 737850)) (midnight (pos 737859)))
+      answer = value_numbers (value_reply (unmap_answer (axis_from kind.Date (midnight (pos 737850)) (midnight (pos 737859)))
           (limits_of (pos 0) (pos 100)) (pos 100)));
       settled = pos 0 ∷ (pos 737860 ∷ (pos 0 ∷ []));
     }
@@ -157,14 +158,16 @@ high_limit =
 abbrev pub earlier_year : Example
 earlier_year =
     record {
-      answer = count_numbers (index_reply (index_answer (axis_from (pos 2) (midnight (pos 737425)) (midnight (pos 737790)))
+      answer = count_numbers (index_reply (index_answer (axis_from kind.Month (midnight (pos 737425)) (midnight (pos 737790)))
           (midnight (pos 737424))));
       settled = pos 0 ∷ (pos 11 ∷ []);
     }
 
 -- kind 5, 2021-12-31 10:00 to 12:00: size 12, no bold ticks
 abbrev pub new_year : Axis
-new_year = axis_from (pos 5) (at_nano (midnight (pos 738155)) 36000000000000) (at_nano (midnight (pos 738155)) 43200000000000)
+new_year =
+    let day = midnight (pos 738155) in
+    axis_from kind.StampMonth (at_nano day 36000000000000) (at_nano day 43200000000000)
 
 -- its size is 12, and it has no bold ticks
 abbrev pub no_whole_month : Example
@@ -178,8 +181,8 @@ no_whole_month =
 abbrev pub first_centre : Example
 first_centre =
     record {
-      answer = pixel_numbers (pixel_reply (segment_map_answer (axis_from (pos 1) (midnight (pos 737850)) (midnight (pos 737852)))
-          (limits_of (pos 0) (pos 100))
+      answer = pixel_numbers (pixel_reply (segment_map_answer
+          (axis_from kind.Date (midnight (pos 737850)) (midnight (pos 737852))) (limits_of (pos 0) (pos 100))
           (centre_at (midnight (pos 737850)))));
       settled = pos 0 ∷ (pos 16 ∷ []);
     }

@@ -1,15 +1,17 @@
 -- An end that is not in the span: what each operation answers of an excluded end, as an equation with the axis that ends a day
--- earlier, or with the end as written. Over raw numbers, refused calls too. Definitions only.
+-- earlier, or with the end as written. Of every axis, refused calls too. Definitions only.
 use Rattle.std.specs.Prelude.{◌≡◌, true, false, cond, ◌&&◌, Option, Some, None, Ok, List, [], ◌∷◌, ◌++◌, length, take}
 use Rattle.std.specs.Prelude.{ℕ, ◌*◌, ◌≤◌, ◌<◌, ℤ, pos, nat_abs, ◌-ℤ◌}
-use Rattle.asking.specs.Asking.{asked, passes}
+use Rattle.asking.specs.Asking.{asked, and_then, passes}
 use Rattle.calendar.specs.Questions.{is_day}
+use Rattle.values.specs.declared.Kind.{Kind}
+use Rattle.values.specs.declared.Kind.TheVariants as kind
 use Rattle.values.specs.declared.Value.{Value}
 use Rattle.values.specs.Values.{midnight}
 use Rattle.axis.specs.declared.Axis.{Axis}
 use Rattle.axis.specs.declared.Hint.{Hint}
 use Rattle.axis.specs.declared.Limits.{Limits}
-use Rattle.axis.specs.Axes.{axis_of, end, excluded}
+use Rattle.axis.specs.Axes.{axis_of, day_earlier}
 use Rattle.axis.specs.Questions.{has_index, has_unmap, plain_questions, axis_questions}
 use Rattle.mapping.specs.declared.Hairline.{Hairline}
 use Rattle.mapping.specs.Mapping.{hairline, mapped}
@@ -29,6 +31,17 @@ use Rattle.segmented.specs.Answers.{segment_map_answer, segment_size_answer, seg
 use Rattle.segmented.specs.Answers.{segment_from_answer, segment_ticks_answer, segment_ticks_written}
 use Rattle.ordered.specs.Replies.{number_reply, pixel_reply}
 use Rattle.promises.specs.Examples.{Example, count_numbers, pixel_numbers, bold_of, limits_of, listed_into, sevens}
+
+-- ---- beside an axis whose end is excluded stand the one that ends a day earlier, and the one whose written end belongs to it
+abbrev pub to_written : Axis → Axis
+to_written a = record a { end_excluded = false }
+
+-- the numbers of both: an end a day less, or as it is, and 0 as the last number; question 1 refuses all three alike
+abbrev pub InNumbers : Type 0
+InNumbers =
+    (k sh st eh et x : ℤ) → let a = axis_of k sh st eh et x in
+    (axis_of k sh st (eh -ℤ pos 1) et (pos 0) ≡ and_then a (λ b. Ok (day_earlier b)))
+    × (axis_of k sh st eh et (pos 0) ≡ and_then a (λ b. Ok (to_written b)))
 
 -- ---- "ticks, size and indices are those of the axis ending a day earlier and unmapping goes by that size"
 -- each operation asks the questions of the axis first, and then answers what it answers of the other
@@ -58,18 +71,14 @@ pub record AsOf (a b : Axis) : Type 0 where
   pub ruled_written_law : (t : List ℕ) (d : List ℤ) →
       ruled_written t a d ≡ cond (passes (ruled_questions t a)) (ruled_written t b d) d
 
--- of any six numbers that exclude the end
+-- of any axis whose end is excluded
 abbrev pub AsDayEarlier : Type 0
-AsDayEarlier =
-    (k sh st eh et x : ℤ) → excluded (axis_of k sh st eh et x) ≡ true
-    → AsOf (axis_of k sh st eh et x) (axis_of k sh st (eh -ℤ pos 1) et (pos 0))
+AsDayEarlier = (a : Axis) → a.end_excluded ≡ true → AsOf a (day_earlier a)
 
 -- ---- "while mapped pixels are still measured to the written end"
 abbrev pub ToWrittenEnd : Type 0
 ToWrittenEnd =
-    (k sh st eh et x : ℤ) (l : Limits) (v : Value)
-    → mapped (axis_of k sh st eh et x) l v
-    ≡ asked (axis_questions true (axis_of k sh st eh et x)) (mapped (axis_of k sh st eh et (pos 0)) l v)
+    (a : Axis) (l : Limits) (v : Value) → mapped a l v ≡ asked (axis_questions true a) (mapped (to_written a) l v)
 
 -- ---- "segments' pixels mix both": margin and follower of the axis b that ends a day earlier, pixels of the axis w with its end
 -- the centre of a segment that begins at a hairline, by the next value
@@ -85,42 +94,45 @@ mixed b w l (CenterOf v) =
     let inside = inner (size_of b) l in midway w inside (margin_of (size_of b) l) (hairline w inside v) (next_in b v)
 mixed b w l Last = worked (record { pixel = l.high; exact = true; lost = false }) true
 
--- of any six numbers that exclude the end
+-- of any axis whose end is excluded
 abbrev pub SegmentsMix : Type 0
 SegmentsMix =
-    (k sh st eh et x : ℤ) (l : Limits) (v : SegmentValue) → excluded (axis_of k sh st eh et x) ≡ true
-    → segment_worked (axis_of k sh st eh et x) l v
-    ≡ mixed (axis_of k sh st (eh -ℤ pos 1) et (pos 0)) (axis_of k sh st eh et (pos 0)) l v
+    (a : Axis) (l : Limits) (v : SegmentValue) → a.end_excluded ≡ true
+    → segment_worked a l v ≡ mixed (day_earlier a) (to_written a) l v
 
 -- ---- demand 3: no tick on or after an excluded end
 abbrev pub NoneFromEnd : Type 0
 NoneFromEnd =
-    (a : Axis) (h : Hint) (d : List ℤ) (c i : ℕ) → excluded a ≡ true → ticks_answer a h (length d) ≡ Ok c
+    (a : Axis) (h : Hint) (d : List ℤ) (c i : ℕ) → a.end_excluded ≡ true → ticks_answer a h (length d) ≡ Ok c
     → let l = take (2 * c) (ticks_written a h d) in
-    2 * i < length l → Later (nth l i) (end a)
+    2 * i < length l → Later (nth l i) a.end
 
 -- ---- "the bound still counts the days between the written ends": it is strict. With as many pixels as these, days before the
 -- end can share one; the claim is false, and 2,615 days are the fewest that show it
 abbrev pub AsManyPixels : Type 0
 AsManyPixels =
-    (a : Axis) (l : Limits) (i j : ℤ) (p q : Hairline) → excluded a ≡ true
-    → nat_abs (a.end_head -ℤ a.start_head) ≤ nat_abs (l.high -ℤ l.low) → DayOf a i → DayOf a j
+    (a : Axis) (l : Limits) (i j : ℤ) (p q : Hairline) → a.end_excluded ≡ true
+    → nat_abs (a.end.head -ℤ a.start.head) ≤ nat_abs (l.high -ℤ l.low) → DayOf a i → DayOf a j
     → mapped a l (midnight i) ≡ Ok p → mapped a l (midnight j) ≡ Ok q → p.pixel ≡ q.pixel → i ≡ j
 
 -- ---- rows
 -- an axis of dates to a day that is not in it
-abbrev pub before : ℕ → ℕ → ℕ → Axis
-before kind s e = axis_of (pos kind) (pos s) (pos 0) (pos e) (pos 0) (pos 1)
+abbrev pub before : Kind → ℕ → ℕ → Axis
+before k s e = record { kind = k; start = midnight (pos s); end = midnight (pos e); end_excluded = true }
 
 -- kind 2 from 0001-01-01 to 0001-04-01, which is day 91: 3 months
 abbrev pub three_months : Example
-three_months = record { answer = count_numbers (number_reply (size_answer (before 2 1 91))); settled = pos 0 ∷ (pos 3 ∷ []) }
+three_months =
+    record {
+      answer = count_numbers (number_reply (size_answer (before kind.Month 1 91)));
+      settled = pos 0 ∷ (pos 3 ∷ []);
+    }
 
 -- their ticks for N 12: the firsts of January, February and March
 abbrev pub three_ticks : Example
 three_ticks =
     record {
-      answer = listed_into (before 2 1 91) (bold_of 12) sevens;
+      answer = listed_into (before kind.Month 1 91) (bold_of 12) sevens;
       settled = pos 0 ∷ (pos 3 ∷ (pos 1 ∷ (pos 0 ∷ (pos 32 ∷ (pos 0 ∷ (pos 60 ∷ (pos 0 ∷ [])))))));
     }
 
@@ -128,14 +140,14 @@ three_ticks =
 abbrev pub at_high : Example
 at_high =
     record {
-      answer = pixel_numbers (pixel_reply (mapped (before 2 1 91) (limits_of (pos 0) (pos 100)) (midnight (pos 91))));
+      answer = pixel_numbers (pixel_reply (mapped (before kind.Month 1 91) (limits_of (pos 0) (pos 100)) (midnight (pos 91))));
       settled = pos 0 ∷ (pos 100 ∷ []);
     }
 
 -- a segment of days 1 to 3, "to day 4", between 0 and 90
 abbrev pub segment_pixel : ℕ → ℕ → List ℤ
 segment_pixel case day =
-    pixel_numbers (pixel_reply (segment_map_answer (before 1 1 4) (limits_of (pos 0) (pos 90))
+    pixel_numbers (pixel_reply (segment_map_answer (before kind.Date 1 4) (limits_of (pos 0) (pos 90))
     (record { case = pos case; head = pos day; tail = pos 0 })))
 
 -- the lefts at 0, 20 and 40, and the last at 90
@@ -151,13 +163,18 @@ abbrev pub refused_ends : Example
 refused_ends =
     record {
       answer =
-          count_numbers (number_reply (size_answer (before 1 5 5))) ++ count_numbers (number_reply (size_answer (before 5 5 6)));
+          count_numbers (number_reply (size_answer (before kind.Date 5 5)))
+          ++ count_numbers (number_reply (size_answer (before kind.StampMonth 5 6)));
       settled = pos 14 ∷ (pos 0 ∷ (pos 14 ∷ (pos 0 ∷ [])));
     }
 
 -- 4 before 14
 abbrev pub four_first : Example
-four_first = record { answer = count_numbers (number_reply (size_answer (before 5 6 5))); settled = pos 4 ∷ (pos 0 ∷ []) }
+four_first =
+    record {
+      answer = count_numbers (number_reply (size_answer (before kind.StampMonth 6 5)));
+      settled = pos 4 ∷ (pos 0 ∷ []);
+    }
 
 -- all of them
 abbrev pub excluded_table : List Example

@@ -2,12 +2,13 @@
 -- is defined in mapping/specs/Drawn.antt. Definitions only.
 use Rattle.std.specs.Prelude.{◌≡◌, ◌⊎◌, true, false, List, [], ◌∷◌, ℕ, ℤ, pos, Ok}
 use Rattle.laws.specs.Numbers.{minus}
+use Rattle.values.specs.declared.Kind.TheVariants as kind
 use Rattle.values.specs.declared.Value.{Value}
 use Rattle.values.specs.Values.{over_dates, earlier, midnight}
 use Rattle.values.specs.Differences.{whole_days}
 use Rattle.axis.specs.declared.Axis.{Axis}
 use Rattle.axis.specs.declared.Limits.{Limits}
-use Rattle.axis.specs.Axes.{start, end, span_of}
+use Rattle.axis.specs.Axes.{span_of}
 use Rattle.axis.specs.Questions.{equals}
 use Rattle.mapping.specs.declared.Hairline.{Hairline}
 use Rattle.mapping.specs.Hairlines.{in_nanoseconds, divides_nothing}
@@ -42,7 +43,7 @@ pub record DrawnAs (a : Axis) (l : Limits) (v : Value) (r : OrderedPixel) : Type
   pub exact_dates : over_dates a.kind ≡ true → r.exact ≡ pos 1 → OnPosition a l v r.pixel
   pub dates_exact : over_dates a.kind ≡ true → OnPosition a l v r.pixel → r.exact ≡ pos 1
   -- where start equals end it is 1
-  pub one_value : equals (end a) (start a) ≡ true → r.exact ≡ pos 1
+  pub one_value : equals a.end a.start ≡ true → r.exact ≡ pos 1
   -- `lost` is 0 in whole days, where nothing is divided, and on kinds 1, 2, 3 and 8
   pub kept_days : in_nanoseconds a v ≡ false → r.lost ≡ pos 0
   pub kept_dates : over_dates a.kind ≡ true → r.lost ≡ pos 0
@@ -56,13 +57,13 @@ pub record DrawnOf (a : Axis) (l : Limits) (v : Value) (r : OrderedPixel) : Type
 -- on the high limit
 pub record EndsDrawn (a : Axis) (l : Limits) (x y : OrderedPixel) : Type 0 where
   pub start_exact : x.status ≡ pos 0 → x.exact ≡ pos 1
-  pub exact_high : earlier (start a) (end a) ≡ true → y.status ≡ pos 0 → y.exact ≡ pos 1 → y.pixel ≡ l.high
-  pub high_exact : earlier (start a) (end a) ≡ true → y.status ≡ pos 0 → y.pixel ≡ l.high → y.exact ≡ pos 1
+  pub exact_high : earlier a.start a.end ≡ true → y.status ≡ pos 0 → y.exact ≡ pos 1 → y.pixel ≡ l.high
+  pub high_exact : earlier a.start a.end ≡ true → y.status ≡ pos 0 → y.pixel ≡ l.high → y.exact ≡ pos 1
 
 -- of any axis, limits, value and segment; on kinds 1, 2, 3 and 8 segments lose nothing
 pub record Drawn (a : Axis) (l : Limits) (v : Value) (s : Segment) : Type 0 where
   pub of_value : DrawnOf a l v (pixel_reply (mapped a l v))
-  pub of_ends : EndsDrawn a l (pixel_reply (mapped a l (start a))) (pixel_reply (mapped a l (end a)))
+  pub of_ends : EndsDrawn a l (pixel_reply (mapped a l a.start)) (pixel_reply (mapped a l a.end))
   pub of_segment : Flags (pixel_reply (segment_map_answer a l s))
   pub kept_segment : over_dates a.kind ≡ true → (pixel_reply (segment_map_answer a l s)).lost ≡ pos 0
 
@@ -78,7 +79,7 @@ pub record NotExpected : Type 0 where
       ((a : Axis) (l : Limits) (v : Value) (h : Hairline) → mapped a l v ≡ Ok h → h.lost ≡ true → h.exact ≡ false) → ⊥
   -- "where start equals end, everything is exact": a centre is halved
   pub centre_exact :
-      ((a : Axis) (l : Limits) (s : Segment) (h : Hairline) → equals (end a) (start a) ≡ true
+      ((a : Axis) (l : Limits) (s : Segment) (h : Hairline) → equals a.end a.start ≡ true
       → segment_map_answer a l s ≡ Ok h → h.exact ≡ true)
       → ⊥
 
@@ -100,7 +101,7 @@ four_of pixel exact lost = pos 0 ∷ (pixel ∷ (exact ∷ (lost ∷ [])))
 abbrev pub least_offset : Example
 least_offset =
     record {
-      answer = drawn_at (axis_from (pos 4) (midnight (pos 1500000)) (at_nano (midnight (pos 1553375)) 86018427387904)) (pos 0)
+      answer = drawn_at (axis_from kind.Stamp (midnight (pos 1500000)) (at_nano (midnight (pos 1553375)) 86018427387904)) (pos 0)
           (pos 1) (at_nano (midnight (pos 1393248)) 763145224192);
       settled = four_of (minus 2) (pos 1) (pos 0);
     }
@@ -109,13 +110,13 @@ least_offset =
 abbrev pub one_short : Example
 one_short =
     record {
-      answer = drawn_at (axis_from (pos 1) (midnight (pos 1)) (midnight (pos 1808))) (pos 0) (pos 3781) (midnight (pos 1808));
+      answer = drawn_at (axis_from kind.Date (midnight (pos 1)) (midnight (pos 1808))) (pos 0) (pos 3781) (midnight (pos 1808));
       settled = four_of (pos 3780) (pos 0) (pos 0);
     }
 
 -- day 10 to day 10 between 0 and 7: day 10 is exact, its centre is halved, the last is exact
 abbrev pub one_day : Axis
-one_day = axis_from (pos 1) (midnight (pos 10)) (midnight (pos 10))
+one_day = axis_from kind.Date (midnight (pos 10)) (midnight (pos 10))
 
 -- the day
 abbrev pub one_day_law : Example
@@ -135,7 +136,7 @@ last_exact =
 abbrev pub zero_days : Example
 zero_days =
     record {
-      answer = drawn_at (axis_from (pos 4) (midnight (pos 1)) (at_nano (midnight (pos 1)) 1)) (pos 0) (pos 0)
+      answer = drawn_at (axis_from kind.Stamp (midnight (pos 1)) (at_nano (midnight (pos 1)) 1)) (pos 0) (pos 0)
           (midnight (pos 106753));
       settled = four_of (pos 0) (pos 0) (pos 0);
     }
@@ -143,7 +144,7 @@ zero_days =
 -- one day, and an offset of 2^53 + 1 ns, between 0 and 1 and between 0 and 0
 abbrev pub lost_between : ℕ → List ℤ
 lost_between high =
-    drawn_at (axis_from (pos 4) (midnight (pos 1)) (midnight (pos 2))) (pos 0) (pos high)
+    drawn_at (axis_from kind.Stamp (midnight (pos 1)) (midnight (pos 2))) (pos 0) (pos high)
     (at_nano (midnight (pos 105)) 21599254740993)
 
 -- between 0 and 1
@@ -158,7 +159,7 @@ lost_exact = record { answer = lost_between 0; settled = four_of (pos 0) (pos 1)
 abbrev pub beyond_high : Example
 beyond_high =
     record {
-      answer = drawn_at (axis_from (pos 7) (midnight (pos 0)) (midnight (pos 1))) (pos 0) (pos 7) (midnight (pos 9223372037));
+      answer = drawn_at (axis_from kind.Span (midnight (pos 0)) (midnight (pos 1))) (pos 0) (pos 7) (midnight (pos 9223372037));
       settled = four_of (pos 7) (pos 0) (pos 0);
     }
 
@@ -166,7 +167,7 @@ beyond_high =
 abbrev pub high_below_low : Example
 high_below_low =
     record {
-      answer = drawn_at (axis_from (pos 7) (midnight (pos 0)) (midnight (pos 1))) (pos 1) (pos 0) (midnight (pos 1));
+      answer = drawn_at (axis_from kind.Span (midnight (pos 0)) (midnight (pos 1))) (pos 1) (pos 0) (midnight (pos 1));
       settled = four_of (pos 1) (pos 0) (pos 0);
     }
 

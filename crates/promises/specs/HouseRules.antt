@@ -4,7 +4,7 @@
 use Rattle.std.specs.Prelude.{◌≡◌, List, ◌↔◌, ℕ, ◌-◌, ◌*◌, ◌≤◌, ◌<◌, ℤ, pos, length, take, Some, None}
 use Rattle.laws.specs.Numbers.{pos_part}
 use Rattle.axis.specs.declared.Axis.{Axis}
-use Rattle.axis.specs.Axes.{start, last}
+use Rattle.axis.specs.Axes.{last}
 use Rattle.rules.specs.declared.Row.{Row}
 use Rattle.rules.specs.Rows.{row_at}
 use Rattle.rules.specs.Cover.{rows_for}
@@ -30,7 +30,7 @@ pub record TableClaim (table : List ℕ) (r : OrderedNumber) : Type 0 where
 -- ---- a ruled list
 -- the first day of an axis over dates, and the last that belongs to it
 abbrev pub first_day : Axis → ℕ
-first_day a = pos_part (start a).head
+first_day a = pos_part a.start.head
 
 -- the day before an excluded end
 abbrev pub last_day : Axis → ℕ

@@ -1,11 +1,12 @@
 -- How far a pixel may be off, of what `ordered_map` answers; and the narrower claims that one could make, each of them false.
 -- Positions and what a pixel may be beside them are defined in mapping/specs/Position.antt. Definitions only.
 use Rattle.std.specs.Prelude.{◌≡◌, ◌⊎◌, Bool, true, suc, ◌≤◌, ℤ, pos, negsuc, nat_abs, ◌+ℤ◌, ◌-ℤ◌, ◌*ℤ◌, Ok}
+use Rattle.values.specs.declared.Kind.{Kind}
 use Rattle.values.specs.declared.Value.{Value}
 use Rattle.values.specs.Values.{over_dates, over_date_times, earlier}
 use Rattle.axis.specs.declared.Axis.{Axis}
 use Rattle.axis.specs.declared.Limits.{Limits}
-use Rattle.axis.specs.Axes.{start, end, span_of, offset_of}
+use Rattle.axis.specs.Axes.{span_of, offset_of}
 use Rattle.mapping.specs.declared.Hairline.{Hairline}
 use Rattle.mapping.specs.Hairlines.{hairline_at}
 use Rattle.mapping.specs.Mapping.{mapped, answered_at}
@@ -20,20 +21,20 @@ OffOf a l v r = r.status ≡ pos 0 → HowFarOff a l v r.pixel
 -- mappings of the start, which answered x, and of the end, which answered y: "the end of an axis lands on the high limit or one
 -- short of it, and the start on the low limit exactly". Only the questions of the axis and the limits can refuse them
 pub record AtEnds (a : Axis) (l : Limits) (x y : OrderedPixel) : Type 0 where
-  pub at_start : x ≡ pixel_reply (answered_at a l (hairline_at a l (start a) l.low))
+  pub at_start : x ≡ pixel_reply (answered_at a l (hairline_at a l a.start l.low))
   pub at_end :
-      earlier (start a) (end a) ≡ true
-      → (y ≡ pixel_reply (answered_at a l (hairline_at a l (end a) l.high)))
-      ⊎ (y ≡ pixel_reply (answered_at a l (hairline_at a l (end a) (l.low +ℤ one_nearer (width l)))))
+      earlier a.start a.end ≡ true
+      → (y ≡ pixel_reply (answered_at a l (hairline_at a l a.end l.high)))
+      ⊎ (y ≡ pixel_reply (answered_at a l (hairline_at a l a.end (l.low +ℤ one_nearer (width l)))))
 
 -- of any axis, limits and value
 pub record Off (a : Axis) (l : Limits) (v : Value) : Type 0 where
   pub of_value : OffOf a l v (pixel_reply (mapped a l v))
-  pub of_ends : AtEnds a l (pixel_reply (mapped a l (start a))) (pixel_reply (mapped a l (end a)))
+  pub of_ends : AtEnds a l (pixel_reply (mapped a l a.start)) (pixel_reply (mapped a l a.end))
 
 -- ---- narrower claims
 -- something claimed of the pixel of every value of a span, on some kinds
-abbrev pub Claimed : (ℤ → Bool) → (Axis → Limits → Value → ℤ → Type 0) → Type 0
+abbrev pub Claimed : (Kind → Bool) → (Axis → Limits → Value → ℤ → Type 0) → Type 0
 Claimed kinds claim =
     (a : Axis) (l : Limits) (v : Value) (h : Hairline)
     → kinds a.kind ≡ true → Inside a v → mapped a l v ≡ Ok h → claim a l v h.pixel

@@ -6,7 +6,7 @@ use Rattle.values.specs.Values.{is_duration}
 use Rattle.axis.specs.declared.Axis.{Axis}
 use Rattle.axis.specs.declared.Hint.{Hint}
 use Rattle.axis.specs.declared.Limits.{Limits}
-use Rattle.axis.specs.Axes.{start, span_of}
+use Rattle.axis.specs.Axes.{span_of}
 use Rattle.mapping.specs.declared.Hairline.{Hairline}
 use Rattle.mapping.specs.Mapping.{mapped}
 use Rattle.mapping.specs.Position.{cut_position}
@@ -24,7 +24,7 @@ UnmapInverts =
 abbrev pub NeverBefore : Type 0
 NeverBefore =
     (a : Axis) (h : Hint) (d : List ℤ) (c i : ℕ) → ticks_answer a h (length d) ≡ Ok c → i < c
-    → Later (nth (ticks_written a h d) i) (start a) → ⊥
+    → Later (nth (ticks_written a h d) i) a.start → ⊥
 
 -- the low limit, and the exact position, cut toward zero
 abbrev pub exact_pixel : Axis → Limits → Value → ℤ

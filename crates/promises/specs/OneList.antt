@@ -1,15 +1,17 @@
 -- One list, not two: where a date-time axis lists dates, the calls answer and leave what they answer and leave of the axis of
 -- these dates. Definitions only.
-use Rattle.std.specs.Prelude.{◌≡◌, true, List, ℕ, ◌*◌, ◌^◌, ◌≤◌, ℤ, pos, None, Ok}
+use Rattle.std.specs.Prelude.{◌≡◌, Bool, true, false, List, ℕ, ◌*◌, ◌^◌, ◌≤◌, ℤ, pos, None, Ok}
 use Rattle.asking.specs.Asking.{passes}
 use Rattle.laws.specs.Numbers.{minus, pos_part}
 use Rattle.calendar.specs.DateTimes.{date_floor, date_ceil}
+use Rattle.values.specs.declared.Kind.{Kind}
+use Rattle.values.specs.declared.Kind.TheVariants as kind
 use Rattle.values.specs.Values.{midnight}
 use Rattle.axis.specs.declared.Axis.{Axis}
 use Rattle.axis.specs.declared.BoldPoints.{BoldPoints}
 use Rattle.axis.specs.declared.Hint.{Hint}
 use Rattle.axis.specs.declared.Hint.TheVariants.{Bold, Light}
-use Rattle.axis.specs.Axes.{axis_of, start, end, span_of}
+use Rattle.axis.specs.Axes.{span_of}
 use Rattle.axis.specs.Questions.{has_index}
 use Rattle.counting.specs.Counting.{date_time}
 use Rattle.keypoints.specs.AsDates.{date_times, ListsTimes, bold_points}
@@ -24,17 +26,17 @@ pub record ListsDates (a : Axis) (h : Hint) : Type 0 where
   pub as_times : ListsTimes a h
   pub no_period : period_answer (date_times a) (bold_points h) ≡ Ok None
 
--- kind 1 between two days; the last is excluded where x is not 0
-abbrev pub days : ℤ → ℤ → ℤ → Axis
-days from to x = axis_of (pos 1) from (pos 0) to (pos 0) x
+-- kind 1 between two days; is the last excluded?
+abbrev pub days : ℤ → ℤ → Bool → Axis
+days from to x = record { kind = kind.Date; start = midnight from; end = midnight to; end_excluded = x }
 
 -- date_ceil of the start
 abbrev pub ceil_of_start : Axis → ℤ
-ceil_of_start a = pos (date_ceil (date_time (start a)))
+ceil_of_start a = pos (date_ceil (date_time a.start))
 
 -- date_floor of the end
 abbrev pub floor_of_end : Axis → ℤ
-floor_of_end a = pos (date_floor (date_time (end a)))
+floor_of_end a = pos (date_floor (date_time a.end))
 
 -- a bold hint of N
 abbrev pub by_n : Hint → Hint
@@ -56,11 +58,10 @@ pub record Alike (a : Axis) (h : Hint) (b : Axis) (g : Hint) : Type 0 where
   pub segment_written : has_index a ≡ true → (d : List ℤ) → segment_ticks_written a h d ≡ segment_ticks_written b g d
 
 -- "the list, its count and each lent number are those of kind 1 with bold hint N, from date_ceil of start to date_floor of end,
--- both included": of any six numbers and any hint
+-- both included": of any axis and any hint
 abbrev pub OneList : Type 0
 OneList =
-    (k sh st eh et x : ℤ) (h : Hint) → let a = axis_of k sh st eh et x in
-    ListsDates a h → Alike a h (days (ceil_of_start a) (floor_of_end a) (pos 0)) (by_n h)
+    (a : Axis) (h : Hint) → ListsDates a h → Alike a h (days (ceil_of_start a) (floor_of_end a) false) (by_n h)
 
 -- the same of three calls: of the period on kind 4, of the list, and of the list of the days from `from` to `to`. r is what they
 -- answered; d and e were lent to the two lists, l and m are what they left
@@ -72,7 +73,7 @@ SameLists a h from to d e r l m =
 -- ---- where that is, in numbers: on kind 4 the period is none just from 10^14 ns for each of the N on
 abbrev pub NoneFrom : Type 0
 NoneFrom =
-    (sh st eh et x : ℤ) (h : BoldPoints) → let a = axis_of (pos 4) sh st eh et x in
+    (a : Axis) (h : BoldPoints) → a.kind ≡ kind.Stamp →
     let none = period_answer a h ≡ Ok None in
     let long = 10 ^ 14 * pos_part h.n ≤ pos_part (span_of a) in
     passes (period_questions a h) ≡ true → (none → long) × (long → none)
@@ -83,18 +84,18 @@ Writes dates hint = (a : Axis) (h : Hint) (d : List ℤ) → ListsDates a h → 
 
 -- from date_floor of the start, to date_ceil of the end, without the end, for the bold count
 pub record NoOtherList : Type 0 where
-  pub from_floor : Writes (λ a. days (pos (date_floor (date_time (start a)))) (floor_of_end a) (pos 0)) by_n → ⊥
-  pub to_ceil : Writes (λ a. days (ceil_of_start a) (pos (date_ceil (date_time (end a)))) (pos 0)) by_n → ⊥
-  pub end_left_out : Writes (λ a. days (ceil_of_start a) (floor_of_end a) (pos 1)) by_n → ⊥
-  pub bold_count : Writes (λ a. days (ceil_of_start a) (floor_of_end a) (pos 0)) by_count → ⊥
+  pub from_floor : Writes (λ a. days (pos (date_floor (date_time a.start))) (floor_of_end a) false) by_n → ⊥
+  pub to_ceil : Writes (λ a. days (ceil_of_start a) (pos (date_ceil (date_time a.end))) false) by_n → ⊥
+  pub end_left_out : Writes (λ a. days (ceil_of_start a) (floor_of_end a) true) by_n → ⊥
+  pub bold_count : Writes (λ a. days (ceil_of_start a) (floor_of_end a) false) by_count → ⊥
 
 -- ---- dates are listed on each of the three kinds: from day 1 to day 3, N 1
-abbrev pub three_days : ℕ → Axis
-three_days kind = axis_from (pos kind) (midnight (pos 1)) (midnight (pos 3))
+abbrev pub three_days : Kind → Axis
+three_days k = axis_from k (midnight (pos 1)) (midnight (pos 3))
 
 -- with either hint on kind 4, and with a light one on kinds 5 and 6
 pub record OnEachKind : Type 0 where
-  pub bold : ListsDates (three_days 4) (bold_of 1)
-  pub light : ListsDates (three_days 4) (light_of 0 1)
-  pub months : ListsDates (three_days 5) (light_of 1 1)
-  pub years : ListsDates (three_days 6) (light_of 1 1)
+  pub bold : ListsDates (three_days kind.Stamp) (bold_of 1)
+  pub light : ListsDates (three_days kind.Stamp) (light_of 0 1)
+  pub months : ListsDates (three_days kind.StampMonth) (light_of 1 1)
+  pub years : ListsDates (three_days kind.StampYear) (light_of 1 1)

@@ -2,9 +2,10 @@
 -- Definitions only.
 use Rattle.std.specs.Prelude.{◌≡◌, true, false, List, ◌∷◌, ℕ, ◌+◌, ◌*◌, ◌^◌, ◌≤◌, ℤ, pos, length, drop, Some, Ok}
 use Rattle.laws.specs.Units.{per_hour}
+use Rattle.values.specs.declared.Kind.TheVariants as kind
 use Rattle.values.specs.Values.{midnight}
 use Rattle.axis.specs.declared.Axis.{Axis}
-use Rattle.axis.specs.Axes.{span_of, excluded}
+use Rattle.axis.specs.Axes.{span_of}
 use Rattle.axis.specs.Questions.{ends, in_order}
 use Rattle.ticks.specs.Answers.{period_answer}
 use Rattle.discrete.specs.Answers.{index_answer}
@@ -12,7 +13,7 @@ use Rattle.promises.specs.Examples.{axis_from, bold_of, listed_into, new_year}
 
 -- dates k days apart
 abbrev pub dates_apart : ℕ → ℕ → Axis
-dates_apart day k = axis_from (pos 1) (midnight (pos day)) (midnight (pos (day + k)))
+dates_apart day k = axis_from kind.Date (midnight (pos day)) (midnight (pos (day + k)))
 
 -- 'dates 6 days apart, N 0': start, from every day, and the lent numbers behind it as they were
 abbrev pub SixDays : Type 0
@@ -30,7 +31,7 @@ TwoWeeks =
 -- a span of kind 4 with N 100 has the period k, between any two date-times in order that are so far apart, the end included
 abbrev pub PeriodOf : ℕ → ℕ → Type 0
 PeriodOf span k =
-    (a : Axis) → a.kind ≡ pos 4 → ends a ≡ true → in_order a ≡ true → excluded a ≡ false → span_of a ≡ pos span
+    (a : Axis) → a.kind ≡ kind.Stamp → ends a ≡ true → in_order a ≡ true → a.end_excluded ≡ false → span_of a ≡ pos span
     → period_answer a (record { n = pos 100 }) ≡ Ok (Some k)
 
 -- 'span 10^15 − 1 ns, N 100, kind 4': 5 h
@@ -45,7 +46,7 @@ AtThePower = PeriodOf (10 ^ 15) (4 * per_hour)
 abbrev pub EarlierYear : Type 0
 EarlierYear =
     (last : ℕ) → 737425 ≤ last → last ≤ 3652059
-    → index_answer (axis_from (pos 2) (midnight (pos 737425)) (midnight (pos last))) (midnight (pos 737424)) ≡ Ok (Some 11)
+    → index_answer (axis_from kind.Month (midnight (pos 737425)) (midnight (pos last))) (midnight (pos 737424)) ≡ Ok (Some 11)
 
 -- 'kind 5, 2021-12-31 10:00 to 12:00': no bold ticks, for every N from 1 to 4,096
 abbrev pub NoWholeMonth : Type 0

@@ -1,11 +1,14 @@
 -- House rules: small tables as bytes, what the definitions answer of them, as the numbers that C gets, and what is settled.
 -- Definitions only.
 use Rattle.std.specs.Prelude.{List, [], ◌∷◌, ◌++◌, ℕ, ℤ, pos, length}
+use Rattle.values.specs.declared.Kind.{Kind}
+use Rattle.values.specs.declared.Kind.TheVariants as kind
 use Rattle.values.specs.Values.{midnight}
 use Rattle.axis.specs.declared.Axis.{Axis}
+use Rattle.axis.specs.Axes.{axis_of}
 use Rattle.rules.specs.Table.{rules_answer}
 use Rattle.ruled.specs.Answers.{ruled_answer, ruled_written}
-use Rattle.ordered.specs.Replies.{number_reply}
+use Rattle.ordered.specs.Replies.{number_reply, ruled_call}
 use Rattle.promises.specs.Examples.{Example, count_numbers, axis_from, sevens}
 use Rattle.promises.specs.ExcludedEnds.{before}
 
@@ -113,8 +116,8 @@ abbrev pub ruled_into : List ℕ → Axis → List ℤ
 ruled_into table a = ruled_count table a ++ ruled_written table a sevens
 
 -- an axis of a kind between two midnights
-abbrev pub between : ℕ → ℕ → ℕ → Axis
-between kind s e = axis_from (pos kind) (midnight (pos s)) (midnight (pos e))
+abbrev pub between : Kind → ℕ → ℕ → Axis
+between k s e = axis_from k (midnight (pos s)) (midnight (pos e))
 
 -- ---- rows of tables
 -- no bytes: 12
@@ -179,30 +182,38 @@ verdict_table =
 -- ---- rows of lists and counts
 -- kind 0 with no bytes: 12 before 1
 abbrev pub table_first : Example
-table_first = record { answer = ruled_count [] (between 0 1 5); settled = pos 12 ∷ (pos 0 ∷ []) }
+table_first =
+    record {
+      answer = count_numbers (number_reply (ruled_call [] (axis_of (pos 0) (pos 1) (pos 0) (pos 5) (pos 0) (pos 0)) 6));
+      settled = pos 12 ∷ (pos 0 ∷ []);
+    }
 
 -- kind 4 has no house rules: 2
 abbrev pub date_times : Example
-date_times = record { answer = ruled_count (names_line ++ all_second_days) (between 4 1 5); settled = pos 2 ∷ (pos 0 ∷ []) }
+date_times =
+    record {
+      answer = ruled_count (names_line ++ all_second_days) (between kind.Stamp 1 5);
+      settled = pos 2 ∷ (pos 0 ∷ []);
+    }
 
 -- every second day from day 1 to day 5: 1, 3 and 5, the end too
 abbrev pub second_days : Example
 second_days =
     record {
-      answer = ruled_into (names_line ++ all_second_days) (between 1 1 5);
+      answer = ruled_into (names_line ++ all_second_days) (between kind.Date 1 5);
       settled = pos 0 ∷ (pos 3 ∷ (pos 1 ∷ (pos 0 ∷ (pos 3 ∷ (pos 0 ∷ (pos 5 ∷ (pos 0 ∷ [])))))));
     }
 
 -- every second January 1 from 0001-01-02, day 2, to 0004-01-01, day 1096: of 0002, the first in the span, and of 0004
 abbrev pub second_januaries : Example
 second_januaries =
-    record { answer = ruled_count (names_line ++ all_second_years) (between 3 2 1096); settled = pos 0 ∷ (pos 2 ∷ []) }
+    record { answer = ruled_count (names_line ++ all_second_years) (between kind.Year 2 1096); settled = pos 0 ∷ (pos 2 ∷ []) }
 
 -- days 1 to 4, day 4 excluded: 2 days long, so the row is the daily one
 abbrev pub row_before_end : Example
 row_before_end =
     record {
-      answer = ruled_into (names_line ++ short_daily ++ long_second_days) (before 1 1 4);
+      answer = ruled_into (names_line ++ short_daily ++ long_second_days) (before kind.Date 1 4);
       settled = pos 0 ∷ (pos 3 ∷ (pos 1 ∷ (pos 0 ∷ (pos 2 ∷ (pos 0 ∷ (pos 3 ∷ (pos 0 ∷ [])))))));
     }
 

@@ -2,6 +2,7 @@
 -- hairlines and of house rules. An export's statement says that it answers what its definition does, so an answer that the
 -- definition does not give is ruled out. Definitions only.
 use Rattle.std.specs.Prelude.{◌≡◌, List, [], ◌∷◌, ◌++◌, ℕ, ℤ, pos, length}
+use Rattle.values.specs.declared.Kind.TheVariants as kind
 use Rattle.axis.specs.declared.Axis.{Axis}
 use Rattle.calendar.specs.Questions.{number_of, date_at}
 use Rattle.mapping.specs.Mapping.{mapped}
@@ -89,7 +90,7 @@ abbrev pub ordered_map : Row
 ordered_map =
     record {
       answer = pixel_numbers
-          (pixel_reply (mapped (axis_from (pos 1) (midnight (pos 1)) (midnight (pos 3))) (limits_of (pos 0) (pos 100))
+          (pixel_reply (mapped (axis_from kind.Date (midnight (pos 1)) (midnight (pos 3))) (limits_of (pos 0) (pos 100))
           (midnight (pos 2))));
       wrong = pos 0 ∷ (pos 49 ∷ []);
       other = pos 0 ∷ (pos 0 ∷ []);
@@ -99,7 +100,7 @@ ordered_map =
 abbrev pub ordered_ticks_bold : Row
 ordered_ticks_bold =
     record {
-      answer = listed_into (axis_from (pos 1) (midnight (pos 1)) (midnight (pos 15))) (bold_of 1) sevens;
+      answer = listed_into (axis_from kind.Date (midnight (pos 1)) (midnight (pos 15))) (bold_of 1) sevens;
       wrong = pos 0 ∷ (pos 1 ∷ (pos 1 ∷ (pos 0 ∷ (pos 7 ∷ (pos 7 ∷ (pos 7 ∷ (pos 7 ∷ [])))))));
       other = pos 0 ∷ (pos 2 ∷ sevens);
     }
@@ -108,7 +109,7 @@ ordered_ticks_bold =
 abbrev pub ordered_ticks_light : Row
 ordered_ticks_light =
     record {
-      answer = listed_into (axis_from (pos 2) (midnight (pos 1)) (midnight (pos 60))) (light_of 2 2) sevens;
+      answer = listed_into (axis_from kind.Month (midnight (pos 1)) (midnight (pos 60))) (light_of 2 2) sevens;
       wrong = pos 0 ∷ (pos 3 ∷ (pos 1 ∷ (pos 0 ∷ (pos 32 ∷ (pos 0 ∷ (pos 60 ∷ (pos 0 ∷ [])))))));
       other = pos 6 ∷ (pos 0 ∷ sevens);
     }
@@ -118,7 +119,7 @@ abbrev pub ordered_count_bold : Row
 ordered_count_bold =
     record {
       answer =
-          count_numbers (number_reply (ticks_answer (axis_from (pos 1) (midnight (pos 1)) (midnight (pos 15))) (bold_of 1) 2));
+          count_numbers (number_reply (ticks_answer (axis_from kind.Date (midnight (pos 1)) (midnight (pos 15))) (bold_of 1) 2));
       wrong = pos 0 ∷ (pos 2 ∷ []);
       other = pos 0 ∷ (pos 1 ∷ []);
     }
@@ -128,7 +129,8 @@ abbrev pub ordered_count_light : Row
 ordered_count_light =
     record {
       answer =
-          count_numbers (number_reply (ticks_answer (axis_from (pos 1) (midnight (pos 1)) (midnight (pos 15))) (light_of 0 1) 4));
+          count_numbers (number_reply (ticks_answer (axis_from kind.Date (midnight (pos 1)) (midnight (pos 15)))
+          (light_of 0 1) 4));
       wrong = pos 11 ∷ (pos 0 ∷ []);
       other = pos 0 ∷ (pos 3 ∷ []);
     }
@@ -138,7 +140,7 @@ abbrev pub ordered_period_per_point : Row
 ordered_period_per_point =
     record {
       answer = period_numbers
-          (period_reply (period_answer (axis_from (pos 4) (midnight (pos 1)) (at_nano (midnight (pos 12)) 49599999999999))
+          (period_reply (period_answer (axis_from kind.Stamp (midnight (pos 1)) (at_nano (midnight (pos 12)) 49599999999999))
           (record { n = pos 100 })));
       wrong = pos 0 ∷ (pos 14400000000000 ∷ []);
       other = minus 1 ∷ (pos 0 ∷ []);
@@ -148,7 +150,7 @@ ordered_period_per_point =
 abbrev pub ordered_unmap : Row
 ordered_unmap =
     record {
-      answer = value_numbers (value_reply (unmap_answer (axis_from (pos 1) (midnight (pos 1)) (midnight (pos 10)))
+      answer = value_numbers (value_reply (unmap_answer (axis_from kind.Date (midnight (pos 1)) (midnight (pos 10)))
           (limits_of (pos 0) (pos 100)) (pos 100)));
       wrong = pos 0 ∷ (pos 10 ∷ (pos 0 ∷ []));
       other = pos 10 ∷ (pos 0 ∷ (pos 0 ∷ []));
@@ -157,7 +159,7 @@ ordered_unmap =
 -- ordered_size, days 1 to 10: without the last day; one more
 abbrev pub ordered_size : Row
 ordered_size = record {
-  answer = count_numbers (number_reply (size_answer (axis_from (pos 1) (midnight (pos 1)) (midnight (pos 10)))));
+  answer = count_numbers (number_reply (size_answer (axis_from kind.Date (midnight (pos 1)) (midnight (pos 10)))));
   wrong =
       pos 0 ∷ (pos 9 ∷ []);
   other = pos 0 ∷ (pos 11 ∷ []);
@@ -167,7 +169,7 @@ ordered_size = record {
 abbrev pub ordered_index_of : Row
 ordered_index_of =
     record {
-      answer = count_numbers (index_reply (index_answer (axis_from (pos 2) (midnight (pos 366)) (midnight (pos 730)))
+      answer = count_numbers (index_reply (index_answer (axis_from kind.Month (midnight (pos 366)) (midnight (pos 730)))
           (midnight (pos 365))));
       wrong = minus 1 ∷ (pos 0 ∷ []);
       other = pos 0 ∷ (pos 0 ∷ []);
@@ -178,7 +180,8 @@ abbrev pub ordered_from_index : Row
 ordered_from_index =
     record {
       answer =
-          value_numbers (value_reply (from_index_answer (axis_from (pos 1) (midnight (pos 1)) (midnight (pos 2))) (pos 3652059)));
+          value_numbers (value_reply (from_index_answer (axis_from kind.Date (midnight (pos 1)) (midnight (pos 2)))
+          (pos 3652059)));
       wrong = pos 0 ∷ (pos 3652060 ∷ (pos 0 ∷ []));
       other = pos 8 ∷ (pos 0 ∷ (pos 0 ∷ []));
     }
@@ -187,7 +190,7 @@ ordered_from_index =
 abbrev pub ordered_next : Row
 ordered_next =
     record {
-      answer = value_numbers (value_if_reply (next_answer (axis_from (pos 2) (midnight (pos 1)) (midnight (pos 32)))
+      answer = value_numbers (value_if_reply (next_answer (axis_from kind.Month (midnight (pos 1)) (midnight (pos 32)))
           (midnight (pos 2))));
       wrong = pos 0 ∷ (pos 33 ∷ (pos 0 ∷ []));
       other = minus 1 ∷ (pos 0 ∷ (pos 0 ∷ []));
@@ -197,7 +200,7 @@ ordered_next =
 abbrev pub ordered_previous : Row
 ordered_previous =
     record {
-      answer = value_numbers (value_if_reply (previous_answer (axis_from (pos 2) (midnight (pos 1)) (midnight (pos 32)))
+      answer = value_numbers (value_if_reply (previous_answer (axis_from kind.Month (midnight (pos 1)) (midnight (pos 32)))
           (midnight (pos 32))));
       wrong = pos 0 ∷ (pos 31 ∷ (pos 0 ∷ []));
       other = minus 1 ∷ (pos 0 ∷ (pos 0 ∷ []));
@@ -207,7 +210,7 @@ ordered_previous =
 abbrev pub ordered_values : Row
 ordered_values =
     record {
-      answer = step_numbers (step_reply (values_answer (axis_from (pos 1) (midnight (pos 5)) (midnight (pos 6)))
+      answer = step_numbers (step_reply (values_answer (axis_from kind.Date (midnight (pos 5)) (midnight (pos 6)))
           (record { place = pos 1 })));
       wrong = pos 0 ∷ (pos 5 ∷ (pos 0 ∷ (pos 2 ∷ [])));
       other = pos 0 ∷ (pos 6 ∷ (pos 0 ∷ (pos 1 ∷ [])));
@@ -217,7 +220,7 @@ ordered_values =
 abbrev pub ordered_segment_map : Row
 ordered_segment_map =
     record {
-      answer = pixel_numbers (pixel_reply (segment_map_answer (axis_from (pos 1) (midnight (pos 1)) (midnight (pos 3)))
+      answer = pixel_numbers (pixel_reply (segment_map_answer (axis_from kind.Date (midnight (pos 1)) (midnight (pos 3)))
           (limits_of (pos 0) (pos 100)) (centre_at (midnight (pos 1)))));
       wrong = pos 0 ∷ (pos 17 ∷ []);
       other = pos 0 ∷ (pos 50 ∷ []);
@@ -227,7 +230,7 @@ ordered_segment_map =
 abbrev pub ordered_segment_ticks_bold : Row
 ordered_segment_ticks_bold =
     record {
-      answer = segments_into (axis_from (pos 4) (midnight (pos 1)) (midnight (pos 2))) (bold_of 1);
+      answer = segments_into (axis_from kind.Stamp (midnight (pos 1)) (midnight (pos 2))) (bold_of 1);
       wrong = pos 0 ∷ (pos 1 ∷ (pos 1 ∷ (pos 0 ∷ (pos 7 ∷ (pos 7 ∷ (pos 7 ∷ (pos 7 ∷ [])))))));
       other = pos 1 ∷ (pos 0 ∷ sevens);
     }
@@ -236,7 +239,7 @@ ordered_segment_ticks_bold =
 abbrev pub ordered_segment_ticks_light : Row
 ordered_segment_ticks_light =
     record {
-      answer = segments_into (axis_from (pos 1) (midnight (pos 1)) (midnight (pos 15))) (light_of 0 1);
+      answer = segments_into (axis_from kind.Date (midnight (pos 1)) (midnight (pos 15))) (light_of 0 1);
       wrong = pos 2 ∷ (pos 0 ∷ sevens);
       other = pos 0 ∷ (pos 1 ∷ (pos 1 ∷ (pos 0 ∷ (pos 7 ∷ (pos 7 ∷ (pos 7 ∷ (pos 7 ∷ [])))))));
     }
@@ -245,7 +248,7 @@ ordered_segment_ticks_light =
 abbrev pub ordered_segment_size : Row
 ordered_segment_size =
     record {
-      answer = count_numbers (number_reply (segment_size_answer (axis_from (pos 1) (midnight (pos 5)) (midnight (pos 6)))));
+      answer = count_numbers (number_reply (segment_size_answer (axis_from kind.Date (midnight (pos 5)) (midnight (pos 6)))));
       wrong = pos 0 ∷ (pos 2 ∷ []);
       other = pos 0 ∷ (pos 4 ∷ []);
     }
@@ -255,7 +258,7 @@ abbrev pub ordered_segment_index_of : Row
 ordered_segment_index_of =
     record {
       answer =
-          count_numbers (index_reply (segment_index_answer (axis_from (pos 1) (midnight (pos 5)) (midnight (pos 6))) (record {
+          count_numbers (index_reply (segment_index_answer (axis_from kind.Date (midnight (pos 5)) (midnight (pos 6))) (record {
             case = pos 3;
             head =
                 pos 0;
@@ -270,7 +273,8 @@ abbrev pub ordered_segment_from_index : Row
 ordered_segment_from_index =
     record {
       answer =
-          segment_numbers (segment_reply (segment_from_answer (axis_from (pos 1) (midnight (pos 5)) (midnight (pos 6))) (pos 2)));
+          segment_numbers (segment_reply (segment_from_answer (axis_from kind.Date (midnight (pos 5)) (midnight (pos 6)))
+          (pos 2)));
       wrong = pos 0 ∷ (pos 1 ∷ (pos 7 ∷ (pos 0 ∷ [])));
       other = minus 1 ∷ (pos 0 ∷ (pos 0 ∷ (pos 0 ∷ [])));
     }
@@ -278,7 +282,7 @@ ordered_segment_from_index =
 -- ---- of weeks
 -- an axis of weeks between two days
 abbrev pub weeks_from : ℕ → ℕ → Axis
-weeks_from s e = axis_from (pos 8) (midnight (pos s)) (midnight (pos e))
+weeks_from s e = axis_from kind.Week (midnight (pos s)) (midnight (pos e))
 
 -- ordered_ticks_bold, days 1 to 15, N 2, three Mondays: every second one, though all three are not too many; Sundays
 abbrev pub ticks_of_weeks : Row
@@ -312,7 +316,7 @@ value_of_weeks =
 abbrev pub size_excluded : Row
 size_excluded =
     record {
-      answer = count_numbers (number_reply (size_answer (before 1 1 4)));
+      answer = count_numbers (number_reply (size_answer (before kind.Date 1 4)));
       wrong = pos 0 ∷ (pos 4 ∷ []);
       other = pos 14 ∷ (pos 0 ∷ []);
     }
@@ -321,7 +325,7 @@ size_excluded =
 abbrev pub map_excluded : Row
 map_excluded =
     record {
-      answer = pixel_numbers (pixel_reply (mapped (before 1 1 3) (limits_of (pos 0) (pos 100)) (midnight (pos 2))));
+      answer = pixel_numbers (pixel_reply (mapped (before kind.Date 1 3) (limits_of (pos 0) (pos 100)) (midnight (pos 2))));
       wrong = pos 0 ∷ (pos 100 ∷ []);
       other = pos 9 ∷ (pos 0 ∷ []);
     }
@@ -330,7 +334,7 @@ map_excluded =
 abbrev pub ticks_excluded : Row
 ticks_excluded =
     record {
-      answer = listed_into (before 1 1 3) (bold_of 10) sevens;
+      answer = listed_into (before kind.Date 1 3) (bold_of 10) sevens;
       wrong = pos 0 ∷ (pos 3 ∷ (pos 1 ∷ (pos 0 ∷ (pos 2 ∷ (pos 0 ∷ (pos 3 ∷ (pos 0 ∷ [])))))));
       other = pos 0 ∷ (pos 1 ∷ (pos 1 ∷ (pos 0 ∷ (pos 7 ∷ (pos 7 ∷ (pos 7 ∷ (pos 7 ∷ [])))))));
     }
@@ -339,7 +343,7 @@ ticks_excluded =
 abbrev pub period_excluded : Row
 period_excluded =
     record {
-      answer = period_numbers (period_reply (period_answer (before 4 1 2) (record { n = pos 10 })));
+      answer = period_numbers (period_reply (period_answer (before kind.Stamp 1 2) (record { n = pos 10 })));
       wrong = pos 0 ∷ (pos 18000000000000 ∷ []);
       other = minus 1 ∷ (pos 0 ∷ []);
     }
@@ -348,7 +352,7 @@ period_excluded =
 abbrev pub order_excluded : Row
 order_excluded =
     record {
-      answer = count_numbers (number_reply (size_answer (before 5 6 5)));
+      answer = count_numbers (number_reply (size_answer (before kind.StampMonth 6 5)));
       wrong = pos 14 ∷ (pos 0 ∷ []);
       other = pos 0 ∷ (pos 0 ∷ []);
     }

@@ -1,9 +1,15 @@
-// Claims about what the calls of C hand back: functions that make the calls, and ensure the claim of their answers.
+// Claims about what the calls of C hand back: functions that make the calls, and ensure the claim of their answers. It is of the
+// axis that the six numbers are; where question 1 refuses them, the call is refused and leaves the lent numbers.
 // Demand 3 stands in specs/Demand.antt, one list for date-times and dates in specs/OneList.antt, how far a pixel may be off in
 // specs/HowFarOff.antt, how it is drawn in specs/Hairlines.antt, house rules in specs/HouseRules.antt; theorems in proofs/.
 #![tactic(auto)]
 
+ghost use Rattle.std.specs.Prelude.{◌≡◌, Err};
+ghost use Rattle.std.specs.Result.{ForOk, ForErr};
+ghost use Rattle.asking.specs.Asking.{asked};
 ghost use Rattle.axis.specs.Axes.{axis_of};
+ghost use Rattle.rules.specs.Table.{table_questions};
+ghost use Rattle.ordered.specs.Replies.{number_reply, pixel_reply};
 ghost use Rattle.promises.specs.Demand.{FineList, FinePart, DaysApart};
 ghost use Rattle.promises.specs.OneList.{SameLists};
 ghost use Rattle.promises.specs.HowFarOff.{OffOf, AtEnds};
@@ -38,8 +44,10 @@ pub fn ticks_bold(
     n: i64,
     lent: &mut [i64],
 ) -> OrderedNumber
-    ensures { FineList (axis_of kind start_head start_tail end_head end_tail end_excluded)
-        (Hint.Bold (record { n = n })) result lent.new }
+    ensures listed { ForOk (axis_of kind start_head start_tail end_head end_tail end_excluded)
+        (λ a. FineList a (Hint.Bold (record { n = n })) result lent.new) }
+    ensures refused { ForErr (axis_of kind start_head start_tail end_head end_tail end_excluded)
+        (λ q. (result ≡ number_reply (Err q)) × (lent.new ≡ lent.old)) }
 {
     ordered::ordered_ticks_bold(
         kind,
@@ -64,8 +72,10 @@ pub fn ticks_light(
     n: i64,
     lent: &mut [i64],
 ) -> OrderedNumber
-    ensures { FineList (axis_of kind start_head start_tail end_head end_tail end_excluded)
-        (Hint.Light (record { bold = bold; n = n })) result lent.new }
+    ensures listed { ForOk (axis_of kind start_head start_tail end_head end_tail end_excluded)
+        (λ a. FineList a (Hint.Light (record { bold = bold; n = n })) result lent.new) }
+    ensures refused { ForErr (axis_of kind start_head start_tail end_head end_tail end_excluded)
+        (λ q. (result ≡ number_reply (Err q)) × (lent.new ≡ lent.old)) }
 {
     ordered::ordered_ticks_light(
         kind,
@@ -90,8 +100,10 @@ pub fn segment_ticks_bold(
     n: i64,
     lent: &mut [i64],
 ) -> OrderedNumber
-    ensures { FineList (axis_of kind start_head start_tail end_head end_tail end_excluded)
-        (Hint.Bold (record { n = n })) result lent.new }
+    ensures listed { ForOk (axis_of kind start_head start_tail end_head end_tail end_excluded)
+        (λ a. FineList a (Hint.Bold (record { n = n })) result lent.new) }
+    ensures refused { ForErr (axis_of kind start_head start_tail end_head end_tail end_excluded)
+        (λ q. (result ≡ number_reply (Err q)) × (lent.new ≡ lent.old)) }
 {
     ordered::ordered_segment_ticks_bold(
         kind,
@@ -116,8 +128,10 @@ pub fn segment_ticks_light(
     n: i64,
     lent: &mut [i64],
 ) -> OrderedNumber
-    ensures { FineList (axis_of kind start_head start_tail end_head end_tail end_excluded)
-        (Hint.Light (record { bold = bold; n = n })) result lent.new }
+    ensures listed { ForOk (axis_of kind start_head start_tail end_head end_tail end_excluded)
+        (λ a. FineList a (Hint.Light (record { bold = bold; n = n })) result lent.new) }
+    ensures refused { ForErr (axis_of kind start_head start_tail end_head end_tail end_excluded)
+        (λ q. (result ≡ number_reply (Err q)) × (lent.new ≡ lent.old)) }
 {
     ordered::ordered_segment_ticks_light(
         kind,
@@ -152,8 +166,11 @@ pub fn map_days(
     first: i64,
     second: i64,
 ) -> TwoPixels
-    ensures { DaysApart (axis_of kind start_head start_tail end_head end_tail end_excluded)
-        (record { low = low; high = high }) first second result.first result.second }
+    ensures apart { ForOk (axis_of kind start_head start_tail end_head end_tail end_excluded)
+        (λ a. DaysApart a (record { low = low; high = high }) first second
+        result.first result.second) }
+    ensures refused { ForErr (axis_of kind start_head start_tail end_head end_tail end_excluded)
+        (λ q. (result.first ≡ pixel_reply (Err q)) × (result.second ≡ pixel_reply (Err q))) }
 {
     TwoPixels {
         first: ordered::ordered_map(
@@ -196,10 +213,14 @@ pub fn map_value(
     head: i64,
     tail: i64,
 ) -> OrderedPixel
-    ensures { OffOf (axis_of kind start_head start_tail end_head end_tail end_excluded)
-        (record { low = low; high = high }) (record { head = head; tail = tail }) result
-        × DrawnOf (axis_of kind start_head start_tail end_head end_tail end_excluded)
-        (record { low = low; high = high }) (record { head = head; tail = tail }) result }
+    ensures off { ForOk (axis_of kind start_head start_tail end_head end_tail end_excluded)
+        (λ a. OffOf a (record { low = low; high = high }) (record { head = head; tail = tail })
+        result) }
+    ensures drawn { ForOk (axis_of kind start_head start_tail end_head end_tail end_excluded)
+        (λ a. DrawnOf a (record { low = low; high = high }) (record { head = head; tail = tail })
+        result) }
+    ensures refused { ForErr (axis_of kind start_head start_tail end_head end_tail end_excluded)
+        (λ q. result ≡ pixel_reply (Err q)) }
 {
     ordered::ordered_map(
         kind,
@@ -226,10 +247,12 @@ pub fn map_ends(
     low: i64,
     high: i64,
 ) -> TwoPixels
-    ensures { AtEnds (axis_of kind start_head start_tail end_head end_tail end_excluded)
-        (record { low = low; high = high }) result.first result.second
-        × EndsDrawn (axis_of kind start_head start_tail end_head end_tail end_excluded)
-        (record { low = low; high = high }) result.first result.second }
+    ensures off { ForOk (axis_of kind start_head start_tail end_head end_tail end_excluded)
+        (λ a. AtEnds a (record { low = low; high = high }) result.first result.second) }
+    ensures drawn { ForOk (axis_of kind start_head start_tail end_head end_tail end_excluded)
+        (λ a. EndsDrawn a (record { low = low; high = high }) result.first result.second) }
+    ensures refused { ForErr (axis_of kind start_head start_tail end_head end_tail end_excluded)
+        (λ q. (result.first ≡ pixel_reply (Err q)) × (result.second ≡ pixel_reply (Err q))) }
 {
     TwoPixels {
         first: ordered::ordered_map(
@@ -273,9 +296,9 @@ pub fn lists_bold(
     lent: &mut [i64],
     beside: &mut [i64],
 ) -> Lists
-    ensures { SameLists (axis_of kind start_head start_tail end_head end_tail end_excluded)
-        (Hint.Bold (record { n = n })) from to lent.old beside.old
-        result lent.new beside.new }
+    ensures { ForOk (axis_of kind start_head start_tail end_head end_tail end_excluded)
+        (λ a. SameLists a (Hint.Bold (record { n = n })) from to lent.old beside.old
+        result lent.new beside.new) }
 {
     Lists {
         period: ordered::ordered_period_per_point(
@@ -316,9 +339,9 @@ pub fn lists_light(
     lent: &mut [i64],
     beside: &mut [i64],
 ) -> Lists
-    ensures { SameLists (axis_of kind start_head start_tail end_head end_tail end_excluded)
-        (Hint.Light (record { bold = bold; n = n })) from to lent.old beside.old
-        result lent.new beside.new }
+    ensures { ForOk (axis_of kind start_head start_tail end_head end_tail end_excluded)
+        (λ a. SameLists a (Hint.Light (record { bold = bold; n = n })) from to
+        lent.old beside.old result lent.new beside.new) }
 {
     Lists {
         period: ordered::ordered_period_per_point(
@@ -363,9 +386,11 @@ pub fn ticks_ruled(
     table: &[u8],
     lent: &mut [i64],
 ) -> OrderedNumber
-    ensures { RuledList table.now
-        (axis_of kind start_head start_tail end_head end_tail end_excluded)
-        result lent.old lent.new }
+    ensures listed { ForOk (axis_of kind start_head start_tail end_head end_tail end_excluded)
+        (λ a. RuledList table.now a result lent.old lent.new) }
+    ensures refused { ForErr (axis_of kind start_head start_tail end_head end_tail end_excluded)
+        (λ q. (result ≡ number_reply (asked (table_questions table.now) (Err q)))
+        × (lent.new ≡ lent.old)) }
 {
     ordered::ordered_ticks_ruled(
         kind,

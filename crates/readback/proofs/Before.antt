@@ -1,18 +1,20 @@
 -- A line without a point whose list has no fraction prints as it did before fractions were shown. Assumes nothing.
-use mathlib.Core.Path.{◌≡◌, refl, sym, ap, ◌∙◌, subst}
+use mathlib.Core.Path.{◌≡◌, refl, ap, ◌∙◌, subst}
 use mathlib.Core.Bool.{Bool, true, false, cond}
 use mathlib.Core.List.{List, [], ◌∷◌, append-nil}
 use Prim.Native.Nat.{ℕ, zero, suc, ◌+◌, ◌*◌, ◌/◌, ◌<◌, ◌≤◌}
 use native.Mathlib.Decide.{dec_le}
 use native.Mathlib.Omega.{arith}
 use lib.Dec.{eqb}
-use lib.IntN.{ℤ, pos, nat_abs}
+use lib.IntN.{pos, nat_abs}
 use lib.ListN.{length, take, drop, get_or, length-drop, drop_of_length-le}
 use lib.Seq.{take_all, length-take-le}
 use borrow.Author.Tests.{lt-ltb, le-ltb, eq-eqb, ne_eqb}
 use Rattle.laws.specs.Numbers.{pos_part, neg_part}
 use Rattle.laws.specs.Units.{per_second}
 use Rattle.laws.proofs.Signed.{is_lt, is_ge, abs, from_zero}
+use Rattle.values.specs.declared.Kind.TheVariants.{Span}
+use Rattle.values.specs.declared.Kind.{Kind}
 use Rattle.values.specs.declared.Value.{Value}
 use Rattle.values.specs.Values.{is_duration}
 use Rattle.values.specs.Differences.{nanoseconds}
@@ -38,7 +40,7 @@ use Rattle.text_rows.specs.Answers.{list_of, shows_fractions, ticks_text, listed
 use Rattle.readback.specs.Before.{stamp_before, of_seconds, value_before, fields_before, line_before, tick_before, ticks_before}
 use Rattle.readback.specs.Before.{listed_before, answer_before, rows_before}
 use Rattle.readback.specs.Claims.{Shown, list_in, AsBefore}
-use Rattle.readback.proofs.Lists.{kind_is, shown}
+use Rattle.readback.proofs.Lists.{shown}
 use Rattle.readback.proofs.ReadBack as read
 
 -- ---- no point in a text, nor in its parts
@@ -133,7 +135,7 @@ module _ (s : List ℕ) (e : NoPoint s) where
       go true = rw (seconds_are true (drop 1 f) (drop_none 1 f (field_none s e))) (below (digits_of (drop 1 f)))
       go false = rw (seconds_are false f (field_none s e)) (above (digits_of f))
 
-  values : (kind : ℕ) → read_value kind s ≡ value_before kind s
+  values : (kind : Kind) → read_value kind s ≡ value_before kind s
   unfolding read_value value_before
   values kind = rw (stamps, spans)
 
@@ -147,19 +149,19 @@ lines s e = ap (λ (r : Option Request). cond (in_form 5 s) r None) (by_kind (ki
     two : NoPoint (fields_from 2 s)
     two = drop_none (until_of space_byte (fields_from 1 s) + 1) (fields_from 1 s) one
 
-    by_kind : (k : Option ℕ) → option_and_then (λ k. fields_of k s) k ≡ option_and_then (λ k. fields_before k s) k
+    by_kind : (k : Option Kind) → option_and_then (λ k. fields_of k s) k ≡ option_and_then (λ k. fields_before k s) k
     by_kind None = refl
     by_kind (Some k) = rw (values (fields_from 1 s) one k, values (fields_from 2 s) two k)
 
 -- ---- writing
-module _ (kind : ℕ) (v : Value) (x : Shown false kind v) where
-  whole_seconds : is_duration (pos kind) ≡ true → span_text false (nanoseconds (pos 7) v) ≡ signed_text v.head
+module _ (kind : Kind) (v : Value) (x : Shown false kind v) where
+  whole_seconds : is_duration kind ≡ true → span_text false (nanoseconds Span v) ≡ signed_text v.head
   unfolding nanoseconds
   whole_seconds h =
-      let d = duration_value (pos kind) v x.is h in
+      let d = duration_value kind v x.is h in
       let f : pos_part v.tail ≡ 0 = omega (arith, read.no_fraction v (x.whole refl), d) in
       let j = joint v.head v.tail per_second in
-      let t = nanoseconds (pos 7) v in
+      let t = nanoseconds Span v in
       elim (dec_le (pos_part v.head + 1) (neg_part v.head)) [
         | yes l ↦
             let a = not_above v.head (omega arith) in
@@ -173,11 +175,11 @@ module _ (kind : ℕ) (v : Value) (x : Shown false kind v) where
             rw (is_ge t (pos 0) (omega (arith, d)), is_ge v.head (pos 0) (omega arith), n) (append-nil _)
       ]
 
-  pub ticks : tick_text false (pos kind) v ≡ tick_before (pos kind) v
+  pub ticks : tick_text false kind v ≡ tick_before kind v
   unfolding tick_text tick_before
   ticks =
-      by_form (pos kind) v x.is (λ h _. rw (dates_no_times (pos kind) h, dates_no_duration (pos kind) h))
-      (λ h _. rw (h, append-nil)) (λ h _. rw (duration_no_times (pos kind) h, h) (whole_seconds h))
+      by_form kind v x.is (λ h _. rw (dates_no_times kind h, dates_no_duration kind h))
+      (λ h _. rw (h, append-nil)) (λ h _. rw (duration_no_times kind h, h) (whole_seconds h))
 
 -- ---- a line's answer
 module _ (number : ℕ) (q : Request) (z : shows_fractions (list_of q) ≡ false) where
@@ -185,10 +187,9 @@ module _ (number : ℕ) (q : Request) (z : shows_fractions (list_of q) ≡ false
       tick_text (shows_fractions (list_of q)) q.axis.kind (nth (list_of q) i) ≡ tick_before q.axis.kind (nth (list_of q) i)
   text i l =
       let v = nth (list_of q) i in
-      let k = pos_part q.axis.kind in
+      let k = q.axis.kind in
       let x = subst (λ (b : Bool). Shown b k v) z (shown q i l) in
-      subst (λ (n : ℤ). tick_text (shows_fractions (list_of q)) n v ≡ tick_before n v) (sym (kind_is q i l))
-      (ap (λ (b : Bool). tick_text b (pos k) v) z ∙ ticks k v x)
+      ap (λ (b : Bool). tick_text b k v) z ∙ ticks k v x
 
   rows : (k : ℕ) → 2 * k ≤ length (list_of q) →
       ticks_text number q.axis q.limits (list_of q) k ≡ ticks_before number q.axis q.limits (list_of q) k

@@ -1,32 +1,26 @@
 -- What a list that plate asks for is: its ticks are values of the axis's kind, each later than the one before, and at whole
 -- seconds where the list shows no fractions. Assumes nothing.
-use mathlib.Core.Path.{◌≡◌, refl, sym, subst}
+use mathlib.Core.Path.{◌≡◌, refl, subst}
 use mathlib.Core.Bool.{Bool, true, false, cond}
 use mathlib.Core.List.{List, []}
 use Prim.Native.Nat.{ℕ, zero, suc, ◌+◌, ◌*◌, ◌/◌, ◌-◌, ◌<◌}
 use native.Mathlib.Decide.{dec_le}
 use native.Mathlib.Omega.{arith}
 use lib.IntN.{ℤ, pos}
-use lib.Signed.{le_z}
 use lib.ListN.{length}
 use Rattle.asking.specs.Asking.{passes}
-use Rattle.laws.specs.Numbers.{pos_part, neg_part}
-use Rattle.laws.proofs.Signed.{le_true, pos_up}
-use Rattle.laws.proofs.Tests.{either_false, both_true}
+use Rattle.laws.proofs.Tests.{either_false}
 use Rattle.values.specs.declared.Value.{Value}
 use Rattle.values.specs.Values.{is_value}
-use Rattle.values.proofs.Numbers.{not_below}
 use Rattle.axis.specs.declared.Hint.TheVariants.{Bold}
-use Rattle.axis.specs.Questions.{known}
 use Rattle.steps.specs.Listing.{numbers, front}
 use Rattle.steps.specs.Promise.{nth, Later, Fine}
 use Rattle.steps.proofs.Order.{trans, irrefl}
 use Rattle.keypoints.specs.Hints.{limit}
 use Rattle.ticks.specs.Answers.{tick_questions, ticks_of, ticks_handed}
-use Rattle.ticks.proofs.Hints.{accepted}
 use Rattle.ticks.proofs.Promise.{ticks_fine}
 use Rattle.ticks.proofs.Values.{tick_value, no_tail}
-use Rattle.axis.specs.Axes.{start, last}
+use Rattle.axis.specs.Axes.{last}
 use Rattle.text_line.specs.declared.Request.{Request}
 use Rattle.text_rows.specs.Answers.{list_of, has_fraction, fraction_before, shows_fractions}
 use Rattle.text_rows.proofs.Lists.{handed}
@@ -64,23 +58,15 @@ module _ (q : Request) where
     same_list : list ≡ numbers (ticks_of q.axis (Bold q.hint))
     same_list = handed q.axis q.hint z
 
-    fine : Fine (limit (Bold q.hint)) (start q.axis) (last q.axis) list
+    fine : Fine (limit (Bold q.hint)) q.axis.start (last q.axis) list
     fine = rw same_list (ticks_fine q.axis (Bold q.hint) z)
 
     is_value_law : is_value q.axis.kind (nth list i) ≡ true
     is_value_law = rw same_list (tick_value q.axis (Bold q.hint) z i (rw same_list at l))
 
-    pub kind_is : q.axis.kind ≡ pos (pos_part q.axis.kind)
-    unfolding known
-    kind_is =
-        let k = q.axis.kind in
-        let p = (both_true (le_z (pos 1) k) (le_z k (pos 8)) (accepted q.axis (Bold q.hint) z).kind).0 in
-        let n : neg_part k ≡ 0 = not_below k (omega (arith, le_true (pos 1) k p)) in
-        sym (pos_up k n)
-
-    pub shown : Shown (shows_fractions list) (pos_part q.axis.kind) (nth list i)
+    pub shown : Shown (shows_fractions list) q.axis.kind (nth list i)
     shown = record {
-      is = subst (λ (k : ℤ). is_value k (nth list i) ≡ true) kind_is is_value_law;
+      is = is_value_law;
       whole = λ e. none_before list (length list / 2) i (omega (arith, fine.paired)) e;
     }
 

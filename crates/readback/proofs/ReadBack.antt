@@ -14,6 +14,8 @@ use borrow.Author.Tests.{eq-eqb, ne_eqb, eqb-true, not-false}
 use Rattle.laws.specs.Numbers.{minus, pos_part, neg_part}
 use Rattle.laws.specs.Units.{per_second}
 use Rattle.laws.proofs.Signed.{same, lt_true, lt_false, is_lt, is_ge, one_is_zero, abs, pos_up, minus_dn, minus_parts}
+use Rattle.values.specs.declared.Kind.TheVariants.{Span}
+use Rattle.values.specs.declared.Kind.{Kind}
 use Rattle.values.specs.declared.Value.{Value}
 use Rattle.values.specs.Values.{over_dates, over_date_times, is_duration}
 use Rattle.values.specs.Differences.{nanoseconds}
@@ -33,20 +35,20 @@ use Rattle.readback.specs.Claims.{Shown, TickReadsBack, OneText, SpanCounts}
 use Rattle.readback.proofs.Forms.{of_day, ymd_read, stamp_read, is_time_law, second_is, above_read, below_read}
 
 -- ---- by kind
-module _ (kind : ℕ) (s : List ℕ) where
-  value_date : over_dates (pos kind) ≡ true → read_value kind s ≡ of_date (read_date s)
+module _ (kind : Kind) (s : List ℕ) where
+  value_date : over_dates kind ≡ true → read_value kind s ≡ of_date (read_date s)
   unfolding read_value
-  value_date h = rw (dates_no_times (pos kind) h, dates_no_duration (pos kind) h)
+  value_date h = rw (dates_no_times kind h, dates_no_duration kind h)
 
-  value_stamp : over_date_times (pos kind) ≡ true → read_value kind s ≡ of_stamp (read_stamp s)
+  value_stamp : over_date_times kind ≡ true → read_value kind s ≡ of_stamp (read_stamp s)
   unfolding read_value
   value_stamp h = rw h
 
-  value_span : is_duration (pos kind) ≡ true → read_value kind s ≡ of_span (read_span s)
+  value_span : is_duration kind ≡ true → read_value kind s ≡ of_span (read_span s)
   unfolding read_value
-  value_span h = rw (duration_no_times (pos kind) h, h)
+  value_span h = rw (duration_no_times kind h, h)
 
-module _ (shown : Bool) (kind : ℤ) (v : Value) where
+module _ (shown : Bool) (kind : Kind) (v : Value) where
   text_date : over_dates kind ≡ true → tick_text shown kind v ≡ date_text (pos_part v.head)
   unfolding tick_text
   text_date h = rw (dates_no_times kind h, dates_no_duration kind h)
@@ -55,7 +57,7 @@ module _ (shown : Bool) (kind : ℤ) (v : Value) where
   unfolding tick_text
   text_stamp h = rw h
 
-  text_span : is_duration kind ≡ true → tick_text shown kind v ≡ span_text shown (nanoseconds (pos 7) v)
+  text_span : is_duration kind ≡ true → tick_text shown kind v ≡ span_text shown (nanoseconds Span v)
   unfolding tick_text
   text_span h = rw (duration_no_times kind h, h)
 
@@ -72,7 +74,7 @@ seconds x m e = ap (λ (n : ℕ). n % per_second) e ∙ mul-add-mod_self_right m
 
 module _ (v : Value) (d : DurationValue v) where
   abbrev t : ℤ
-  t = nanoseconds (pos 7) v
+  t = nanoseconds Span v
 
   abbrev n : ℕ
   n = nat_abs t / per_second
@@ -132,28 +134,28 @@ module _ (v : Value) (d : DurationValue v) where
       ]
 
 -- ---- a tick
-module _ (shown : Bool) (kind : ℕ) (v : Value) (t : List ℕ) (x : Shown shown kind v) (e : until_of space_byte t ≡ 0) where
-  dates : over_dates (pos kind) ≡ true → read_value kind (tick_text shown (pos kind) v ++ t) ≡ Some v
+module _ (shown : Bool) (kind : Kind) (v : Value) (t : List ℕ) (x : Shown shown kind v) (e : until_of space_byte t ≡ 0) where
+  dates : over_dates kind ≡ true → read_value kind (tick_text shown kind v ++ t) ≡ Some v
   dates h =
-      let d = date_value (pos kind) v x.is h in
+      let d = date_value kind v x.is h in
       let n = pos_part v.head in
       let o = of_day n d.head_least d.head_most in
-      value_date kind (tick_text shown (pos kind) v ++ t) h
-      ∙ rw (text_date shown (pos kind) v h, ymd_read (date_of n) t o.short e, o.value 0)
+      value_date kind (tick_text shown kind v ++ t) h
+      ∙ rw (text_date shown kind v h, ymd_read (date_of n) t o.short e, o.value 0)
       (ap Some (same_value (record { head = pos n; tail = pos 0 }) v (pos_up v.head d.head_dn) (sym d.no_tail)))
 
-  stamps : over_date_times (pos kind) ≡ true → read_value kind (tick_text shown (pos kind) v ++ t) ≡ Some v
+  stamps : over_date_times kind ≡ true → read_value kind (tick_text shown kind v ++ t) ≡ Some v
   unfolding stamp_value
   stamps h =
-      let d = day_value (pos kind) v x.is (times_no_duration (pos kind) h) in
+      let d = day_value kind v x.is (times_no_duration kind h) in
       let n = pos_part v.head in
       let nano = pos_part v.tail in
       let s = nano / per_second in
       let o = of_day n d.head_least d.head_most in
       let whole : s * per_second + nano % per_second ≡ nano = omega arith in
-      value_stamp kind (tick_text shown (pos kind) v ++ t) h
+      value_stamp kind (tick_text shown kind v ++ t) h
       ∙ rw (
-        text_stamp shown (pos kind) v h,
+        text_stamp shown kind v h,
         stamp_read shown n nano t o.short (omega (arith, d.tail_most)) (λ z. no_fraction v (x.whole z)) e,
         is_time_law n s (nano % per_second) (omega (arith, d.tail_most)),
         second_is s,
@@ -163,15 +165,15 @@ module _ (shown : Bool) (kind : ℕ) (v : Value) (t : List ℕ) (x : Shown shown
       (ap Some (same_value (record { head = pos n; tail = pos nano }) v (pos_up v.head d.head_dn)
       (pos_up v.tail d.tail_dn)))
 
-  spans : is_duration (pos kind) ≡ true → read_value kind (tick_text shown (pos kind) v ++ t) ≡ Some v
+  spans : is_duration kind ≡ true → read_value kind (tick_text shown kind v ++ t) ≡ Some v
   spans h =
-      let d = duration_value (pos kind) v x.is h in
-      let z = nanoseconds (pos 7) v in
+      let d = duration_value kind v x.is h in
+      let z = nanoseconds Span v in
       let n = nat_abs z / per_second in
       let q = nat_abs z % per_second in
       let w : shown ≡ false → q ≡ 0 = λ y. whole v d (x.whole y) in
-      value_span kind (tick_text shown (pos kind) v ++ t) h
-      ∙ rw (text_span shown (pos kind) v h)
+      value_span kind (tick_text shown kind v ++ t) h
+      ∙ rw (text_span shown kind v h)
       (elim (dec_le (pos_part z + 1) (neg_part z)) [
         | yes l ↦
             let b : lt_z z (pos 0) ≡ true = is_lt z (pos 0) (omega arith) in
@@ -183,7 +185,7 @@ module _ (shown : Bool) (kind : ℕ) (v : Value) (t : List ℕ) (x : Shown shown
 
 pub tick_reads_back : TickReadsBack
 tick_reads_back shown kind v t x e =
-    by_form (pos kind) v x.is (λ h _. dates shown kind v t x e h) (λ h _. stamps shown kind v t x e h)
+    by_form kind v x.is (λ h _. dates shown kind v t x e h) (λ h _. stamps shown kind v t x e h)
     (λ h _. spans shown kind v t x e h)
 
 -- ---- no two look alike
@@ -198,12 +200,12 @@ pub one_text : OneText
 one_text a b kind v w x y e =
     let p = tick_reads_back a kind v [] x nothing in
     let q = tick_reads_back b kind w [] y nothing in
-    one_value (read_value kind (tick_text b (pos kind) w ++ [])) v w (rw e at p) q
+    one_value (read_value kind (tick_text b kind w ++ [])) v w (rw e at p) q
 
 -- ---- a span that is typed
 module _ (n q : ℕ) (l : q < per_second) where
   abbrev counted : Value → ℤ
-  counted v = nanoseconds (pos 7) v
+  counted v = nanoseconds Span v
 
   abbrev size : ℕ
   size = n * per_second + q
@@ -230,7 +232,7 @@ unfolding span_value
 span_counts p l = go p.below
   where
     go : (b : Bool) →
-        nanoseconds (pos 7) (cond b (below_zero p.seconds p.nano) (record { head = pos p.seconds; tail = pos p.nano }))
+        nanoseconds Span (cond b (below_zero p.seconds p.nano) (record { head = pos p.seconds; tail = pos p.nano }))
         ≡ cond b (minus (p.seconds * per_second + p.nano)) (pos (p.seconds * per_second + p.nano))
     go true = counts_down p.seconds p.nano l
     go false = counts_up p.seconds p.nano l

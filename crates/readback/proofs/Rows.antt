@@ -1,5 +1,5 @@
 -- The rows of a line: the second field of each reads back to its tick, and no two are the same. Assumes nothing.
-use mathlib.Core.Path.{◌≡◌, refl, sym, ap, ◌∙◌, subst}
+use mathlib.Core.Path.{◌≡◌, refl, sym, ap, ◌∙◌}
 use mathlib.Core.Bool.{Bool, true, false, cond}
 use mathlib.Core.List.{List, [], ◌∷◌, ◌++◌, append_assoc, append-nil}
 use Prim.Native.Nat.{ℕ, zero, suc, ◌+◌, ◌*◌, ◌/◌, ◌%◌, ◌<◌, ◌≤◌}
@@ -11,6 +11,8 @@ use lib.Seq.{drop-append-add}
 use borrow.Author.Tests.{eq-eqb, ne_eqb}
 use Rattle.laws.specs.Numbers.{pos_part}
 use Rattle.laws.specs.Units.{per_second}
+use Rattle.values.specs.declared.Kind.TheVariants.{Span}
+use Rattle.values.specs.declared.Kind.{Kind}
 use Rattle.values.specs.declared.Value.{Value}
 use Rattle.values.specs.Values.{over_date_times, is_duration}
 use Rattle.values.specs.Differences.{nanoseconds}
@@ -36,7 +38,7 @@ use Rattle.readback.specs.Claims.{NotIn, AllDiffer, tick_texts, RowReadsBack, Ro
 use Rattle.readback.proofs.Digits.{Free, free_none, free_one, free_then, free_decimal}
 use Rattle.readback.proofs.Forms.{field_is, free_fraction, free_date, free_stamp}
 use Rattle.readback.proofs.ReadBack.{tick_reads_back, one_text}
-use Rattle.readback.proofs.Lists.{kind_is, shown, not_same}
+use Rattle.readback.proofs.Lists.{shown, not_same}
 
 -- ---- bytes that no text has
 -- below '0', and none of '!', '-', '.': a space, LF
@@ -65,7 +67,7 @@ module _ {c : ℕ} (x : Apart c) where
       free_then (free_then (free_sign (lt_z t (pos 0))) (free_decimal x.below (nat_abs t / per_second)))
       (free_fraction shown (nat_abs t % per_second) x.below x.point)
 
-  free_tick : (shown : Bool) (kind : ℤ) (v : Value) → Free c (tick_text shown kind v)
+  free_tick : (shown : Bool) (kind : Kind) (v : Value) → Free c (tick_text shown kind v)
   unfolding tick_text
   free_tick shown kind v = go (over_date_times kind) (is_duration kind)
     where
@@ -73,9 +75,9 @@ module _ {c : ℕ} (x : Apart c) where
       n = pos_part v.head
 
       go : (a b : Bool) → Free c (cond a (date_time_text shown n (pos_part v.tail))
-          (cond b (span_text shown (nanoseconds (pos 7) v)) (date_text n)))
+          (cond b (span_text shown (nanoseconds Span v)) (date_text n)))
       go true b = free_stamp shown n (pos_part v.tail) x.below x.minus x.point
-      go false true = free_span shown (nanoseconds (pos 7) v)
+      go false true = free_span shown (nanoseconds Span v)
       go false false = free_date n x.below x.minus
 
   free_mark : (p : Result Hairline Refusal) → Free c (mark_text p)
@@ -90,7 +92,7 @@ after_space a t f =
     let e : until_of space_byte (a ++ (space_byte ∷ t)) + 1 ≡ length a + 1 = omega (arith, f.free (space_byte ∷ t)) in
     rw e (drop-append-add a (space_byte ∷ t) 1)
 
-module _ (number : ℕ) (shown : Bool) (kind : ℤ) (v : Value) (p : Result Hairline Refusal) where
+module _ (number : ℕ) (shown : Bool) (kind : Kind) (v : Value) (p : Result Hairline Refusal) where
   -- a row without its LF
   abbrev line_of : List ℕ
   line_of = decimal_text number ++ (space_byte ∷ (tick_text shown kind v ++ (space_byte ∷ mark_text p)))
@@ -118,7 +120,7 @@ unfolding lines_of
 first_line [] t f = refl
 first_line (b ∷ a) t f = rw (ne_eqb b line_feed (not_first f), first_line a t (free_rest f))
 
-free_line : {c : ℕ} (number : ℕ) (shown : Bool) (kind : ℤ) (v : Value) (p : Result Hairline Refusal) → Apart c →
+free_line : {c : ℕ} (number : ℕ) (shown : Bool) (kind : Kind) (v : Value) (p : Result Hairline Refusal) → Apart c →
     (space_byte ≡ c → ⊥) →
     Free c (line_of number shown kind v p)
 free_line number shown kind v p x n =
@@ -197,11 +199,9 @@ module _ (number : ℕ) (q : Request) where
   apart : (i j : ℕ) → i < j → 2 * j < length list → field_of (rest_of (line_at i)) ≡ field_of (rest_of (line_at j)) → ⊥
   apart i j o l e =
       let s = shows_fractions list in
-      let k = kind_is q j l in
       let t : text_at i ≡ text_at j = sym (text_field i) ∙ e ∙ text_field j in
-      let u = subst (λ (z : ℤ). tick_text s z (nth list i) ≡ tick_text s z (nth list j)) k t in
       not_same q i j o l
-      (one_text s s (pos_part q.axis.kind) (nth list i) (nth list j) (shown q i (omega arith)) (shown q j l) u)
+      (one_text s s q.axis.kind (nth list i) (nth list j) (shown q i (omega arith)) (shown q j l) t)
 
   not_in : (i j k : ℕ) → i < j → 2 * (j + k) ≤ length list → NotIn (field_of (rest_of (line_at i))) (tick_texts (lines_from j k))
   not_in i j zero o l = tt
@@ -219,7 +219,7 @@ module _ (number : ℕ) (q : Request) where
       let e : ticks_text number q.axis q.limits list n ≡ text_from 0 n = rw z at (all_text 0 n) in
       rw (e, lines_from_law 0 n) (all_differ 0 n (omega arith))
 
-  row_read : (i : ℕ) → 2 * i < length list → read_value (pos_part q.axis.kind) (rest_of (row_at i)) ≡ Some (nth list i)
+  row_read : (i : ℕ) → 2 * i < length list → read_value q.axis.kind (rest_of (row_at i)) ≡ Some (nth list i)
   unfolding until_of
   row_read i l =
       let k = q.axis.kind in
@@ -229,9 +229,8 @@ module _ (number : ℕ) (q : Request) where
       let t = space_byte ∷ (mark_text p ++ (line_feed ∷ [])) in
       let row : row_at i ≡ decimal_text number ++ (space_byte ∷ (text_at i ++ t)) = simp append_assoc in
       let e = after_space (decimal_text number) (text_at i ++ t) (free_decimal (omega arith) number) in
-      let b = tick_reads_back s (pos_part k) v t (shown q i l) refl in
-      ap (read_value (pos_part k)) (ap rest_of row ∙ e)
-      ∙ subst (λ (z : ℤ). read_value (pos_part k) (tick_text s z v ++ t) ≡ Some v) (sym (kind_is q i l)) b
+      let b = tick_reads_back s k v t (shown q i l) refl in
+      ap (read_value k) (ap rest_of row ∙ e) ∙ b
 
 -- ---- the claims
 pub row_reads_back : RowReadsBack

@@ -7,6 +7,7 @@ use Rattle.asking.specs.declared.Refusal.{Refusal}
 use Rattle.asking.specs.declared.Refusal.TheVariants as refusal
 use Rattle.laws.specs.Numbers.{pos_part}
 use Rattle.laws.specs.Units.{per_second}
+use Rattle.values.specs.declared.Kind.{Kind}
 use Rattle.values.specs.declared.Value.{Value}
 use Rattle.values.specs.Values.{over_date_times, is_duration}
 use Rattle.axis.specs.declared.Axis.{Axis}
@@ -41,14 +42,14 @@ abbrev pub of_seconds : Option ℤ → Option Value
 of_seconds n = option_map (λ m. record { head = m; tail = pos 0 }) n
 
 -- a start or an end
-unfoldable pub value_before : ℕ → List ℕ → Option Value
+unfoldable pub value_before : Kind → List ℕ → Option Value
 value_before kind s =
-    cond (over_date_times (pos kind)) (of_stamp (stamp_before s))
-    (cond (is_duration (pos kind)) (of_seconds (read_number s))
+    cond (over_date_times kind) (of_stamp (stamp_before s))
+    (cond (is_duration kind) (of_seconds (read_number s))
     (of_date (read_date s)))
 
 -- all fields of a line of a kind
-abbrev pub fields_before : ℕ → List ℕ → Option Request
+abbrev pub fields_before : Kind → List ℕ → Option Request
 fields_before kind s =
     request_of kind (value_before kind (fields_from 1 s)) (value_before kind (fields_from 2 s))
     (read_number (fields_from 3 s))
@@ -61,14 +62,14 @@ line_before s = cond (in_form 5 s) (option_and_then (λ k. fields_before k s) (k
 
 -- ---- writing
 -- rounded down to the second
-unfoldable pub tick_before : ℤ → Value → List ℕ
+unfoldable pub tick_before : Kind → Value → List ℕ
 tick_before kind v =
     cond (over_date_times kind) (date_text (pos_part v.head) ++ (t_byte ∷ []) ++ time_text (pos_part v.tail / per_second))
     (cond (is_duration kind) (signed_text v.head)
     (date_text (pos_part v.head)))
 
 -- number, space, tick, space, mark, LF
-abbrev pub row_before : ℕ → ℤ → Value → Result Hairline Refusal → List ℕ
+abbrev pub row_before : ℕ → Kind → Value → Result Hairline Refusal → List ℕ
 row_before number kind v p =
     decimal_text number ++ (space_byte ∷ []) ++ tick_before kind v ++ (space_byte ∷ []) ++ mark_text p ++ (line_feed ∷ [])
 

@@ -2,8 +2,10 @@
 -- rows of a line look alike; and what stays as it was before fractions were shown. Claims only.
 use Rattle.std.specs.Prelude.{◌≡◌, Bool, true, false, cond, List, [], ◌∷◌, ◌++◌, ℕ, ◌+◌, ◌*◌}
 use Rattle.std.specs.Prelude.{◌<◌, ℤ, pos, length, Option, Some, None}
-use Rattle.laws.specs.Numbers.{minus, pos_part}
+use Rattle.laws.specs.Numbers.{minus}
 use Rattle.laws.specs.Units.{per_second}
+use Rattle.values.specs.declared.Kind.{Kind}
+use Rattle.values.specs.declared.Kind.TheVariants.{Span}
 use Rattle.values.specs.declared.Value.{Value}
 use Rattle.values.specs.Values.{is_value}
 use Rattle.values.specs.Differences.{nanoseconds}
@@ -21,26 +23,26 @@ use Rattle.readback.specs.Before.{rows_before}
 
 -- ---- a tick
 -- what a list shows of a value: of its kind, and at a whole second unless the list shows fractions
-pub record Shown (shown : Bool) (kind : ℕ) (v : Value) : Type 0 where
-  pub is : is_value (pos kind) v ≡ true
+pub record Shown (shown : Bool) (kind : Kind) (v : Value) : Type 0 where
+  pub is : is_value kind v ≡ true
   pub whole : shown ≡ false → has_fraction v ≡ false
 
 -- the text with a fraction or without, and nothing or a space behind it
 abbrev pub TickReadsBack : Type 0
 TickReadsBack =
-    (shown : Bool) (kind : ℕ) (v : Value) (t : List ℕ) → Shown shown kind v → until_of space_byte t ≡ 0
-    → read_value kind (tick_text shown (pos kind) v ++ t) ≡ Some v
+    (shown : Bool) (kind : Kind) (v : Value) (t : List ℕ) → Shown shown kind v → until_of space_byte t ≡ 0
+    → read_value kind (tick_text shown kind v ++ t) ≡ Some v
 
 -- no two look alike, be they of one list or not
 abbrev pub OneText : Type 0
 OneText =
-    (a b : Bool) (kind : ℕ) (v w : Value) → Shown a kind v → Shown b kind w
-    → tick_text a (pos kind) v ≡ tick_text b (pos kind) w → v ≡ w
+    (a b : Bool) (kind : Kind) (v w : Value) → Shown a kind v → Shown b kind w
+    → tick_text a kind v ≡ tick_text b kind w → v ≡ w
 
 -- a span that is typed is its seconds and its fraction, both away from zero
 abbrev pub SpanCounts : Type 0
 SpanCounts =
-    (p : Duration) → p.nano < per_second → nanoseconds (pos 7) (span_value p)
+    (p : Duration) → p.nano < per_second → nanoseconds Span (span_value p)
     ≡ cond p.below (minus (p.seconds * per_second + p.nano)) (pos (p.seconds * per_second + p.nano))
 
 -- ---- the rows of a line
@@ -48,7 +50,7 @@ SpanCounts =
 abbrev pub RowReadsBack : Type 0
 RowReadsBack =
     (number : ℕ) (q : Request) (i : ℕ) → 2 * i < length (list_of q)
-    → read_value (pos_part q.axis.kind) (rest_of (tick_row number q.axis q.limits (list_of q) i))
+    → read_value q.axis.kind (rest_of (tick_row number q.axis q.limits (list_of q) i))
     ≡ Some (nth (list_of q) i)
 
 -- the second field of each line that is printed

@@ -56,7 +56,7 @@ fn plan_by(a: Axis, w: Row) -> Steps
 fn has_rules(a: Axis) -> bool
     ensures { result ≡ has_rules a }
 {
-    ((1 <= a.kind) & (a.kind <= 3)) | ((8 <= a.kind) & (a.kind <= 8))
+    a.kind.over_dates()
 }
 
 // The days from the first to the last.

@@ -247,7 +247,6 @@ pub fn map(a: Axis, l: Limits, s: Segment) -> Result<Hairline, Refusal>
 fn ask_kind(a: Axis) -> Result<(), Refusal>
     ensures { result ≡ asked (segment_kind_questions a) (Ok tt) }
 {
-    ask(Refusal::Kind, axis::known(a))?;
     ask(Refusal::Operation, axis::has_index(a))
 }
 

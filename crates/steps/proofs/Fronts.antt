@@ -27,7 +27,8 @@ module _ (l : List Value) (d : List ℤ) where
   pub within_lent : 2 * count_of (listed_of l (length d)) ≤ length d
   within_lent = room (has_room l (length d)) refl
 
-  cut : (b : Bool) → take (2 * count_of (cond b (Ok (length l)) (Err refusal.Room))) (cond b (numbers l ++ drop (2 * length l) d) d)
+  cut : (b : Bool) →
+      take (2 * count_of (cond b (Ok (length l)) (Err refusal.Room))) (cond b (numbers l ++ drop (2 * length l) d) d)
       ≡ cond b (numbers l) []
   cut true = take_at (numbers l) (drop (2 * length l) d) (2 * length l) (length_numbers l)
   cut false = refl

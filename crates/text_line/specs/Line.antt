@@ -1,15 +1,16 @@
 -- The names line, which lines of values read, and the request that such a line makes. Definitions only.
 -- A line is its bytes without the LF. Its fields are kind start end hint low high, with one space between them.
-use Rattle.std.specs.Prelude.{Bool, ◌&&◌, cond, List, [], ◌∷◌, ℕ, suc, ◌+◌, ◌-◌, ◌*◌, ltb, eqb, ℤ, pos}
+use Rattle.std.specs.Prelude.{Bool, false, ◌&&◌, cond, List, [], ◌∷◌, ℕ, suc, ◌+◌, ◌-◌, ◌*◌, ltb, eqb, ℤ, pos}
 use Rattle.std.specs.Prelude.{Option, None, Some, Result, Ok, Err}
 use Rattle.std.specs.Option.{option_map, option_and_then}
 use Rattle.asking.specs.declared.Refusal.{Refusal}
 use Rattle.laws.specs.Numbers.{minus}
 use Rattle.laws.specs.Units.{per_second}
 use Rattle.calendar.specs.Questions.{number_of}
+use Rattle.values.specs.declared.Kind.{Kind}
+use Rattle.values.specs.declared.Kind.TheVariants as kind
 use Rattle.values.specs.declared.Value.{Value}
 use Rattle.values.specs.Values.{over_date_times, is_duration}
-use Rattle.axis.specs.Axes.{axis_of}
 use Rattle.text_read.specs.Fields.{field_of, read_number, read_date, read_stamp, read_span}
 use Rattle.text_read.specs.Lines.{same_as, named, in_form, fields_from}
 use Rattle.text_read.specs.declared.Day.{Day}
@@ -28,21 +29,21 @@ names =
 abbrev pub is_names : List ℕ → Bool
 is_names s = same_as s names
 
--- the kinds' names: date, month, year, stamp, stampmonth, stampyear, span, week
-abbrev pub kinds : List (List ℕ × ℕ)
+-- the kinds by their names: date, month, year, stamp, stampmonth, stampyear, span, week
+abbrev pub kinds : List (List ℕ × Kind)
 kinds =
-    (100 ∷ 97 ∷ 116 ∷ 101 ∷ [], 1)
-    ∷ (109 ∷ 111 ∷ 110 ∷ 116 ∷ 104 ∷ [], 2)
-    ∷ (121 ∷ 101 ∷ 97 ∷ 114 ∷ [], 3)
-    ∷ (115 ∷ 116 ∷ 97 ∷ 109 ∷ 112 ∷ [], 4)
-    ∷ (115 ∷ 116 ∷ 97 ∷ 109 ∷ 112 ∷ 109 ∷ 111 ∷ 110 ∷ 116 ∷ 104 ∷ [], 5)
-    ∷ (115 ∷ 116 ∷ 97 ∷ 109 ∷ 112 ∷ 121 ∷ 101 ∷ 97 ∷ 114 ∷ [], 6)
-    ∷ (115 ∷ 112 ∷ 97 ∷ 110 ∷ [], 7)
-    ∷ (119 ∷ 101 ∷ 101 ∷ 107 ∷ [], 8)
+    (100 ∷ 97 ∷ 116 ∷ 101 ∷ [], kind.Date)
+    ∷ (109 ∷ 111 ∷ 110 ∷ 116 ∷ 104 ∷ [], kind.Month)
+    ∷ (121 ∷ 101 ∷ 97 ∷ 114 ∷ [], kind.Year)
+    ∷ (115 ∷ 116 ∷ 97 ∷ 109 ∷ 112 ∷ [], kind.Stamp)
+    ∷ (115 ∷ 116 ∷ 97 ∷ 109 ∷ 112 ∷ 109 ∷ 111 ∷ 110 ∷ 116 ∷ 104 ∷ [], kind.StampMonth)
+    ∷ (115 ∷ 116 ∷ 97 ∷ 109 ∷ 112 ∷ 121 ∷ 101 ∷ 97 ∷ 114 ∷ [], kind.StampYear)
+    ∷ (115 ∷ 112 ∷ 97 ∷ 110 ∷ [], kind.Span)
+    ∷ (119 ∷ 101 ∷ 101 ∷ 107 ∷ [], kind.Week)
     ∷ []
 
 -- the kind that a word names
-unfoldable pub kind_of : List ℕ → Option ℕ
+unfoldable pub kind_of : List ℕ → Option Kind
 kind_of w = named kinds w
 
 -- ---- a start or an end as a value
@@ -97,22 +98,22 @@ abbrev pub of_span : Option Duration → Option Value
 of_span p = option_map span_value p
 
 -- date-times on kinds 4 to 6, spans on 7, dates on all others
-unfoldable pub read_value : ℕ → List ℕ → Option Value
+unfoldable pub read_value : Kind → List ℕ → Option Value
 read_value kind s =
-    cond (over_date_times (pos kind)) (of_stamp (read_stamp s))
-    (cond (is_duration (pos kind)) (of_span (read_span s))
+    cond (over_date_times kind) (of_stamp (read_stamp s))
+    (cond (is_duration kind) (of_span (read_span s))
     (of_date (read_date s)))
 
 -- ---- the line
-abbrev pub request : ℕ → Value → Value → ℤ → ℤ → ℤ → Request
+abbrev pub request : Kind → Value → Value → ℤ → ℤ → ℤ → Request
 request kind a b n l h = record {
-  axis = axis_of (pos kind) a.head a.tail b.head b.tail (pos 0);
+  axis = record { kind = kind; start = a; end = b; end_excluded = false };
   hint = record { n = n };
   limits = record { low = l; high = h };
 }
 
 -- start, end, hint, low and high, each in its form
-abbrev pub request_of : ℕ → Option Value → Option Value → Option ℤ → Option ℤ → Option ℤ → Option Request
+abbrev pub request_of : Kind → Option Value → Option Value → Option ℤ → Option ℤ → Option ℤ → Option Request
 request_of kind (Some a) (Some b) (Some n) (Some l) (Some h) = Some (request kind a b n l h)
 request_of kind (Some a) (Some b) (Some n) (Some l) None = None
 request_of kind (Some a) (Some b) (Some n) None h = None
@@ -121,7 +122,7 @@ request_of kind (Some a) None n l h = None
 request_of kind None b n l h = None
 
 -- all fields of a line of a kind
-abbrev pub fields_of : ℕ → List ℕ → Option Request
+abbrev pub fields_of : Kind → List ℕ → Option Request
 fields_of kind s =
     request_of kind (read_value kind (fields_from 1 s)) (read_value kind (fields_from 2 s))
     (read_number (fields_from 3 s))

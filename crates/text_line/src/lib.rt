@@ -2,7 +2,7 @@
 // without the LF; its fields are kind start end hint low high, with one space between them.
 #![tactic(auto)]
 
-ghost use Rattle.std.specs.Prelude.{◌≡◌, ◌≤◌, ◌<◌, ◌^◌, IfSome};
+ghost use Rattle.std.specs.Prelude.{◌≡◌, ◌<◌, ◌^◌};
 ghost use Rattle.std.specs.List.{find};
 ghost use Rattle.std.specs.Option.{option_map};
 ghost use Rattle.laws.specs.Units.{per_second, per_day};
@@ -14,21 +14,21 @@ ghost use Rattle.text_line.specs.Line.{read_value, read_line};
 use axis::{Axis, BoldPoints, Limits};
 use calendar::Ymd;
 use text_read::{Day, Duration, Moment};
-use values::Value;
+use values::{Kind, Value};
 
 // The names line.
 const NAMES: &[u8] = b"kind start end hint low high";
 
-// The kinds' words and numbers.
-const KINDS: [(&[u8], u64); 8] = [
-    (b"date", 1),
-    (b"month", 2),
-    (b"year", 3),
-    (b"stamp", 4),
-    (b"stampmonth", 5),
-    (b"stampyear", 6),
-    (b"span", 7),
-    (b"week", 8),
+// The kinds by their words.
+const KINDS: [(&[u8], Kind); 8] = [
+    (b"date", Kind::Date),
+    (b"month", Kind::Month),
+    (b"year", Kind::Year),
+    (b"stamp", Kind::Stamp),
+    (b"stampmonth", Kind::StampMonth),
+    (b"stampyear", Kind::StampYear),
+    (b"span", Kind::Span),
+    (b"week", Kind::Week),
 ];
 
 // What is typed in form and is not real: no value of the kinds over dates and date-times, whose heads begin at 1.
@@ -50,16 +50,15 @@ pub fn is_names(s: &[u8]) -> bool
 }
 
 // What the word names, of words beside what they name.
-fn named(words: &[(&[u8], u64)], w: &[u8]) -> Option<u64>
+fn named(words: &[(&[u8], Kind)], w: &[u8]) -> Option<Kind>
     ensures { result ≡ option_map (λ p. p.1) (find (λ p. same_as w.now p.0.now) words.now) }
 {
     words.iter().find(|p| w == p.0).map(|p| p.1)
 }
 
 // The kind that the word names.
-fn kind_of(w: &[u8]) -> Option<u64>
-    ensures value { result ≡ kind_of w.now }
-    ensures bound { IfSome result (λ k. k ≤ 8) }
+fn kind_of(w: &[u8]) -> Option<Kind>
+    ensures { result ≡ kind_of w.now }
 {
     named(&KINDS, w)
 }
@@ -134,16 +133,14 @@ fn span_value(p: Duration) -> Value
 }
 
 // A start or an end of the kind, from the field's start.
-fn read_value(kind: u64, s: &[u8]) -> Option<Value>
+fn read_value(kind: Kind, s: &[u8]) -> Option<Value>
     ensures { result ≡ read_value kind s.now }
 {
-    if (4 <= kind) & (kind <= 6) {
-        return Some(stamp_value(text_read::stamp(s)?));
+    match kind {
+        Kind::Stamp | Kind::StampMonth | Kind::StampYear => Some(stamp_value(text_read::stamp(s)?)),
+        Kind::Span => Some(span_value(text_read::span(s)?)),
+        Kind::Date | Kind::Month | Kind::Year | Kind::Week => Some(on_day(text_read::date(s)?, 0)),
     }
-    if (7 <= kind) & (kind <= 7) {
-        return Some(span_value(text_read::span(s)?));
-    }
-    Some(on_day(text_read::date(s)?, 0))
 }
 
 // The request, if every field has its form.
@@ -165,7 +162,12 @@ pub fn read_line(s: &[u8]) -> Option<Request>
     let low = text_read::number(d)?;
     let high = text_read::number(e)?;
     Some(Request {
-        axis: axis::axis_of(kind as i64, start.head, start.tail, end.head, end.tail, 0),
+        axis: Axis {
+            kind,
+            start,
+            end,
+            end_excluded: false,
+        },
         hint: BoldPoints { n },
         limits: Limits { low, high },
     })

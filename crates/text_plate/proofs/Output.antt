@@ -7,8 +7,8 @@ use Prim.Native.Nat.{ℕ, zero, suc, ◌+◌, ◌-◌, ◌≤◌, ◌<◌}
 use native.Mathlib.Numerals.{add-one}
 use native.Mathlib.Omega.{arith}
 use lib.Dec.{eqb, ltb}
-use lib.ListN.{length, take, drop}
-use lib.Seq.{take_all}
+use lib.ListN.{length, take, drop, drop_of_length-le}
+use lib.Seq.{take_all, drop-drop}
 use borrow.Author.Tests.{ltb-true, ltb-false}
 use Rattle.std.specs.Prelude.{Option, Some, None, IfSome}
 use Rattle.arrayvec.specs.ArrayVec.{ArrayVec}
@@ -18,7 +18,7 @@ use Rattle.text_read.specs.Lines.{Lines, byte_before, lines_of}
 use Rattle.text_line.specs.Line.{is_names}
 use Rattle.text_write.specs.Texts.{Wrote}
 use Rattle.feed.specs.Feed.{Ate}
-use Rattle.feed.proofs.Keeping.{take_front, shorter}
+use Rattle.feed.proofs.Keeping.{take_front, behind}
 use Rattle.text_rows.specs.Answers.{rows_of}
 use Rattle.text_plate.specs.Plate.{output_names, no_names, lines_text, plate_text, plate_of}
 use Rattle.text_plate.specs.declared.State.{State}
@@ -125,6 +125,7 @@ most = 18446744073709551615
 pub turned_on : (s : State) (chunk : List ℕ) (line out : ArrayVec ℕ) → Ate s.line.items chunk None line.items →
     Turned s chunk (Some []) (record { number = s.number; line = line }) out out
 turned_on s chunk line out h = record {
+  ending = sym (drop_of_length-le chunk (omega arith));
   shorter = omega arith;
   counted = omega arith;
   output = λ l more. ap (λ (x : List ℕ). out.items ++ x) (turn_on s.number s.line.items chunk line.items more h);
@@ -138,7 +139,7 @@ pub turned_end : (s : State) (chunk rest line : List ℕ) (clear : ArrayVec ℕ)
 turned_end s chunk rest line clear {before} {out} {k} {n} g h goes e next w = by_goes g goes
   where
     less : length rest < length chunk
-    less = shorter s.line.items chunk rest line h
+    less = (behind s.line.items chunk rest line h).0
 
     written : (more x : List ℕ) → cond (goes_on s.number line) (to_come (suc s.number) [] (rest ++ more)) [] ≡ x →
         before.items ++ to_come s.number s.line.items (chunk ++ more) ≡ out.items ++ x
@@ -149,6 +150,7 @@ turned_end s chunk rest line clear {before} {out} {k} {n} g h goes e next w = by
     by_goes : (g : Bool) → g ≡ goes_on s.number line →
         Turned s chunk (cond g (Some rest) None) (record { number = n; line = clear }) before out
     by_goes true q = record {
+      ending = (behind s.line.items chunk rest line h).1;
       shorter = omega (arith, less);
       counted = omega (arith, less, next.1);
       output = λ l more.
@@ -157,6 +159,7 @@ turned_end s chunk rest line clear {before} {out} {k} {n} g h goes e next w = by
           written more (to_come n clear.items (rest ++ more)) (rw (← q, m, e));
     }
     by_goes false q = record {
+      ending = tt;
       shorter = tt;
       counted = tt;
       output = λ l more. written more [] (rw (← q));
@@ -167,11 +170,21 @@ turned_end s chunk rest line clear {before} {out} {k} {n} g h goes e next w = by
 pub turned_both : {s t u : State} {chunk rest : List ℕ} {left : Option (List ℕ)} {before out last : ArrayVec ℕ} →
     Turned s chunk (Some rest) t before out → Turned t rest left u out last → Turned s chunk left u before last
 turned_both {s} {t} {u} {chunk} {rest} {left} a b = record {
+  ending = end left b.ending b.shorter;
   shorter = less left b.shorter;
   counted = count left b.counted;
   output = λ l more. a.output l more ∙ b.output (omega (arith, a.counted)) more;
 }
   where
+    end : (o : Option (List ℕ)) → IfSome o (λ r. r ≡ drop (length rest - length r) rest) →
+        IfSome o (λ r. length r ≤ length rest - 1) → IfSome o (λ r. r ≡ drop (length chunk - length r) chunk)
+    end None e h = tt
+    end (Some r) e h =
+        let x = length chunk - length rest in
+        let y = length rest - length r in
+        let n : x + y ≡ length chunk - length r = omega (arith, a.shorter) in
+        e ∙ ap (drop y) a.ending ∙ drop-drop y x chunk ∙ ap (λ (k : ℕ). drop k chunk) n
+
     less : (o : Option (List ℕ)) → IfSome o (λ r. length r ≤ length rest - 1) → IfSome o (λ r. length r ≤ length chunk - 1)
     less None h = tt
     less (Some r) h = omega (arith, a.shorter)

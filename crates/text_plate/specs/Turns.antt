@@ -1,7 +1,7 @@
 -- The output by turns: what a finished line prints, what the end of the input prints, and what is still to come. The
 -- number 0 is that of the names line. Definitions only.
 use Rattle.std.specs.Prelude.{◌≡◌, Bool, true, cond, List, [], ◌∷◌, ◌++◌, ℕ, zero, suc, ◌+◌, ◌-◌, ◌≤◌}
-use Rattle.std.specs.Prelude.{eqb, length, Option, Some, None, IfSome}
+use Rattle.std.specs.Prelude.{eqb, length, drop, Option, Some, None, IfSome}
 use Rattle.asking.specs.declared.Refusal.TheVariants as refusal
 use Rattle.arrayvec.specs.ArrayVec.{ArrayVec}
 use Rattle.text_read.specs.Bytes.{line_feed}
@@ -40,10 +40,11 @@ abbrev pub still : Option (List ℕ) → State → List ℕ → List ℕ
 still None s more = []
 still (Some rest) s more = to_come s.number s.line.items (rest ++ more)
 
--- After a turn over a chunk, or several: some of it is read, no more lines are counted than bytes, and whatever input comes
--- after the chunk, what was still to be printed is what was written and what is to come after it. No input has so many lines
--- that the last number is reached
+-- After a turn over a chunk, or several: what is left is the chunk's end, some of the chunk is read, no more lines are
+-- counted than bytes, and whatever input comes after the chunk, what was still to be printed is what was written and what is
+-- to come after it. No input has so many lines that the last number is reached
 pub record Turned (s : State) (chunk : List ℕ) (left : Option (List ℕ)) (after : State) (before out : ArrayVec ℕ) : Type 0 where
+  pub ending : IfSome left (λ rest. rest ≡ drop (length chunk - length rest) chunk)
   pub shorter : IfSome left (λ rest. length rest ≤ length chunk - 1)
   pub counted : IfSome left (λ rest. after.number + length rest ≤ s.number + length chunk)
   pub output : s.number + length chunk ≤ 18446744073709551615 → (more : List ℕ)

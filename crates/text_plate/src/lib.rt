@@ -81,7 +81,8 @@ fn turn<'a>(s: &mut State, chunk: &'a [u8], lent: &mut Lent, out: &mut Output) -
     goes.then_some(rest)
 }
 
-// Turns over a chunk, while some of it is left, there is more to print, and there is room for what a line prints.
+// Turns over a chunk, while some of it is left, there is more to print, and there is room for what a line prints. The loop
+// counts nothing: a turn says what is left.
 pub fn turns<'a>(
     s: &mut State,
     chunk: &'a [u8],

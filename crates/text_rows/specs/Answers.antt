@@ -5,6 +5,7 @@ use Rattle.asking.specs.declared.Refusal.{Refusal}
 use Rattle.asking.specs.declared.Refusal.TheVariants as refusal
 use Rattle.laws.specs.Numbers.{pos_part}
 use Rattle.laws.specs.Units.{per_second}
+use Rattle.values.specs.declared.Kind.{Kind}
 use Rattle.values.specs.declared.Value.{Value}
 use Rattle.values.specs.Values.{is_value}
 use Rattle.axis.specs.declared.Axis.{Axis}
@@ -68,5 +69,5 @@ unfoldable pub rows_of : ℕ → List ℕ → List ℕ
 rows_of number s = line_text number (read_line s)
 
 -- every tick of a list is a value of its kind
-abbrev pub Printable : ℤ → List ℤ → Type 0
+abbrev pub Printable : Kind → List ℤ → Type 0
 Printable kind list = (i : ℕ) → i < length list / 2 → is_value kind (nth list i) ≡ true

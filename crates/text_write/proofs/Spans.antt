@@ -9,6 +9,7 @@ use lib.Signed.{lt_z}
 use Rattle.laws.specs.Numbers.{pos_part, neg_part}
 use Rattle.laws.specs.Units.{per_second}
 use Rattle.laws.proofs.Signed.{is_lt, is_ge, lt_true, lt_false, abs}
+use Rattle.values.specs.declared.Kind.TheVariants.{Span}
 use Rattle.values.specs.declared.Value.{Value}
 use Rattle.values.specs.Values.{is_value}
 use Rattle.values.specs.Differences.{nanoseconds}
@@ -26,18 +27,18 @@ by_seconds shown t s q below b e l =
     let y : nat_abs t % per_second ≡ q = omega arith in
     rw (b, x, y)
 
-module _ (shown : Bool) (v : Value) (value : is_value (pos 7) v ≡ true) where
+module _ (shown : Bool) (v : Value) (value : is_value Span v ≡ true) where
   abbrev t : ℤ
-  t = nanoseconds (pos 7) v
+  t = nanoseconds Span v
 
   pub tail_most : pos_part v.tail < per_second
-  tail_most = omega (arith, duration_value (pos 7) v value refl)
+  tail_most = omega (arith, duration_value Span v value refl)
 
   pub from_zero : (s q : ℕ) → lt_z v.head (pos 0) ≡ false → s ≡ nat_abs v.head → q ≡ pos_part v.tail →
       decimal_text s ++ fraction_text shown q ≡ span_text shown t
   unfolding nanoseconds
   from_zero s q h e f =
-      let r = duration_value (pos 7) v value refl in
+      let r = duration_value Span v value refl in
       let j = joint v.head v.tail per_second in
       let x = not_below v.head (omega (arith, lt_false v.head (pos 0) h)) in
       let y = not_below t (omega arith) in
@@ -49,7 +50,7 @@ module _ (shown : Bool) (v : Value) (value : is_value (pos 7) v ≡ true) where
       (minus_byte ∷ []) ++ decimal_text s ++ fraction_text shown q ≡ span_text shown t
   unfolding nanoseconds
   below_zero s q h e l =
-      let r = duration_value (pos 7) v value refl in
+      let r = duration_value Span v value refl in
       let j = joint v.head v.tail per_second in
       let z : pos_part v.head < neg_part v.head = omega (arith, lt_true v.head (pos 0) h) in
       let x = not_above v.head (omega arith) in

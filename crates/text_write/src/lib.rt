@@ -4,6 +4,7 @@
 ghost use Rattle.std.specs.Prelude.{◌≡◌, true, ◌+◌, ◌≤◌, pos};
 ghost use Rattle.laws.specs.Numbers.{pos_part};
 ghost use Rattle.calendar.specs.Questions.{last_day};
+ghost use Rattle.values.specs.declared.Kind.TheVariants.{Span};
 ghost use Rattle.values.specs.Values.{is_value};
 ghost use Rattle.values.specs.Differences.{nanoseconds};
 ghost use Rattle.text_write.specs.Texts.{Room, Wrote, fixed_text, up_to_text, decimal_text, signed_text};
@@ -13,12 +14,13 @@ ghost use Rattle.text_write.specs.Rows.{tick_text, mark_text, row_text, refusal_
 use arrayvec::ArrayVec;
 use asking::Refusal;
 use mapping::Hairline;
-use values::Value;
+use values::{Kind, Value};
 
 // Lines that wait to be printed, in memory that does not grow: there is room for what a line of input prints, and for
 // 225,335 bytes before it, so a chunk of short lines is printed at once.
 pub type Output = ArrayVec<u8, 532610>;
 
+// Digits by hand: of `write!` std promises what is written only where it answers Ok, and no Err is excluded.
 // The last w digits of n.
 fn fixed(out: &mut Output, w: usize, n: u64)
     requires { Room w out.old }
@@ -129,8 +131,8 @@ pub fn pos_part(n: i64) -> u64
 // The sign, then the seconds and the fraction, both away from zero: the head is rounded down, so below zero a tail takes
 // one second from it and is what is left of that second.
 fn span(out: &mut Output, shown: bool, v: Value)
-    requires { (is_value (pos 7) v ≡ true) × Room 31 out.old }
-    ensures { Wrote 31 (span_text shown (nanoseconds (pos 7) v)) out.old out.new }
+    requires { (is_value Span v ≡ true) × Room 31 out.old }
+    ensures { Wrote 31 (span_text shown (nanoseconds Span v)) out.old out.new }
 {
     let n = v.head.unsigned_abs();
     let q = pos_part(v.tail);
@@ -149,18 +151,17 @@ fn span(out: &mut Output, shown: bool, v: Value)
 }
 
 // The value in its kind's form.
-fn tick(out: &mut Output, shown: bool, kind: i64, v: Value)
+fn tick(out: &mut Output, shown: bool, kind: Kind, v: Value)
     requires { (is_value kind v ≡ true) × Room 31 out.old }
     ensures { Wrote 31 (tick_text shown kind v) out.old out.new }
 {
-    let day = pos_part(v.head);
-    if (4 <= kind) & (kind <= 6) {
-        return date_time(out, shown, day, pos_part(v.tail));
+    match kind {
+        Kind::Date | Kind::Month | Kind::Year | Kind::Week => date(out, pos_part(v.head)),
+        Kind::Stamp | Kind::StampMonth | Kind::StampYear => {
+            date_time(out, shown, pos_part(v.head), pos_part(v.tail))
+        }
+        Kind::Span => span(out, shown, v),
     }
-    if (7 <= kind) & (kind <= 7) {
-        return span(out, shown, v);
-    }
-    date(out, day);
 }
 
 // The pixel, or '!' and the refusal's number.
@@ -182,7 +183,7 @@ pub fn row(
     out: &mut Output,
     number: u64,
     shown: bool,
-    kind: i64,
+    kind: Kind,
     v: Value,
     p: Result<Hairline, Refusal>,
 )

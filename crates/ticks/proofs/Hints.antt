@@ -1,106 +1,112 @@
 -- What the questions say of an axis and its hint, and of the finer axis. Assumes nothing.
-use mathlib.Core.Path.{◌≡◌, refl, sym, ◌∙◌, subst}
+use mathlib.Core.Path.{◌≡◌, refl, sym, ◌∙◌}
 use mathlib.Core.Logic.{inl, inr}
-use mathlib.Core.Bool.{Bool, true, false, ◌&&◌, ◌||◌}
+use mathlib.Core.Bool.{Bool, true, false, cond, true≢false, ◌&&◌, ◌||◌}
 use mathlib.Core.List.{[], ◌∷◌, ◌++◌}
 use Prim.Native.Nat.{ℕ, ◌*◌, ◌≤◌, ◌<◌}
-use native.Mathlib.Omega.{arith}
 use lib.Dec.{leb}
-use lib.IntN.{ℤ, pos, ◌-ℤ◌}
-use mir.Syntax.{w64}
-use mir.Val.{SFits}
+use lib.IntN.{ℤ}
 use borrow.Author.Tests.{le-leb, lt-leb}
-use Rattle.laws.specs.Numbers.{within, pos_part, neg_part}
+use Rattle.std.specs.Prelude.{Some, None}
+use Rattle.laws.specs.Numbers.{pos_part, neg_part}
 use Rattle.asking.specs.declared.Refusal.TheVariants as refusal
 use Rattle.asking.specs.Asking.{ask, passes}
 use Rattle.asking.proofs.Asked.{told, fewer, passes_append}
-use Rattle.laws.proofs.Signed.{same, count_fits}
 use Rattle.laws.proofs.Tests.{both_true, and_false}
+use Rattle.values.specs.declared.Kind.{Kind}
+use Rattle.values.specs.declared.Kind.TheVariants as kind
 use Rattle.values.specs.declared.Value.{Value}
-use Rattle.values.specs.Values.{is_duration, is_value}
-use Rattle.values.proofs.Numbers.{within_true, either_true}
+use Rattle.values.specs.Values.{over_dates, over_date_times, is_stamp, is_duration, is_value}
+use Rattle.values.proofs.Numbers.{either_true}
+use Rattle.values.proofs.Values.{duration_no_dates}
 use Rattle.axis.specs.declared.Axis.{Axis}
 use Rattle.axis.specs.declared.BoldPoints.{BoldPoints}
 use Rattle.axis.specs.declared.LightPoints.{LightPoints}
 use Rattle.axis.specs.declared.Hint.{Hint}
 use Rattle.axis.specs.declared.Hint.TheVariants.{Bold, Light}
-use Rattle.axis.specs.Axes.{start, end, closed}
-use Rattle.axis.specs.Questions.{is_kind, known, ends, in_order, has_period, bold_hint, light_hint, hint_on, axis_questions}
+use Rattle.axis.specs.Axes.{closed}
+use Rattle.axis.specs.Questions.{ends, in_order, has_period, bold_hint, light_hint, hint_on, axis_questions}
 use Rattle.axis.proofs.Axes.{both_ends}
 use Rattle.axis.proofs.ClosedAxes.{same_kind, axis_passed}
 use Rattle.axis.proofs.Questions as asks
 use Rattle.axis.proofs.Questions.{other_kind, bold_range, light_range}
-use Rattle.counting.specs.Counting.{monthly, yearly, size_of}
+use Rattle.counting.specs.Counting.{counts_months, counts_years, monthly, yearly, size_of}
 use Rattle.counting.proofs.Counting.{monthly_dated, yearly_dated}
 use Rattle.plans.specs.Plans.{Accepted}
 use Rattle.plans.proofs.Cases.{choose}
-use Rattle.keypoints.specs.Hints.{limit, finer}
+use Rattle.keypoints.specs.Hints.{limit, finer_kind, finer}
 use Rattle.ticks.specs.Answers.{tick_questions, period_questions}
 use Rattle.ticks.specs.Plans.{refined, axis_for, points}
 
--- ---- the kinds that have a finer one, which is over the same values
-record Coarse (k : ℤ) : Type 0 where
-  known : within (pos 1) (k -ℤ pos 1) (pos 8) ≡ true
-  value : (v : Value) → is_value (k -ℤ pos 1) v ≡ is_value k v
-  days : is_duration (k -ℤ pos 1) ≡ false
-  many : within (pos 4) (k -ℤ pos 1) (pos 7) ≡ true → within (pos 4) k (pos 7) ≡ true
-  fits : SFits w64 (k -ℤ pos 1)
+-- ---- the finer kind, which is over the same values
+same_dates : (k : Kind) → over_dates (finer_kind k) ≡ over_dates k
+same_dates kind.Date = refl
+same_dates kind.Month = refl
+same_dates kind.Year = refl
+same_dates kind.Stamp = refl
+same_dates kind.StampMonth = refl
+same_dates kind.StampYear = refl
+same_dates kind.Span = refl
+same_dates kind.Week = refl
 
-two : Coarse (pos 2)
-unfolding is_value
-two = record { known = refl; value = λ v. refl; days = refl; many = λ e. e; fits = count_fits 1 (omega arith) }
+same_times : (k : Kind) → over_date_times (finer_kind k) ≡ over_date_times k
+same_times kind.Date = refl
+same_times kind.Month = refl
+same_times kind.Year = refl
+same_times kind.Stamp = refl
+same_times kind.StampMonth = refl
+same_times kind.StampYear = refl
+same_times kind.Span = refl
+same_times kind.Week = refl
 
-three : Coarse (pos 3)
-unfolding is_value
-three = record { known = refl; value = λ v. refl; days = refl; many = λ e. e; fits = count_fits 2 (omega arith) }
+same_durations : (k : Kind) → is_duration (finer_kind k) ≡ is_duration k
+same_durations kind.Date = refl
+same_durations kind.Month = refl
+same_durations kind.Year = refl
+same_durations kind.Stamp = refl
+same_durations kind.StampMonth = refl
+same_durations kind.StampYear = refl
+same_durations kind.Span = refl
+same_durations kind.Week = refl
 
-five : Coarse (pos 5)
+same_values : (k : Kind) (v : Value) → is_value (finer_kind k) v ≡ is_value k v
 unfolding is_value
-five = record { known = refl; value = λ v. refl; days = refl; many = λ e. refl; fits = count_fits 4 (omega arith) }
-
-six : Coarse (pos 6)
-unfolding is_value
-six = record { known = refl; value = λ v. refl; days = refl; many = λ e. e; fits = count_fits 5 (omega arith) }
+same_values k v = rw (same_dates k, same_times k, same_durations k)
 
 module _ (a : Axis) where
-  pub kind_is : (m : ℕ) → is_kind m a ≡ true → a.kind ≡ pos m
-  kind_is m e = let r = within_true (pos m) a.kind (pos m) e in same a.kind (pos m) (omega arith)
+  -- what the code finds of its kind
+  pub has_finer : {k : Kind} → Some k ≡ cond (counts_months a.kind || counts_years a.kind) (Some (finer_kind a.kind)) None →
+      (monthly a || yearly a ≡ true) × (k ≡ finer_kind a.kind)
+  unfolding monthly yearly
+  has_finer {k} f = go (counts_months a.kind || counts_years a.kind) f
+    where
+      go : (b : Bool) → Some k ≡ cond b (Some (finer_kind a.kind)) None → (b ≡ true) × (k ≡ finer_kind a.kind)
+      go true e = (refl, let z : k ≡ finer_kind a.kind = cc in z)
+      go false e = absurd (let z : ⊥ = cc in z)
 
-  of_kind : (P : ℤ → Type 0) (m : ℕ) → is_kind m a ≡ true → P (pos m) → P a.kind
-  of_kind P m e p = subst P (sym (kind_is m e)) p
+  pub none_finer : None ≡ cond (counts_months a.kind || counts_years a.kind) (Some (finer_kind a.kind)) None →
+      monthly a || yearly a ≡ false
+  unfolding monthly yearly
+  none_finer f = go (counts_months a.kind || counts_years a.kind) f
+    where
+      go : (b : Bool) → None ≡ cond b (Some (finer_kind a.kind)) None → b ≡ false
+      go true e = absurd (let z : ⊥ = cc in z)
+      go false e = refl
 
   module _ (e : monthly a || yearly a ≡ true) where
-    coarse : Coarse a.kind
-    unfolding monthly yearly
-    coarse =
-        elim (either_true (monthly a) (yearly a) e) [
-          | inl x ↦ elim (either_true (is_kind 2 a) (is_kind 5 a) x) [
-            | inl y ↦ of_kind Coarse 2 y two
-            | inr y ↦ of_kind Coarse 5 y five
-          ]
-          | inr x ↦ elim (either_true (is_kind 3 a) (is_kind 6 a) x) [
-            | inl y ↦ of_kind Coarse 3 y three
-            | inr y ↦ of_kind Coarse 6 y six
-          ]
-        ]
-
     pub no_duration : is_duration a.kind ≡ false
     no_duration = elim (either_true (monthly a) (yearly a) e) [ inl x ↦ monthly_dated a x | inr x ↦ yearly_dated a x ]
 
-    pub kind_fits : SFits w64 (a.kind -ℤ pos 1)
-    kind_fits = coarse.fits
-
     finer_accepted : (n : ℕ) → Accepted a n → Accepted (finer a) n
-    unfolding known ends in_order
+    unfolding ends in_order
     finer_accepted n q =
         let v = both_ends a q.real in
         record {
-          kind = coarse.known;
-          real = rw (coarse.value (start a) ∙ v.first, coarse.value (end a) ∙ v.second);
+          real = rw (same_values a.kind a.start, same_values a.kind a.end, v.first, v.second);
           order = q.order;
-          near = sym (other_kind (finer a) coarse.days);
+          near = sym (other_kind (finer a) (rw (same_durations a.kind) no_duration));
           most = q.most;
-          some = λ m. q.some (coarse.many m);
+          some = λ m. q.some (rw (same_dates a.kind) at m);
         }
 
 module _ (a : Axis) (b : ℕ) where
@@ -111,10 +117,10 @@ module _ (a : Axis) (b : ℕ) where
       (λ e. finer_accepted a (both_true (monthly a || yearly a) (leb (size_of a) (2 * b)) e).0 n q) (λ _. q)
 
   -- the ends stay
-  refined_ends : (start (refined b a) ≡ start a) × (end (refined b a) ≡ end a)
+  refined_ends : ((refined b a).start ≡ a.start) × ((refined b a).end ≡ a.end)
   unfolding refined
   refined_ends =
-      choose (λ (x : Axis). (start x ≡ start a) × (end x ≡ end a)) ((monthly a || yearly a) && leb (size_of a) (2 * b))
+      choose (λ (x : Axis). (x.start ≡ a.start) × (x.end ≡ a.end)) ((monthly a || yearly a) && leb (size_of a) (2 * b))
       (λ _. (refl, refl)) (λ _. (refl, refl))
 
   -- and so do the values of its kind
@@ -122,7 +128,7 @@ module _ (a : Axis) (b : ℕ) where
   unfolding refined
   refined_value v =
       choose (λ (x : Axis). is_value x.kind v ≡ is_value a.kind v) ((monthly a || yearly a) && leb (size_of a) (2 * b))
-      (λ e. (coarse a (both_true (monthly a || yearly a) (leb (size_of a) (2 * b)) e).0).value v) (λ _. refl)
+      (λ _. same_values a.kind v) (λ _. refl)
 
   -- ---- as the code finds it
   pub stays_fine : monthly a || yearly a ≡ false → a ≡ refined b a
@@ -145,13 +151,31 @@ row_accepted a has hint n e f =
     let row = axis_questions has a ++ (ask refusal.Hint hint ∷ []) in
     let r = f (told 6 row e) in
     record {
-      kind = told 1 row e;
       real = told 3 row e;
       order = told 4 row e;
       near = told 5 row e;
       most = r.most;
       some = r.some;
     }
+
+-- kinds 4 and 7 are over no dates: they have a hint of 1 at least
+period_no_dates : (a : Axis) → has_period a ≡ true → over_dates a.kind ≡ false
+unfolding has_period
+period_no_dates a e =
+    elim (either_true (is_stamp a.kind) (is_duration a.kind) e) [
+      | inl x ↦ stamp_no_dates a.kind x
+      | inr x ↦ duration_no_dates a.kind x
+    ]
+  where
+    stamp_no_dates : (k : Kind) → is_stamp k ≡ true → over_dates k ≡ false
+    stamp_no_dates kind.Date e = absurd (true≢false (sym e))
+    stamp_no_dates kind.Month e = absurd (true≢false (sym e))
+    stamp_no_dates kind.Year e = absurd (true≢false (sym e))
+    stamp_no_dates kind.Stamp e = refl
+    stamp_no_dates kind.StampMonth e = absurd (true≢false (sym e))
+    stamp_no_dates kind.StampYear e = absurd (true≢false (sym e))
+    stamp_no_dates kind.Span e = absurd (true≢false (sym e))
+    stamp_no_dates kind.Week e = absurd (true≢false (sym e))
 
 pub limit_is : (h : Hint) → pos_part (points h) ≡ limit h
 limit_is (Bold h) = refl
@@ -194,7 +218,7 @@ module _ (a : Axis) where
       let b = pos_part h.bold in
       refined_accepted (refined b a) b (pos_part h.n) (refined_accepted a b (pos_part h.n) (accepted (Light h) e))
 
-  pub listing_ends : (h : Hint) → (start (axis_for a h) ≡ start a) × (end (axis_for a h) ≡ end a)
+  pub listing_ends : (h : Hint) → ((axis_for a h).start ≡ a.start) × ((axis_for a h).end ≡ a.end)
   listing_ends (Bold h) = (refl, refl)
   listing_ends (Light h) =
       let b = pos_part h.bold in
@@ -208,23 +232,11 @@ module _ (a : Axis) where
       let b = pos_part h.bold in
       refined_value (refined b a) b v ∙ refined_value a b v
 
-  -- ---- the period: kinds 4 and 7 have a hint of 1 at least
-  many : has_period a ≡ true → within (pos 4) a.kind (pos 7) ≡ true
-  unfolding has_period
-  many e =
-      elim (either_true (is_kind 4 a) (is_kind 7 a) e) [
-        | inl x ↦ of_kind a (λ (k : ℤ). within (pos 4) k (pos 7) ≡ true) 4 x refl
-        | inr x ↦ of_kind a (λ (k : ℤ). within (pos 4) k (pos 7) ≡ true) 7 x refl
-      ]
-
   pub period_accepted : (h : BoldPoints) → passes (period_questions a h) ≡ true →
       Accepted a (pos_part h.n) × (1 ≤ pos_part h.n) × (neg_part h.n ≡ 0)
   period_accepted h e =
       let row = period_questions a h in
       let q = row_accepted a (has_period a) (hint_on a (Bold h)) h.n e (bold_range a h) in
-      (q, q.some (many (told 2 row e)), (bold_range a h (told 6 row e)).none_below)
-
--- what going to a finer axis rests on
-pub ruleset coarse_kinds = (no_duration, kind_fits)
+      (q, q.some (period_no_dates a (told 2 row e)), (bold_range a h (told 6 row e)).none_below)
 
 pub ruleset light_hints = (accepted, light_counts, refined_accepted)

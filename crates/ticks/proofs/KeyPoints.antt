@@ -1,8 +1,7 @@
 -- The list of a plan is the Rust's list, for both hints; and so is the period. Assumes nothing.
 use mathlib.Core.Path.{◌≡◌, refl, sym, ap, ◌∙◌}
-use mathlib.Core.Bool.{Bool, true, false, cond, not, ◌||◌}
+use mathlib.Core.Bool.{Bool, true, false, cond, true≢false, not, ◌||◌}
 use mathlib.Core.List.{List}
-use mathlib.Core.Logic.{inl, inr}
 use Prim.Native.Nat.{ℕ, ◌*◌, ◌≤◌, ◌<◌}
 use native.Mathlib.Decide.{dec_le}
 use native.Mathlib.Omega.{arith}
@@ -13,44 +12,56 @@ use Rattle.asking.specs.declared.Refusal.{Refusal}
 use Rattle.asking.specs.Asking.{asked, passes}
 use Rattle.asking.proofs.Asked.{passed, refused}
 use Rattle.laws.specs.Numbers.{pos_part}
+use Rattle.values.specs.declared.Kind.{Kind}
+use Rattle.values.specs.declared.Kind.TheVariants as kind
 use Rattle.values.specs.declared.Value.{Value}
 use Rattle.values.specs.Values.{is_duration}
-use Rattle.values.proofs.Numbers.{either_true}
 use Rattle.axis.specs.declared.Axis.{Axis}
 use Rattle.axis.specs.declared.BoldPoints.{BoldPoints}
 use Rattle.axis.specs.declared.Hint.{Hint}
 use Rattle.axis.specs.declared.Hint.TheVariants.{Bold, Light}
 use Rattle.axis.specs.Axes.{closed}
-use Rattle.axis.specs.Questions.{is_kind}
-use Rattle.counting.specs.Counting.{monthly, yearly, size_of}
+use Rattle.counting.specs.Counting.{counts_months, counts_years, monthly, yearly, size_of}
 use Rattle.steps.specs.Progression.{ticks}
 use Rattle.plans.specs.Times.{period_in}
 use Rattle.keypoints.specs.Times.{period_on}
 use Rattle.keypoints.specs.KeyPoints.{key_points}
-use Rattle.keypoints.specs.Hints.{limit, finer, monthly_light, yearly_light, light_key_points, key_points_in, turns_for}
-use Rattle.keypoints.specs.Hints.{key_points_for}
+use Rattle.keypoints.specs.Hints.{limit, finer_kind, finer, monthly_light, yearly_light, light_key_points, key_points_in}
+use Rattle.keypoints.specs.Hints.{turns_for, key_points_for}
 use Rattle.keypoints.proofs.KeyPoints.{period_on_law, key_points_same}
 use Rattle.ticks.specs.Answers.{tick_questions, ticks_of, period_questions, period_answer}
 use Rattle.ticks.specs.Plans.{refined, axis_for, plan_for}
-use Rattle.ticks.proofs.Hints.{kind_is, stays_fine, stays_coarse, goes_finer, listing_accepted, closed_passed}
+use Rattle.ticks.proofs.Hints.{stays_fine, stays_coarse, goes_finer, listing_accepted, closed_passed}
 use Rattle.ticks.proofs.Hints.{period_accepted}
 
 -- ---- the finer kinds: of months none is finer still, and years go to months
 month_finer : (a : Axis) → monthly a ≡ true → monthly (finer a) || yearly (finer a) ≡ false
 unfolding monthly yearly
-month_finer a e =
-    elim (either_true (is_kind 2 a) (is_kind 5 a) e) [
-      | inl x ↦ rw (kind_is a 2 x) refl
-      | inr x ↦ rw (kind_is a 5 x) refl
-    ]
+month_finer a e = go a.kind e
+  where
+    go : (k : Kind) → counts_months k ≡ true → counts_months (finer_kind k) || counts_years (finer_kind k) ≡ false
+    go kind.Date e = refl
+    go kind.Month e = refl
+    go kind.Year e = absurd (true≢false (sym e))
+    go kind.Stamp e = refl
+    go kind.StampMonth e = refl
+    go kind.StampYear e = absurd (true≢false (sym e))
+    go kind.Span e = refl
+    go kind.Week e = refl
 
 year_finer : (a : Axis) → yearly a ≡ true → monthly (finer a) ≡ true
 unfolding monthly yearly
-year_finer a e =
-    elim (either_true (is_kind 3 a) (is_kind 6 a) e) [
-      | inl x ↦ rw (kind_is a 3 x) refl
-      | inr x ↦ rw (kind_is a 6 x) refl
-    ]
+year_finer a e = go a.kind e
+  where
+    go : (k : Kind) → counts_years k ≡ true → counts_months (finer_kind k) ≡ true
+    go kind.Date e = e
+    go kind.Month e = absurd (true≢false (sym e))
+    go kind.Year e = refl
+    go kind.Stamp e = e
+    go kind.StampMonth e = absurd (true≢false (sym e))
+    go kind.StampYear e = refl
+    go kind.Span e = e
+    go kind.Week e = e
 
 -- ---- the axis that lists
 module _ (turns b n : ℕ) where

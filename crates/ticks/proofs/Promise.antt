@@ -12,7 +12,7 @@ use Rattle.asking.proofs.Asked.{answered_ok}
 use Rattle.values.specs.declared.Value.{Value}
 use Rattle.axis.specs.declared.Axis.{Axis}
 use Rattle.axis.specs.declared.Hint.{Hint}
-use Rattle.axis.specs.Axes.{start, end, closed, last}
+use Rattle.axis.specs.Axes.{closed, last}
 use Rattle.axis.proofs.ClosedAxes.{same_start}
 use Rattle.steps.specs.Progression.{ticks, Sound}
 use Rattle.steps.specs.Listing.{numbers, listed_of}
@@ -35,16 +35,16 @@ module _ (a : Axis) (h : Hint) (z : passes (tick_questions a h) ≡ true) where
   plan_sound = good.sound
 
   -- at most N + 1 ticks, each later than the one before, none after the end, none before the whole second of the start
-  pub key_points_fine : Fine (limit h) (start a) (end a) (numbers (key_points_for a h))
+  pub key_points_fine : Fine (limit h) a.start a.end (numbers (key_points_for a h))
   key_points_fine =
       let (s, e) = listing_ends a h in
       let l = numbers (ticks (plan_for a h)) in
-      rw (plan_same a h z) (subst (λ (v : Value). Fine (limit h) v (end a) l) s
-      (subst (λ (v : Value). Fine (limit h) (start (axis_for a h)) v l) e good.fine))
+      rw (plan_same a h z) (subst (λ (v : Value). Fine (limit h) v a.end l) s
+      (subst (λ (v : Value). Fine (limit h) (axis_for a h).start v l) e good.fine))
 
 -- the same of an axis whose end may be excluded: none after the last value that belongs to it
 pub ticks_fine : (a : Axis) (h : Hint) → passes (tick_questions a h) ≡ true →
-    Fine (limit h) (start a) (last a) (numbers (ticks_of a h))
+    Fine (limit h) a.start (last a) (numbers (ticks_of a h))
 unfolding ticks_of
 ticks_fine a h z =
     subst (λ (v : Value). Fine (limit h) v (last a) (numbers (key_points_for (closed a) h))) (same_start a)
@@ -52,15 +52,15 @@ ticks_fine a h z =
 
 -- the ticks that are read from the lent numbers after an accepted call
 pub list_fine : (a : Axis) (h : Hint) (d : List ℤ) (c : ℕ) → ticks_answer a h (length d) ≡ Ok c →
-    Fine (limit h) (start a) (last a) (take (2 * c) (ticks_written a h d))
+    Fine (limit h) a.start (last a) (take (2 * c) (ticks_written a h d))
 unfolding ticks_answer ticks_written
 list_fine a h d c e =
     let (z, f) = answered_ok (tick_questions a h) (listed_of (ticks_of a h) (length d)) c e in
-    rw z (read_fine (ticks_of a h) d (limit h) c (start a) (last a) (ticks_fine a h z) f)
+    rw z (read_fine (ticks_of a h) d (limit h) c a.start (last a) (ticks_fine a h z) f)
 
 -- the part that is handed back, which is empty after a refused call
-pub handed_fine : (a : Axis) (h : Hint) (k : ℕ) → Fine (limit h) (start a) (last a) (ticks_handed a h k)
+pub handed_fine : (a : Axis) (h : Hint) (k : ℕ) → Fine (limit h) a.start (last a) (ticks_handed a h k)
 unfolding ticks_handed
-handed_fine a h k = choose (λ (l : List ℤ). Fine (limit h) (start a) (last a) l) (passes (tick_questions a h))
-    (λ z. front_fine (ticks_of a h) k (limit h) (start a) (last a) (ticks_fine a h z))
-    (λ _. none_fine (limit h) (start a) (last a))
+handed_fine a h k = choose (λ (l : List ℤ). Fine (limit h) a.start (last a) l) (passes (tick_questions a h))
+    (λ z. front_fine (ticks_of a h) k (limit h) a.start (last a) (ticks_fine a h z))
+    (λ _. none_fine (limit h) a.start (last a))

@@ -3,7 +3,7 @@
 use mathlib.Core.Path.{◌≡◌, sym, ◌∙◌, ap}
 use mathlib.Core.Bool.{true, false}
 use Prim.Native.Nat.{ℕ, ◌*◌, ◌<◌}
-use lib.IntN.{ℤ, pos}
+use lib.IntN.{pos}
 use lib.ListN.{length}
 use Rattle.asking.specs.Asking.{passes}
 use Rattle.laws.specs.Numbers.{pos_part}
@@ -30,7 +30,7 @@ pub tick_value : (a : Axis) (h : Hint) → passes (tick_questions a h) ≡ true 
     is_value a.kind (nth (numbers (ticks_of a h)) i) ≡ true
 tick_value a h z = rw (ticks_same a h z) (λ i l.
     let v = nth (numbers (ticks (plan_for (closed a) h))) i in
-    ap (λ (k : ℤ). is_value k v) (sym (same_kind a))
+    ap (λ k. is_value k v) (sym (same_kind a))
     ∙ sym (listing_value (closed a) h v)
     ∙ plan.is_value_law (axis_for (closed a) h) (limit h) (listing_accepted (closed a) h (closed_passed a h z)) i l)
 

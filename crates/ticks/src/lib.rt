@@ -2,10 +2,12 @@
 // numbers. Count and list come from one plan.
 #![tactic(auto)]
 
-ghost use Rattle.std.specs.Prelude.{◌≡◌, true, ◌≤◌, length, Ok};
+ghost use Rattle.std.specs.Prelude.{◌≡◌, true, cond, ◌||◌, ◌≤◌, length, Some, None, Ok};
 ghost use Rattle.asking.specs.Asking.{asked, passes};
 ghost use Rattle.axis.specs.Axes.{closed};
 ghost use Rattle.axis.specs.Questions.{ends};
+ghost use Rattle.counting.specs.Counting.{counts_months, counts_years};
+ghost use Rattle.keypoints.specs.Hints.{finer_kind};
 ghost use Rattle.ticks.specs.Answers.{tick_questions, ticks_answer, ticks_written, ticks_handed};
 ghost use Rattle.ticks.specs.Answers.{period_questions, period_answer};
 ghost use Rattle.ticks.specs.Plans.{refined, axis_for, points, plan_for};
@@ -13,21 +15,33 @@ ghost use Rattle.ticks.specs.Plans.{refined, axis_for, points, plan_for};
 use asking::{Refusal, ask};
 use axis::{Axis, BoldPoints, Hint};
 use steps::Steps;
+use values::Kind;
+
+// The finer kind, of those that count months or years: years go to months, and these to dates or date-times.
+fn finer_kind(kind: Kind) -> Option<Kind>
+    ensures { result ≡ cond (counts_months kind || counts_years kind) (Some (finer_kind kind)) None }
+{
+    match kind {
+        Kind::Month => Some(Kind::Date),
+        Kind::Year => Some(Kind::Month),
+        Kind::StampMonth => Some(Kind::Stamp),
+        Kind::StampYear => Some(Kind::StampMonth),
+        Kind::Date | Kind::Stamp | Kind::Span | Kind::Week => None,
+    }
+}
 
 // The finer axis, if the size is at most twice the bold count.
-#[tactic(auto, using(crate::proofs::Hints::coarse_kinds), unfolding(crate::specs::Plans::refined))]
 fn refined(bold: u64, a: Axis) -> Axis
     requires { (bold ≤ 4096) × (ends a ≡ true) }
     ensures { result ≡ refined bold a }
 {
-    if (counting::monthly(a) || counting::yearly(a)) && counting::size_of(a) <= 2 * bold {
-        Axis {
-            kind: a.kind - 1,
-            ..a
-        }
-    } else {
-        a
+    let Some(kind) = finer_kind(a.kind) else {
+        return a;
+    };
+    if 2 * bold < counting::size_of(a) {
+        return a;
     }
+    Axis { kind, ..a }
 }
 
 // The questions before the list's length is known.

@@ -20,6 +20,7 @@ use Rattle.laws.proofs.Signed.{add, mul_up, mul_dn, abs, same, fits, up_fits, dn
 use Rattle.laws.proofs.Tests.{both_true}
 use Rattle.calendar.specs.Questions.{is_day}
 use Rattle.calendar.proofs.Questions.{day_beyond}
+use Rattle.values.specs.declared.Kind.{Kind}
 use Rattle.values.specs.declared.Value.{Value}
 use Rattle.values.specs.Values.{is_duration, is_value, a_date_time}
 use Rattle.values.specs.Differences.{nanoseconds, fits_i64, whole_days}
@@ -271,7 +272,7 @@ days_sum v n = same _ (since_zero v +ℤ n *ℤ pos 86400000000000) (omega (
 ))
 
 -- ---- a start that is no duration is a date-time
-pub start_value : (k : ℤ) (v : Value) → is_value k v ≡ true → is_duration k ≡ false → a_date_time v ≡ true
+pub start_value : (k : Kind) (v : Value) → is_value k v ≡ true → is_duration k ≡ false → a_date_time v ≡ true
 start_value k v e d = let x = day_value k v e d in
     rw (
       is_le (pos 1) v.head (omega (arith, x.head_least, x.head_dn)),
@@ -281,7 +282,7 @@ start_value k v e d = let x = day_value k v e d in
     )
 
 -- from midnight of the day 0, by its kind
-pub start_is : (k : ℤ) (v : Value) → is_duration k ≡ false → since_zero v ≡ nanoseconds k v
+pub start_is : (k : Kind) (v : Value) → is_duration k ≡ false → since_zero v ≡ nanoseconds k v
 unfolding nanoseconds
 start_is k v e = rw e
 

@@ -11,7 +11,7 @@ use Rattle.values.specs.Values.{is_duration}
 use Rattle.values.specs.Differences.{nanoseconds, fits_i64, whole_days}
 use Rattle.axis.specs.declared.Axis.{Axis}
 use Rattle.axis.specs.declared.Limits.{Limits}
-use Rattle.axis.specs.Axes.{start, span_of}
+use Rattle.axis.specs.Axes.{span_of}
 use Rattle.axis.specs.Questions.{ends, in_order, unmap_pixels}
 
 -- does offset × factor fit, by the Rust's test? A factor below 0 never passes it
@@ -45,7 +45,7 @@ date_time_at z = record { head = pos (pos_part z / per_day); tail = pos (pos_par
 unfoldable pub unmap_coord : Axis → Limits → ℤ → Value
 unfolding moved_by
 unmap_coord a l pixel =
-    date_time_at (nanoseconds a.kind (start a) +ℤ moved_by (span_of a) (l.high -ℤ l.low) (pixel -ℤ l.low))
+    date_time_at (nanoseconds a.kind a.start +ℤ moved_by (span_of a) (l.high -ℤ l.low) (pixel -ℤ l.low))
 
 -- what was asked before
 pub record Unmappable (a : Axis) (l : Limits) (pixel : ℤ) : Type 0 where

@@ -8,7 +8,7 @@ ghost use Rattle.laws.specs.Numbers.{within, neg_part};
 ghost use Rattle.laws.specs.Units.{per_day};
 ghost use Rattle.values.specs.Values.{is_duration, a_date_time};
 ghost use Rattle.values.specs.Differences.{nanoseconds};
-ghost use Rattle.axis.specs.Axes.{start, span_of};
+ghost use Rattle.axis.specs.Axes.{span_of};
 ghost use Rattle.axis.specs.Questions.{ends, in_order, checked};
 ghost use Rattle.unmapping.specs.Unmapping.{Unmappable, unmap_coord, product_fits, moved_by, by_nanoseconds, by_days};
 ghost use Rattle.unmapping.specs.Moves.{since_zero, OnWidth, date_time_answer};
@@ -22,9 +22,10 @@ const DAY: i64 = 86400000000000;
 
 // Pixels from the low limit, and the width, which is not 0.
 #[derive(Clone, Copy)]
-pub struct Offset {
-    pub pixels: i64,
-    pub width: i64,
+struct Offset {
+    pixels: i64,
+    width: i64,
+    ghost on_width: { OnWidth pixels width },
 }
 
 // The date-time of a day and a nanosecond of it, if it is one of question 3.
@@ -59,7 +60,7 @@ fn days_away(v: Value, n: i64) -> Result<Value, Refusal>
 
 // The Rust's test that the product of pixels and nanoseconds fits.
 fn product_fits(o: Offset, s: i64) -> bool
-    requires { OnWidth o × (neg_part s ≡ 0) }
+    requires { neg_part s ≡ 0 }
     ensures { result ≡ product_fits o.pixels (quot_z s o.width) (rem_z s o.width) }
 {
     let factor = s / o.width;
@@ -73,7 +74,7 @@ fn product_fits(o: Offset, s: i64) -> bool
 
 // A span of s nanoseconds over the width.
 fn by_nanoseconds(v: Value, o: Offset, s: i64) -> Result<Value, Refusal>
-    requires { (a_date_time v ≡ true) × OnWidth o × (neg_part s ≡ 0)
+    requires { (a_date_time v ≡ true) × (neg_part s ≡ 0)
         × (product_fits o.pixels (quot_z s o.width) (rem_z s o.width) ≡ true) }
     ensures { result ≡ date_time_answer (since_zero v +ℤ by_nanoseconds s o.width o.pixels) }
 {
@@ -98,11 +99,11 @@ fn by_days(v: Value, o: Offset, span: i64) -> Result<Value, Refusal>
 // The date-time at an offset. The Rust's test never passes with a factor below 0, so that swapped limits and a span of at
 // least their width in nanoseconds go by whole days.
 fn date_time_at(a: Axis, o: Offset) -> Result<Value, Refusal>
-    requires { (is_duration a.kind ≡ false) × (ends a ≡ true) × (in_order a ≡ true) × OnWidth o }
+    requires { (is_duration a.kind ≡ false) × (ends a ≡ true) × (in_order a ≡ true) }
     ensures { result ≡ date_time_answer
-        (nanoseconds a.kind (start a) +ℤ moved_by (span_of a) o.width o.pixels) }
+        (nanoseconds a.kind a.start +ℤ moved_by (span_of a) o.width o.pixels) }
 {
-    let v = axis::start(a);
+    let v = a.start;
     let Some(s) = axis::span(a) else {
         return by_days(v, o, axis::span_days(a));
     };

@@ -9,6 +9,7 @@ use mir.Syntax.{w64}
 use mir.Val.{SFits}
 use Rattle.laws.specs.Numbers.{pos_part, neg_part}
 use Rattle.laws.proofs.Signed.{add, sub, mul_up, mul_dn, quot_up, quot_dn, fits, same}
+use Rattle.values.specs.declared.Kind.{Kind}
 use Rattle.values.specs.declared.Value.{Value}
 use Rattle.values.specs.Values.{over_dates, is_duration, is_value, Both, earlier}
 use Rattle.values.specs.Differences.{unit, nanoseconds, difference, whole_days}
@@ -29,7 +30,7 @@ pub record Near (a b : Value) (heads tails : ℕ) : Type 0 where
   pub tails_dn : neg_part (b.tail -ℤ a.tail) < tails
   pub tails_up : pos_part (b.tail -ℤ a.tail) < tails
 
-module _ (kind : ℤ) (a b : Value) (v : Both kind a b) where
+module _ (kind : Kind) (a b : Value) (v : Both kind a b) where
   pub days_near : is_duration kind ≡ false → Near a b 3652058 86400000000000
   days_near e =
       let x = day_value kind a v.first e in
@@ -89,7 +90,7 @@ apart_by a b k e =
       mul_dn a.head k,
     ))
 
-module _ (kind : ℤ) (a b : Value) where
+module _ (kind : Kind) (a b : Value) where
   pub days_apart : is_duration kind ≡ false → difference kind a b ≡ (b.head -ℤ a.head) *ℤ pos 86400000000000 +ℤ
       (b.tail -ℤ a.tail)
   unfolding difference
@@ -101,7 +102,7 @@ module _ (kind : ℤ) (a b : Value) where
   durations_apart e = rw e (sym (apart_by a b 1000000000 (omega (arith, sub b.head a.head))))
 
 -- ---- the parts of a difference
-module _ (kind : ℤ) (a b : Value) (v : Both kind a b) where
+module _ (kind : Kind) (a b : Value) (v : Both kind a b) where
   pub days_of : is_duration kind ≡ false → Of kind a b (record {
     heads = b.head -ℤ a.head;
     tails = b.tail -ℤ a.tail;
@@ -160,7 +161,7 @@ by_seconds x =
     ))
 
 -- no two values of a kind are further apart
-module _ (kind : ℤ) (a b : Value) (v : Both kind a b) where
+module _ (kind : Kind) (a b : Value) (v : Both kind a b) where
   abbrev apart : ℤ
   apart = difference kind a b
 
@@ -184,14 +185,14 @@ module _ (kind : ℤ) (a b : Value) (v : Both kind a b) where
           limited (b.head -ℤ a.head) (b.tail -ℤ a.tail) 86400000000000 (days_apart kind a b e) (omega arith) (omega arith)
 
 -- ---- the order of values is that of their nanoseconds
-tail_range : (kind : ℤ) (v : Value) → is_value kind v ≡ true → (neg_part v.tail ≡ 0) × (pos_part v.tail < unit kind)
+tail_range : (kind : Kind) (v : Value) → is_value kind v ≡ true → (neg_part v.tail ≡ 0) × (pos_part v.tail < unit kind)
 tail_range kind v e = go (is_duration kind) refl
   where
     go : (d : Bool) → is_duration kind ≡ d → (neg_part v.tail ≡ 0) × (pos_part v.tail < unit kind)
     go true f = let x = duration_value kind v e f in rw f (x.tail_dn, omega (arith, x.tail_most))
     go false f = let x = day_value kind v e f in rw f (x.tail_dn, omega (arith, x.tail_most))
 
-module _ (kind : ℤ) (a b : Value) (v : Both kind a b) where
+module _ (kind : Kind) (a b : Value) (v : Both kind a b) where
   ordered : (s : ℕ) → s ≤ 1 → Before a b s → neg_part (difference kind a b) + s ≤ pos_part (difference kind a b)
   unfolding difference
   ordered s l o =

@@ -1,65 +1,127 @@
 -- What a value of a kind is, in numbers that `omega` reads. Assumes nothing.
-use mathlib.Core.Path.{◌≡◌, sym, ◌∙◌}
+use mathlib.Core.Path.{◌≡◌, refl, sym, ◌∙◌}
 use mathlib.Core.Logic.{◌⊎◌, inl, inr}
-use mathlib.Core.Bool.{true, false, ◌&&◌, ◌||◌, true≢false}
-use Prim.Native.Nat.{ℕ, ◌≤◌, ◌<◌}
+use mathlib.Core.Bool.{true, false, ◌&&◌, true≢false}
+use Prim.Native.Nat.{ℕ, ◌≤◌}
 use native.Mathlib.Omega.{arith}
-use lib.IntN.{ℤ, pos}
-use lib.Signed.{le_z}
+use lib.IntN.{pos}
 use mir.Syntax.{w64}
 use mir.Val.{SFits}
-use Rattle.laws.specs.Numbers.{minus, within, is_number, pos_part, neg_part}
-use Rattle.laws.proofs.Signed.{le_true, same}
-use Rattle.laws.proofs.Tests.{both_true, and_true, and_false}
+use Rattle.laws.specs.Numbers.{minus, within, pos_part, neg_part}
+use Rattle.laws.proofs.Signed.{same}
+use Rattle.laws.proofs.Tests.{both_true}
+use Rattle.values.specs.declared.Kind.{Kind}
+use Rattle.values.specs.declared.Kind.TheVariants as kind
 use Rattle.values.specs.declared.Value.{Value}
-use Rattle.values.specs.Values.{over_dates, over_date_times, is_duration, a_date, a_date_time, a_duration, is_value}
+use Rattle.values.specs.Values.{over_dates, over_date_times, is_stamp, is_duration, a_date, a_date_time, a_duration, is_value}
 use Rattle.calendar.specs.Questions.{is_day}
-use Rattle.values.proofs.Numbers.{is_le, is_gt, within_true, not_below, bounded, either_true, or_false}
+use Rattle.values.proofs.Numbers.{within_true, not_below, bounded, either_true, or_false}
 
 -- ---- a kind has one row of the definition
-module _ (kind : ℤ) where
-  -- what it is to be over dates, in numbers
-  pub dates_range : over_dates kind ≡ true → (neg_part kind ≡ 0) × (1 ≤ pos_part kind)
-      × ((pos_part kind ≤ 3) ⊎ (pos_part kind ≡ 8))
-  unfolding over_dates
-  dates_range e = elim (either_true (within (pos 1) kind (pos 3)) (is_number kind 8) e) [
-    | inl x ↦ (let (l, h) = within_true (pos 1) kind (pos 3) x in
-        let z : neg_part kind ≡ 0 = not_below kind (omega arith) in (z, omega arith, inl (omega arith)))
-    | inr x ↦ (let (l, h) = within_true (pos 8) kind (pos 8) x in
-        let z : neg_part kind ≡ 0 = not_below kind (omega arith) in (z, omega arith, inr (omega arith)))
-  ]
+pub dates_no_times : (k : Kind) → over_dates k ≡ true → over_date_times k ≡ false
+dates_no_times kind.Date e = refl
+dates_no_times kind.Month e = refl
+dates_no_times kind.Year e = refl
+dates_no_times kind.Stamp e = absurd (true≢false (sym e))
+dates_no_times kind.StampMonth e = absurd (true≢false (sym e))
+dates_no_times kind.StampYear e = absurd (true≢false (sym e))
+dates_no_times kind.Span e = absurd (true≢false (sym e))
+dates_no_times kind.Week e = refl
 
-  pub no_dates : neg_part kind ≡ 0 → 3 < pos_part kind → pos_part kind < 8 → over_dates kind ≡ false
-  unfolding over_dates
-  no_dates z l h = rw (is_gt kind (pos 3) (omega arith), is_gt (pos 8) kind (omega arith), and_false)
+pub dates_no_duration : (k : Kind) → over_dates k ≡ true → is_duration k ≡ false
+dates_no_duration kind.Date e = refl
+dates_no_duration kind.Month e = refl
+dates_no_duration kind.Year e = refl
+dates_no_duration kind.Stamp e = absurd (true≢false (sym e))
+dates_no_duration kind.StampMonth e = absurd (true≢false (sym e))
+dates_no_duration kind.StampYear e = absurd (true≢false (sym e))
+dates_no_duration kind.Span e = absurd (true≢false (sym e))
+dates_no_duration kind.Week e = refl
 
-  pub dates_no_times : over_dates kind ≡ true → over_date_times kind ≡ false
-  dates_no_times e = elim (dates_range e).2 [
-    | inl h ↦ rw (is_gt (pos 4) kind (omega arith))
-    | inr h ↦ rw (is_gt kind (pos 6) (omega (arith, (dates_range e).0)), and_false)
-  ]
+pub times_no_dates : (k : Kind) → over_date_times k ≡ true → over_dates k ≡ false
+times_no_dates kind.Date e = absurd (true≢false (sym e))
+times_no_dates kind.Month e = absurd (true≢false (sym e))
+times_no_dates kind.Year e = absurd (true≢false (sym e))
+times_no_dates kind.Stamp e = refl
+times_no_dates kind.StampMonth e = refl
+times_no_dates kind.StampYear e = refl
+times_no_dates kind.Span e = absurd (true≢false (sym e))
+times_no_dates kind.Week e = absurd (true≢false (sym e))
 
-  pub dates_no_duration : over_dates kind ≡ true → is_duration kind ≡ false
-  dates_no_duration e = elim (dates_range e).2 [
-    | inl h ↦ rw (is_gt (pos 7) kind (omega arith))
-    | inr h ↦ rw (is_gt kind (pos 7) (omega (arith, (dates_range e).0)), and_false)
-  ]
+pub times_no_duration : (k : Kind) → over_date_times k ≡ true → is_duration k ≡ false
+times_no_duration kind.Date e = absurd (true≢false (sym e))
+times_no_duration kind.Month e = absurd (true≢false (sym e))
+times_no_duration kind.Year e = absurd (true≢false (sym e))
+times_no_duration kind.Stamp e = refl
+times_no_duration kind.StampMonth e = refl
+times_no_duration kind.StampYear e = refl
+times_no_duration kind.Span e = absurd (true≢false (sym e))
+times_no_duration kind.Week e = absurd (true≢false (sym e))
 
-  pub times_no_dates : over_date_times kind ≡ true → over_dates kind ≡ false
-  times_no_dates e = let (l, h) = within_true (pos 4) kind (pos 6) e in
-      let z : neg_part kind ≡ 0 = not_below kind (omega arith) in no_dates z (omega arith) (omega arith)
+pub duration_no_dates : (k : Kind) → is_duration k ≡ true → over_dates k ≡ false
+duration_no_dates kind.Date e = absurd (true≢false (sym e))
+duration_no_dates kind.Month e = absurd (true≢false (sym e))
+duration_no_dates kind.Year e = absurd (true≢false (sym e))
+duration_no_dates kind.Stamp e = absurd (true≢false (sym e))
+duration_no_dates kind.StampMonth e = absurd (true≢false (sym e))
+duration_no_dates kind.StampYear e = absurd (true≢false (sym e))
+duration_no_dates kind.Span e = refl
+duration_no_dates kind.Week e = absurd (true≢false (sym e))
 
-  pub times_no_duration : over_date_times kind ≡ true → is_duration kind ≡ false
-  times_no_duration e = let (l, h) = within_true (pos 4) kind (pos 6) e in rw (is_gt (pos 7) kind (omega arith))
+pub duration_no_times : (k : Kind) → is_duration k ≡ true → over_date_times k ≡ false
+duration_no_times kind.Date e = absurd (true≢false (sym e))
+duration_no_times kind.Month e = absurd (true≢false (sym e))
+duration_no_times kind.Year e = absurd (true≢false (sym e))
+duration_no_times kind.Stamp e = absurd (true≢false (sym e))
+duration_no_times kind.StampMonth e = absurd (true≢false (sym e))
+duration_no_times kind.StampYear e = absurd (true≢false (sym e))
+duration_no_times kind.Span e = refl
+duration_no_times kind.Week e = absurd (true≢false (sym e))
 
-  pub duration_no_dates : is_duration kind ≡ true → over_dates kind ≡ false
-  duration_no_dates e = let (l, h) = within_true (pos 7) kind (pos 7) e in
-      let z : neg_part kind ≡ 0 = not_below kind (omega arith) in no_dates z (omega arith) (omega arith)
+pub dates_no_stamp : (k : Kind) → over_dates k ≡ true → is_stamp k ≡ false
+dates_no_stamp kind.Date e = refl
+dates_no_stamp kind.Month e = refl
+dates_no_stamp kind.Year e = refl
+dates_no_stamp kind.Stamp e = absurd (true≢false (sym e))
+dates_no_stamp kind.StampMonth e = absurd (true≢false (sym e))
+dates_no_stamp kind.StampYear e = absurd (true≢false (sym e))
+dates_no_stamp kind.Span e = absurd (true≢false (sym e))
+dates_no_stamp kind.Week e = refl
 
-  pub duration_no_times : is_duration kind ≡ true → over_date_times kind ≡ false
-  duration_no_times e = let (l, h) = within_true (pos 7) kind (pos 7) e in rw (is_gt kind (pos 6) (omega arith), and_false)
+pub is_span : (k : Kind) → is_duration k ≡ true → k ≡ kind.Span
+is_span kind.Date e = absurd (true≢false (sym e))
+is_span kind.Month e = absurd (true≢false (sym e))
+is_span kind.Year e = absurd (true≢false (sym e))
+is_span kind.Stamp e = absurd (true≢false (sym e))
+is_span kind.StampMonth e = absurd (true≢false (sym e))
+is_span kind.StampYear e = absurd (true≢false (sym e))
+is_span kind.Span e = refl
+is_span kind.Week e = absurd (true≢false (sym e))
 
-module _ (kind : ℤ) (v : Value) where
+-- what is left is over date-times
+pub times_left : (k : Kind) → is_duration k ≡ false → over_dates k ≡ false → over_date_times k ≡ true
+times_left kind.Date n d = absurd (true≢false d)
+times_left kind.Month n d = absurd (true≢false d)
+times_left kind.Year n d = absurd (true≢false d)
+times_left kind.Stamp n d = refl
+times_left kind.StampMonth n d = refl
+times_left kind.StampYear n d = refl
+times_left kind.Span n d = absurd (true≢false n)
+times_left kind.Week n d = absurd (true≢false d)
+
+-- ---- what the arms of a match say
+pub in_dates : (k : Kind) → (k ≡ kind.Date) ⊎ ((k ≡ kind.Month) ⊎ ((k ≡ kind.Year) ⊎ (k ≡ kind.Week))) → over_dates k ≡ true
+in_dates k (inl e) = rw e
+in_dates k (inr (inl e)) = rw e
+in_dates k (inr (inr (inl e))) = rw e
+in_dates k (inr (inr (inr e))) = rw e
+
+pub in_times : (k : Kind) → (k ≡ kind.Stamp) ⊎ ((k ≡ kind.StampMonth) ⊎ (k ≡ kind.StampYear)) → over_date_times k ≡ true
+in_times k (inl e) = rw e
+in_times k (inr (inl e)) = rw e
+in_times k (inr (inr e)) = rw e
+
+module _ (kind : Kind) (v : Value) where
   pub of_dates : over_dates kind ≡ true → is_value kind v ≡ a_date v
   unfolding is_value
   of_dates e = rw (e, dates_no_times kind e, dates_no_duration kind e, or_false)
@@ -72,36 +134,8 @@ module _ (kind : ℤ) (v : Value) where
   unfolding is_value
   of_durations e = rw (duration_no_dates kind e, duration_no_times kind e, e)
 
-  -- by the code's test: no kind between 3 and 8
-  pub not_between : le_z kind (pos 3) || le_z (pos 8) kind ≡ true → is_value kind v ≡ within (pos 1) kind (pos 8) && a_date v
-  unfolding is_value over_dates
-  not_between e = elim (either_true (le_z kind (pos 3)) (le_z (pos 8) kind) e) [
-    | inl x ↦ (let h = le_true kind (pos 3) x in
-        rw (
-          x,
-          is_gt (pos 4) kind (omega arith),
-          is_gt (pos 7) kind (omega arith),
-          is_gt (pos 8) kind (omega arith),
-          is_le kind (pos 8) (omega arith),
-          and_true,
-          or_false,
-          or_false,
-        ))
-    | inr x ↦ (let h = le_true (pos 8) kind x in
-        rw (
-          x,
-          is_gt kind (pos 3) (omega arith),
-          is_gt kind (pos 6) (omega arith),
-          is_gt kind (pos 7) (omega arith),
-          is_le (pos 1) kind (omega arith),
-          and_false (le_z (pos 4) kind),
-          and_false (le_z (pos 7) kind),
-          or_false,
-        ))
-  ]
-
 -- a value of a kind is a date, a date-time or a duration
-pub by_form : {A : Type 0} (kind : ℤ) (v : Value) → is_value kind v ≡ true → (over_dates kind ≡ true → a_date v ≡ true → A) →
+pub by_form : {A : Type 0} (kind : Kind) (v : Value) → is_value kind v ≡ true → (over_dates kind ≡ true → a_date v ≡ true → A) →
     (over_date_times kind ≡ true → a_date_time v ≡ true → A) → (is_duration kind ≡ true → a_duration v ≡ true → A) → A
 unfolding is_value
 by_form kind v value f g h =
@@ -147,7 +181,7 @@ day_range v m l e =
     let zt : neg_part v.tail ≡ 0 = not_below v.tail (omega arith) in
     record { head_dn = zh; head_least = omega arith; head_most = omega arith; tail_dn = zt; tail_most = omega arith }
 
-module _ (kind : ℤ) (v : Value) (value : is_value kind v ≡ true) where
+module _ (kind : Kind) (v : Value) (value : is_value kind v ≡ true) where
   -- kinds 1 to 3 and 8
   pub date_value : over_dates kind ≡ true → DateValue v
   date_value e =

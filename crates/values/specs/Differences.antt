@@ -4,19 +4,21 @@ use Rattle.std.specs.Prelude.{Bool, cond, Option, Some, None, ℕ, ℤ, pos, ◌
 use Rattle.std.specs.Int.Signed.{quot_z}
 use Rattle.laws.specs.Numbers.{minus, within}
 use Rattle.laws.specs.Units.{per_second, per_day, seconds_per_day}
+use Rattle.values.specs.declared.Kind.{Kind}
+use Rattle.values.specs.declared.Kind.TheVariants.{Span}
 use Rattle.values.specs.declared.Value.{Value}
 use Rattle.values.specs.Values.{is_duration}
 
 -- what one of the head counts: the nanoseconds of a second, or of a day
-abbrev pub unit : ℤ → ℕ
+abbrev pub unit : Kind → ℕ
 unit kind = cond (is_duration kind) per_second per_day
 
 -- of a duration from zero, of a date or date-time from the midnight before 0001-01-01's
-unfoldable pub nanoseconds : ℤ → Value → ℤ
+unfoldable pub nanoseconds : Kind → Value → ℤ
 nanoseconds kind v = v.head *ℤ pos (unit kind) +ℤ v.tail
 
 -- from a to b
-unfoldable pub difference : ℤ → Value → Value → ℤ
+unfoldable pub difference : Kind → Value → Value → ℤ
 unfolding nanoseconds
 difference kind a b = nanoseconds kind b -ℤ nanoseconds kind a
 
@@ -35,7 +37,7 @@ whole_days d = quot_z d (pos per_day)
 -- ---- durations
 -- num_days(): the whole days of one, cut toward zero
 unfoldable pub days_in : Value → ℤ
-days_in v = whole_days (nanoseconds (pos 7) v)
+days_in v = whole_days (nanoseconds Span v)
 
 -- Duration::days(d)
 abbrev pub of_days : ℤ → Value

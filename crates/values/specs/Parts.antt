@@ -1,6 +1,7 @@
 -- A difference in two parts, heads and tails, which the crate's own functions hand on. Definitions only.
 use Rattle.std.specs.Prelude.{◌≡◌, ◌⊎◌, ◌≤◌, ◌<◌, ℤ, pos, ◌+ℤ◌, ◌*ℤ◌}
 use Rattle.laws.specs.Numbers.{minus, pos_part, neg_part}
+use Rattle.values.specs.declared.Kind.{Kind}
 use Rattle.values.specs.declared.Value.{Value}
 use Rattle.values.specs.declared.Parts.{Parts}
 use Rattle.values.specs.Differences.{unit, difference}
@@ -32,7 +33,7 @@ pub record TowardZero (unit x : ℤ) (v : Value) : Type 0 where
   pub side : ((neg_part v.head ≡ 0) × (neg_part v.tail ≡ 0)) ⊎ ((pos_part v.head ≡ 0) × (pos_part v.tail ≡ 0))
 
 -- the parts of the difference from a to b
-pub record Of (kind : ℤ) (a b : Value) (p : Parts) : Type 0 where
+pub record Of (kind : Kind) (a b : Value) (p : Parts) : Type 0 where
   pub sound : Bounded p
   pub unit_is : p.unit ≡ pos (unit kind)
   pub sum_is : sum p ≡ difference kind a b

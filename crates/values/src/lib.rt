@@ -4,9 +4,46 @@
 
 ghost use Rattle.std.specs.Prelude.{◌≡◌};
 ghost use Rattle.std.specs.Int.Signed.{quot_z};
-ghost use Rattle.values.specs.Values.{is_duration, is_value, Both};
+ghost use Rattle.values.specs.Values.{kind_of, over_dates, is_duration, is_value, Both};
 ghost use Rattle.values.specs.Differences.{difference, nanoseconds_of, whole_days};
 ghost use Rattle.values.specs.Parts.{Bounded, TowardZero, Of, sum};
+
+use asking::Refusal;
+
+// What an axis is over, and how it counts: days, months and years of dates; the same of date-times, but that Stamp counts
+// nothing; durations; weeks of dates. The numbers are those of ordered_kinds in include/ordered.h.
+#[derive(Clone, Copy, Debug, PartialEq, Eq)]
+pub enum Kind {
+    Date = 1,
+    Month = 2,
+    Year = 3,
+    Stamp = 4,
+    StampMonth = 5,
+    StampYear = 6,
+    Span = 7,
+    Week = 8,
+}
+
+// Question 1.
+impl TryFrom<i64> for Kind {
+    type Error = Refusal;
+
+    ghost try_from_gives = { λ n r. r ≡ kind_of n };
+
+    fn try_from(number: i64) -> Result<Kind, Refusal> {
+        match number {
+            1 => Ok(Kind::Date),
+            2 => Ok(Kind::Month),
+            3 => Ok(Kind::Year),
+            4 => Ok(Kind::Stamp),
+            5 => Ok(Kind::StampMonth),
+            6 => Ok(Kind::StampYear),
+            7 => Ok(Kind::Span),
+            8 => Ok(Kind::Week),
+            _ => Err(Refusal::Kind),
+        }
+    }
+}
 
 // Date: day number and 0. Date-time: day number and nanosecond of the day. Duration: seconds and nanoseconds.
 #[derive(Clone, Copy, PartialEq, Eq, PartialOrd, Ord)]
@@ -26,34 +63,49 @@ struct Parts {
     least: Value,
 }
 
-// Is the kind over durations?
-pub fn is_duration(kind: i64) -> bool
-    ensures { result ≡ is_duration kind }
-{
-    (7 <= kind) & (kind <= 7)
+impl Kind {
+    // Is the kind over dates?
+    pub fn over_dates(self) -> bool
+        ensures { result ≡ over_dates self }
+    {
+        matches!(self, Kind::Date | Kind::Month | Kind::Year | Kind::Week)
+    }
+
+    // Is the kind over durations?
+    pub fn is_duration(self) -> bool
+        ensures { result ≡ is_duration self }
+    {
+        self == Kind::Span
+    }
 }
 
-// Is v a value of the kind? Dates, date-times and durations are told apart first, so that one row of tests is asked.
-pub fn is_value(kind: i64, v: Value) -> bool
+// Is v a value of the kind?
+pub fn is_value(kind: Kind, v: Value) -> bool
     ensures { result ≡ is_value kind v }
 {
-    if (kind <= 3) | (8 <= kind) {
-        return ((1 <= kind) & (kind <= 8)) & (calendar::is_day(v.head) & (v.tail == 0));
+    match kind {
+        Kind::Date | Kind::Month | Kind::Year | Kind::Week => {
+            calendar::is_day(v.head) & (v.tail == 0)
+        }
+        Kind::Stamp | Kind::StampMonth | Kind::StampYear => {
+            calendar::is_day(v.head) & ((0 <= v.tail) & (v.tail <= 86399999999999))
+        }
+        Kind::Span => {
+            (-315576000000 <= v.head)
+                & (v.head <= 315576000000)
+                & ((0 <= v.tail) & (v.tail <= 999999999))
+        }
     }
-    if kind <= 6 {
-        return calendar::is_day(v.head) & ((0 <= v.tail) & (v.tail <= 86399999999999));
-    }
-    (-315576000000 <= v.head) & (v.head <= 315576000000) & ((0 <= v.tail) & (v.tail <= 999999999))
 }
 
 // The parts of the difference from a to b.
-fn split(kind: i64, a: Value, b: Value) -> Parts
+fn split(kind: Kind, a: Value, b: Value) -> Parts
     requires { Both kind a b }
     ensures { Of kind a b result }
 {
     let heads = b.head - a.head;
     let tails = b.tail - a.tail;
-    if is_duration(kind) {
+    if kind.is_duration() {
         return Parts {
             heads,
             tails,
@@ -151,7 +203,7 @@ fn whole(p: Parts) -> i64
 }
 
 // From a to b, in nanoseconds.
-pub fn nanoseconds_between(kind: i64, a: Value, b: Value) -> Option<i64>
+pub fn nanoseconds_between(kind: Kind, a: Value, b: Value) -> Option<i64>
     requires { Both kind a b }
     ensures { result ≡ nanoseconds_of (difference kind a b) }
 {
@@ -159,12 +211,12 @@ pub fn nanoseconds_between(kind: i64, a: Value, b: Value) -> Option<i64>
 }
 
 // From a to b, in whole days cut toward zero.
-pub fn whole_days_between(kind: i64, a: Value, b: Value) -> i64
+pub fn whole_days_between(kind: Kind, a: Value, b: Value) -> i64
     requires { Both kind a b }
     ensures { result ≡ whole_days (difference kind a b) }
 {
     let n = whole(split(kind, a, b));
-    if is_duration(kind) {
+    if kind.is_duration() {
         return n / 86400;
     }
     n

@@ -1,11 +1,7 @@
 -- `axis::ask_axis` meets its contract. Assumes nothing.
-use borrow.Author.Rules.{rules}
 use mathlib.Core.Path.{◌≡◌, sym, ◌∙◌, ap}
 use mathlib.Core.Bool.{Bool, false}
 use mathlib.Core.List.{[], ◌∷◌}
-use mir.Syntax.{w64}
-use mir.Val.{SFits}
-use mir.Facts.{to_z-of_z}
 use Rattle.std.specs.Prelude.{⊤, Result, Ok}
 use Rattle.asking.specs.declared.Refusal.{Refusal}
 use Rattle.asking.specs.declared.Refusal.TheVariants as refusal
@@ -15,13 +11,10 @@ use Rattle.values.specs.Values.{is_duration}
 use Rattle.axis.specs.Questions.{near_or_long, plain_questions}
 use Rattle.axis.proofs.Questions.{other_kind}
 use Rattle.axis.proofs.ask_axis.Goals as goal
-use Rattle.axis.proofs.ask_axis.Goals.{Else-is_duration, Start}
-
-kind_fits : (c : Start) → SFits w64 c.args.a.kind
-kind_fits c = search rules
+use Rattle.axis.proofs.ask_axis.Goals.{Else-is_duration}
 
 other : (c : Else-is_duration) → is_duration c.args.a.kind ≡ false
-other c = rw (to_z-of_z (kind_fits (goal.at.Else-is_duration c).Start)) at (sym c.is_duration.ensures ∙ c.if-is_duration.false)
+other c = sym c.is_duration.ensures ∙ c.if-is_duration.false
 
 -- question 5 is a yes
 pub returns : goal.returns

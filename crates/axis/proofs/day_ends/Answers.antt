@@ -8,19 +8,16 @@ use Rattle.axis.proofs.day_ends.Goals as goal
 use Rattle.axis.proofs.day_ends.Goals.{Start}
 
 module _ (c : Start) where
-  kind_fits : SFits w64 c.args.a.kind
-  kind_fits = search rules
-
-  start_fits : SFits w64 c.args.a.start_head
+  start_fits : SFits w64 c.args.a.start.head
   start_fits = search rules
 
-  end_fits : SFits w64 c.args.a.end_head
+  end_fits : SFits w64 c.args.a.end.head
   end_fits = search rules
 
-  start_tail_fits : SFits w64 c.args.a.start_tail
+  start_tail_fits : SFits w64 c.args.a.start.tail
   start_tail_fits = search rules
 
-  end_tail_fits : SFits w64 c.args.a.end_tail
+  end_tail_fits : SFits w64 c.args.a.end.tail
   end_tail_fits = search rules
 
 pub returns : goal.returns
@@ -33,5 +30,4 @@ returns c = rw (
   to_z-of_z (end_tail_fits (goal.at.returns c).Start),
   to_z-of_z {w = w64} {z = c.tail_most-most.result} (search rules),
   c.tail_most-most.ensures,
-  to_z-of_z (kind_fits (goal.at.returns c).Start),
-) (day_ends_law c.args.a c.requires.0 c.requires.1)
+) (day_ends_law c.args.a c.requires)

@@ -10,10 +10,10 @@ use Rattle.axis.specs.Questions.{mappable}
 use Rattle.axis.proofs.mappable.Goals as goal
 use Rattle.axis.proofs.mappable.Goals.{Start}
 
-start_fits : (c : Start) → SFits w64 c.args.a.start_head
+start_fits : (c : Start) → SFits w64 c.args.a.start.head
 start_fits c = search rules
 
-end_fits : (c : Start) → SFits w64 c.args.a.end_head
+end_fits : (c : Start) → SFits w64 c.args.a.end.head
 end_fits c = search rules
 
 pub returns-then-a : goal.returns-then-a
@@ -26,9 +26,6 @@ pub returns : goal.returns
 unfolding mappable
 returns c = let a = c.args.a in
     rw (
-      c.lt.ensures ∙ less_is_earlier c.start.result c.end.result,
-      c.eq.ensures ∙ same_is_equal c.args.v c.start-2.result,
-      c.start.ensures,
-      c.end.ensures,
-      c.start-2.ensures,
+      c.lt.ensures ∙ less_is_earlier a.start a.end,
+      c.eq.ensures ∙ same_is_equal c.args.v a.start,
     )

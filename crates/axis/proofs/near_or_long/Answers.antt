@@ -1,53 +1,35 @@
 -- `axis::near_or_long` meets its contract. Assumes nothing.
-use borrow.Author.Rules.{rules}
 use mathlib.Core.Path.{◌≡◌, sym, ◌∙◌, ap}
 use mathlib.Core.Bool.{Bool, true, false, not, ◌&&◌}
 use lib.IntN.{ℤ}
-use mir.Syntax.{w64}
-use mir.Val.{SFits}
-use mir.Facts.{to_z-of_z}
 use Rattle.values.specs.Values.{is_duration}
 use Rattle.std.specs.Prelude.{Option, is_some}
-use Rattle.axis.specs.Axes.{start, end}
 use Rattle.axis.specs.Questions.{near_zero}
 use Rattle.axis.proofs.Axes.{both_ends}
 use Rattle.axis.proofs.Questions.{other_kind, near_ends, far_ends, of_seven}
 use Rattle.axis.proofs.near_or_long.Goals as goal
 use Rattle.axis.proofs.near_or_long.Goals.{After-is_duration, After-near_zero-2, Else-not-is_duration, Start}
 
-kind_fits : (c : Start) → SFits w64 c.args.a.kind
-kind_fits c = search rules
-
-asked : (c : After-is_duration) → c.is_duration.result ≡ is_duration c.args.a.kind
-asked c = rw (to_z-of_z (kind_fits (goal.at.After-is_duration c).Start)) at c.is_duration.ensures
-
 pub returns-then-not-is_duration : goal.returns-then-not-is_duration
 returns-then-not-is_duration c =
-    other_kind c.args.a (sym (asked (goal.at.returns-then-not-is_duration c).After-is_duration) ∙ c.if-not-is_duration.true)
+    other_kind c.args.a (sym c.is_duration.ensures ∙ c.if-not-is_duration.true)
 
 seven : (c : Else-not-is_duration) → is_duration c.args.a.kind ≡ true
-seven c = sym (asked (goal.at.Else-not-is_duration c).After-is_duration) ∙ c.if-not-is_duration.false
+seven c = sym c.is_duration.ensures ∙ c.if-not-is_duration.false
 
 pub near_zero-requires : goal.near_zero-requires
 near_zero-requires c = let a = c.args.a in
-    rw c.start.ensures (of_seven a (start a) (seven (goal.at.near_zero-requires c).Else-not-is_duration)
-    (both_ends a c.requires.0).first)
+    of_seven a a.start (seven (goal.at.near_zero-requires c).Else-not-is_duration) (both_ends a c.requires.0).first
 
 pub near_zero-requires-2 : goal.near_zero-requires-2
 near_zero-requires-2 c = let a = c.args.a in
-    rw c.end.ensures (of_seven a (end a) (seven (goal.at.near_zero-requires-2 c).Else-not-is_duration)
-    (both_ends a c.requires.0).second)
+    of_seven a a.end (seven (goal.at.near_zero-requires-2 c).Else-not-is_duration) (both_ends a c.requires.0).second
 
 -- what the two tests were of
 near : (c : After-near_zero-2) → c.near_zero.result && c.near_zero-2.result
-    ≡ near_zero (start c.args.a)
-    && near_zero (end c.args.a)
-near c = rw (
-  c.near_zero.ensures,
-  c.near_zero-2.ensures,
-  c.start.ensures,
-  c.end.ensures,
-)
+    ≡ near_zero c.args.a.start
+    && near_zero c.args.a.end
+near c = rw (c.near_zero.ensures, c.near_zero-2.ensures)
 
 pub returns-then-near_zero : goal.returns-then-near_zero
 returns-then-near_zero c = near_ends c.args.a (sym (near (goal.at.returns-then-near_zero c).After-near_zero-2)

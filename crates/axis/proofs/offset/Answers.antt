@@ -1,22 +1,12 @@
 -- `axis::offset` meets its contract. Assumes nothing.
-use borrow.Author.Rules.{rules}
-use mathlib.Core.Path.{◌∙◌}
-use mir.Syntax.{w64}
-use mir.Val.{SFits}
-use mir.Facts.{to_z-of_z}
 use Rattle.axis.specs.Axes.{offset_of}
 use Rattle.axis.proofs.Axes.{with_value}
 use Rattle.axis.proofs.offset.Goals as goal
 use Rattle.axis.proofs.offset.Goals.{Start}
 
-kind_fits : (c : Start) → SFits w64 c.args.a.kind
-kind_fits c = search rules
-
 pub nanoseconds_between-requires : goal.nanoseconds_between-requires
-nanoseconds_between-requires c =
-    rw (to_z-of_z (kind_fits (goal.at.nanoseconds_between-requires c).Start), c.start.ensures)
-    (with_value c.args.a c.requires.0 c.args.v c.requires.1)
+nanoseconds_between-requires c = with_value c.args.a c.requires.0 c.args.v c.requires.1
 
 pub returns : goal.returns
 unfolding offset_of
-returns c = c.nanoseconds_between.ensures ∙ rw (to_z-of_z (kind_fits (goal.at.returns c).Start), c.start.ensures)
+returns c = c.nanoseconds_between.ensures

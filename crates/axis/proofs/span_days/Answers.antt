@@ -2,26 +2,15 @@
 use borrow.Author.Rules.{rules}
 use mathlib.Core.Path.{◌∙◌}
 use mir.Syntax.{w64}
-use mir.Val.{SFits}
 use mir.Facts.{to_z-of_z}
 use Rattle.axis.specs.Axes.{span_of}
 use Rattle.axis.proofs.Axes.{both_ends}
 use Rattle.axis.proofs.span_days.Goals as goal
 use Rattle.axis.proofs.span_days.Goals.{Start}
 
-kind_fits : (c : Start) → SFits w64 c.args.a.kind
-kind_fits c = search rules
-
 pub whole_days_between-requires : goal.whole_days_between-requires
-whole_days_between-requires c =
-    rw (to_z-of_z (kind_fits (goal.at.whole_days_between-requires c).Start), c.start.ensures, c.end.ensures)
-    (both_ends c.args.a c.requires)
+whole_days_between-requires c = both_ends c.args.a c.requires
 
 pub returns : goal.returns
 unfolding span_of
-returns c = to_z-of_z {w = w64} {z = c.whole_days_between.result} (search rules)
-    ∙ (c.whole_days_between.ensures ∙ rw (
-      to_z-of_z (kind_fits (goal.at.returns c).Start),
-      c.start.ensures,
-      c.end.ensures,
-    ))
+returns c = to_z-of_z {w = w64} {z = c.whole_days_between.result} (search rules) ∙ c.whole_days_between.ensures

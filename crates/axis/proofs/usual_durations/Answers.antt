@@ -8,16 +8,16 @@ use Rattle.axis.proofs.usual_durations.Goals as goal
 use Rattle.axis.proofs.usual_durations.Goals.{Start}
 
 module _ (c : Start) where
-  start_fits : SFits w64 c.args.a.start_head
+  start_fits : SFits w64 c.args.a.start.head
   start_fits = search rules
 
-  end_fits : SFits w64 c.args.a.end_head
+  end_fits : SFits w64 c.args.a.end.head
   end_fits = search rules
 
-  start_tail_fits : SFits w64 c.args.a.start_tail
+  start_tail_fits : SFits w64 c.args.a.start.tail
   start_tail_fits = search rules
 
-  end_tail_fits : SFits w64 c.args.a.end_tail
+  end_tail_fits : SFits w64 c.args.a.end.tail
   end_tail_fits = search rules
 
 pub returns : goal.returns

@@ -13,25 +13,25 @@ use Rattle.counting.proofs.Counting.{starts}
 use Rattle.counting.proofs.from_day.Goals as goal
 use Rattle.counting.proofs.from_day.Goals.{After-as_count, After-as_count-2, Start}
 
-head_fits : (c : Start) → SFits w64 c.args.a.start_head
+head_fits : (c : Start) → SFits w64 c.args.a.start.head
 head_fits c = search rules
 
-tail_fits : (c : Start) → SFits w64 c.args.a.start_tail
+tail_fits : (c : Start) → SFits w64 c.args.a.start.tail
 tail_fits c = search rules
 
-head : (c : After-as_count) → c.as_count.result ≡ pos_part c.args.a.start_head
+head : (c : After-as_count) → c.as_count.result ≡ pos_part c.args.a.start.head
 head c = c.as_count.ensures ∙ ap pos_part (to_z-of_z (head_fits (goal.at.After-as_count c).Start))
 
-tail : (c : After-as_count-2) → c.as_count-2.result ≡ pos_part c.args.a.start_tail
+tail : (c : After-as_count-2) → c.as_count-2.result ≡ pos_part c.args.a.start.tail
 tail c = c.as_count-2.ensures ∙ ap pos_part (to_z-of_z (tail_fits (goal.at.After-as_count-2 c).Start))
 
 pub as_count-requires : goal.as_count-requires
 as_count-requires c = let v = starts c.args.a c.requires in
-    rw (to_z-of_z (head_fits (goal.at.as_count-requires c).Start)) (is_ge c.args.a.start_head (pos 0) (omega arith))
+    rw (to_z-of_z (head_fits (goal.at.as_count-requires c).Start)) (is_ge c.args.a.start.head (pos 0) (omega arith))
 
 pub as_count-requires-2 : goal.as_count-requires-2
 as_count-requires-2 c = let v = starts c.args.a c.requires in
-    rw (to_z-of_z (tail_fits (goal.at.as_count-requires-2 c).Start)) (is_ge c.args.a.start_tail (pos 0) (omega arith))
+    rw (to_z-of_z (tail_fits (goal.at.as_count-requires-2 c).Start)) (is_ge c.args.a.start.tail (pos 0) (omega arith))
 
 pub date_ceil-requires : goal.date_ceil-requires
 date_ceil-requires c = let v = starts c.args.a c.requires in

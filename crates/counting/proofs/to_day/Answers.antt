@@ -13,12 +13,12 @@ use Rattle.counting.proofs.Counting.{end_value}
 use Rattle.counting.proofs.to_day.Goals as goal
 use Rattle.counting.proofs.to_day.Goals.{Start}
 
-head_fits : (c : Start) → SFits w64 c.args.a.end_head
+head_fits : (c : Start) → SFits w64 c.args.a.end.head
 head_fits c = search rules
 
 pub as_count-requires : goal.as_count-requires
 as_count-requires c = let v = end_value c.args.a c.requires in
-    rw (to_z-of_z (head_fits (goal.at.as_count-requires c).Start)) (is_ge c.args.a.end_head (pos 0) (omega arith))
+    rw (to_z-of_z (head_fits (goal.at.as_count-requires c).Start)) (is_ge c.args.a.end.head (pos 0) (omega arith))
 
 pub returns : goal.returns
 unfolding to_day

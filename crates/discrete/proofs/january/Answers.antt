@@ -4,11 +4,8 @@ use mathlib.Core.Path.{◌≡◌, sym, ◌∙◌, ap}
 use native.Mathlib.Omega.{arith}
 use Prim.Native.Nat.{ℕ, ◌<◌}
 use lib.IntN.{pos}
-use Rattle.std.specs.Prelude.{Ok}
 use Rattle.laws.specs.Numbers.{pos_part}
 use Rattle.calendar.specs.Gregorian.{day_number}
-use Rattle.values.specs.declared.Value.{Value}
-use Rattle.axis.specs.Axes.{start}
 use Rattle.values.specs.Values.{midnight}
 use Rattle.axis.specs.Questions.{checked}
 use Rattle.calendar.proofs.Dates.{a_first}
@@ -33,15 +30,14 @@ pub day_number-day-requires : goal.day_number-day-requires
 day_number-day-requires c = (a_first c.args.year 1 c.requires.1 (omega arith) (omega arith), search rules)
 
 pub day_on-requires : goal.day_on-requires
-day_on-requires c = rw c.start.ensures (is_day_law (start c.args.a) (starts c.args.a c.requires.0))
+day_on-requires c = is_day_law c.args.a.start (starts c.args.a c.requires.0)
 
-start_day : (c : After-day_on) → c.day_on.result ≡ pos_part c.args.a.start_head
-start_day c = c.day_on.ensures ∙ ap (λ (v : Value). pos_part v.head) c.start.ensures
+start_day : (c : After-day_on) → c.day_on.result ≡ pos_part c.args.a.start.head
+start_day c = c.day_on.ensures
 
 pub returns-then-day-day_on : goal.returns-then-day-day_on
 returns-then-day-day_on c = let a = c.args.a in
-    ap Ok c.start-then-day-day_on.ensures
-    ∙ in_range_law (start a) (is_day_law (start a) (starts a c.requires.0))
+    in_range_law a.start (is_day_law a.start (starts a c.requires.0))
     ∙ ap checked
     (sym (january_start a c.args.year (omega (
       arith,

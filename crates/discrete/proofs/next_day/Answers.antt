@@ -6,8 +6,6 @@ use Prim.Native.Nat.{ℕ, ◌+◌, ◌-◌, ◌≤◌}
 use lib.IntN.{pos}
 use Rattle.std.specs.Prelude.{Some}
 use Rattle.laws.specs.Numbers.{pos_part}
-use Rattle.values.specs.declared.Value.{Value}
-use Rattle.axis.specs.Axes.{start, end}
 use Rattle.counting.specs.Counting.{origin, position}
 use Rattle.values.specs.Values.{midnight}
 use Rattle.axis.specs.Questions.{checked_if}
@@ -23,13 +21,13 @@ pub day_on-at-requires : goal.day_on-at-requires
 day_on-at-requires c = is_day_law c.args.v (on_day c.args.a c.requires.0 c.args.v c.requires.1)
 
 pub day_on-requires : goal.day_on-requires
-day_on-requires c = rw c.start.ensures (is_day_law (start c.args.a) (starts c.args.a c.requires.0))
+day_on-requires c = is_day_law c.args.a.start (starts c.args.a c.requires.0)
 
 at_is : (c : After-day_on-at) → c.day_on-at.result ≡ position c.args.a c.args.v
 at_is c = c.day_on-at.ensures ∙ sym (position_days c.args.a c.args.v c.requires.2 c.requires.3 c.requires.4)
 
 from_is : (c : After-day_on) → c.day_on.result ≡ origin c.args.a
-from_is c = c.day_on.ensures ∙ ap (λ (v : Value). pos_part v.head) c.start.ensures
+from_is c = c.day_on.ensures
     ∙ sym (origin_days c.args.a c.requires.2 c.requires.3 c.requires.4)
 
 pub returns-then-at-day_on : goal.returns-then-at-day_on
@@ -42,13 +40,13 @@ returns-then-at-day_on c = let x = c.args in
     ))))
 
 pub day_on-requires-2 : goal.day_on-requires-2
-day_on-requires-2 c = rw c.end.ensures (is_day_law (end c.args.a) (on_day c.args.a c.requires.0 (end c.args.a)
-    (end_on c.args.a c.requires.0)))
+day_on-requires-2 c = is_day_law c.args.a.end (on_day c.args.a c.requires.0 c.args.a.end
+    (end_on c.args.a c.requires.0))
 
 to_is : (c : After-day_on-2) → c.day_on-2.result ≡ position c.args.a
-    (end c.args.a)
-to_is c = c.day_on-2.ensures ∙ ap (λ (v : Value). pos_part v.head) c.end.ensures
-    ∙ sym (position_days c.args.a (end c.args.a) c.requires.2 c.requires.3 c.requires.4)
+    c.args.a.end
+to_is c = c.day_on-2.ensures
+    ∙ sym (position_days c.args.a c.args.a.end c.requires.2 c.requires.3 c.requires.4)
 
 from_to : (c : Else-at-day_on) → origin c.args.a ≤ position c.args.a c.args.v
 from_to c =
@@ -73,7 +71,7 @@ returns-then-day_on-at c = let x = c.args in
 next : (c : After-at_midnight) → checked_if (Some (midnight (pos (c.day_on-at.result + 1))))
     ≡ checked_if (next_in c.args.a c.args.v)
 next c = let x = c.args in
-    let place : c.day_on-at.result + 1 ≡ pos_part x.a.start_head + (position x.a x.v - origin x.a + 1) =
+    let place : c.day_on-at.result + 1 ≡ pos_part x.a.start.head + (position x.a x.v - origin x.a + 1) =
     omega (
       arith,
       at_is (goal.at.After-at_midnight c).After-day_on-at,

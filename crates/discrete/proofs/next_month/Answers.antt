@@ -8,8 +8,7 @@ use Rattle.std.specs.Prelude.{Some}
 use Rattle.calendar.specs.declared.Date.{Date}
 use Rattle.values.specs.declared.Value.{Value}
 use Rattle.calendar.specs.Gregorian.{day_number}
-use Rattle.axis.specs.Axes.{end}
-use Rattle.counting.specs.Counting.{first_date, date_on, origin, position}
+use Rattle.counting.specs.Counting.{first_date, origin, position}
 use Rattle.values.specs.Values.{midnight}
 use Rattle.axis.specs.Questions.{checked_if}
 use Rattle.counting.proofs.Counting.{Near, on_day, on_near, first_near, position_most, end_on, is_day_law}
@@ -57,18 +56,18 @@ from_to c =
     )
 
 pub date_on-requires-2 : goal.date_on-requires-2
-date_on-requires-2 c = rw c.end.ensures (is_day_law (end c.args.a) (on_day c.args.a c.requires.0 (end c.args.a)
-    (end_on c.args.a c.requires.0)))
+date_on-requires-2 c = is_day_law c.args.a.end (on_day c.args.a c.requires.0 c.args.a.end
+    (end_on c.args.a c.requires.0))
 
 pub months_from-requires : goal.months_from-requires
-months_from-requires c = let n = on_near c.args.a c.requires.0 (end c.args.a) (end_on c.args.a c.requires.0) in
-    rw (c.date_on-2.ensures, c.end.ensures) (n.year_most, n.month_most)
+months_from-requires c = let n = on_near c.args.a c.requires.0 c.args.a.end (end_on c.args.a c.requires.0) in
+    rw c.date_on-2.ensures (n.year_most, n.month_most)
 
-to_is : (c : After-months_from) → c.months_from.result ≡ position c.args.a (end c.args.a)
-to_is c = let last = c.date_on-2.ensures ∙ ap date_on c.end.ensures in
+to_is : (c : After-months_from) → c.months_from.result ≡ position c.args.a c.args.a.end
+to_is c = let last = c.date_on-2.ensures in
     c.months_from.ensures
     ∙ (λ i. 12 * ((last i).year - (c.first_date-first.ensures i).year) + (last i).month)
-    ∙ sym (position_months c.args.a (end c.args.a) c.requires.2)
+    ∙ sym (position_months c.args.a c.args.a.end c.requires.2)
 
 pub returns-then-months_from-at : goal.returns-then-months_from-at
 returns-then-months_from-at c = let x = c.args in

@@ -8,9 +8,7 @@ use Rattle.std.specs.Prelude.{Some}
 use Rattle.laws.specs.Numbers.{pos_part}
 use Rattle.weeks.specs.Weeks.{monday, mondays_to}
 use Rattle.weeks.proofs.Mondays.{mondays_to_law, monday_is}
-use Rattle.values.specs.declared.Value.{Value}
 use Rattle.values.specs.Values.{midnight}
-use Rattle.axis.specs.Axes.{start, end}
 use Rattle.axis.specs.Questions.{checked_if}
 use Rattle.axis.proofs.Checked.{no_value, checked_some, checked_refused}
 use Rattle.counting.specs.Counting.{origin, position}
@@ -35,10 +33,10 @@ at_is c = c.mondays_to-at.ensures ∙ ap mondays_to c.day_on.ensures
 
 -- ---- where the axis begins
 pub day_on-requires-2 : goal.day_on-requires-2
-day_on-requires-2 c = rw c.start.ensures (is_day_law (start c.args.a) (starts c.args.a c.requires.0))
+day_on-requires-2 c = is_day_law c.args.a.start (starts c.args.a c.requires.0)
 
-start_day : (c : After-day_on-2) → c.day_on-2.result ≡ pos_part c.args.a.start_head
-start_day c = c.day_on-2.ensures ∙ ap (λ (v : Value). pos_part v.head) c.start.ensures
+start_day : (c : After-day_on-2) → c.day_on-2.result ≡ pos_part c.args.a.start.head
+start_day c = c.day_on-2.ensures
 
 pub mondays_to-requires : goal.mondays_to-requires
 mondays_to-requires c =
@@ -59,28 +57,28 @@ returns-then-at-mondays_to c = let x = c.args in
 
 -- ---- where it ends
 pub day_on-requires-3 : goal.day_on-requires-3
-day_on-requires-3 c = rw c.end.ensures (is_day_law (end c.args.a) (on_day c.args.a c.requires.0 (end c.args.a)
-    (end_on c.args.a c.requires.0)))
+day_on-requires-3 c = is_day_law c.args.a.end (on_day c.args.a c.requires.0 c.args.a.end
+    (end_on c.args.a c.requires.0))
 
 abbrev begun : After-day_on-3 → Start
 begun c = (goal.at.After-day_on-3 c).Start
 
-end_day : (c : After-day_on-3) → c.day_on-3.result ≡ pos_part (begun c).args.a.end_head
-end_day c = c.day_on-3.ensures ∙ ap (λ (v : Value). pos_part v.head) c.end.ensures
+end_day : (c : After-day_on-3) → c.day_on-3.result ≡ pos_part (begun c).args.a.end.head
+end_day c = c.day_on-3.ensures
 
 pub mondays_to-requires-2 : goal.mondays_to-requires-2
 mondays_to-requires-2 c = let s = begun (goal.at.mondays_to-requires-2 c).After-day_on-3 in
     omega (
       arith,
       end_day (goal.at.mondays_to-requires-2 c).After-day_on-3,
-      (on_day s.args.a s.requires.0 (end s.args.a) (end_on s.args.a s.requires.0)).head_most,
+      (on_day s.args.a s.requires.0 s.args.a.end (end_on s.args.a s.requires.0)).head_most,
     )
 
 to_is : (c : After-mondays_to-2) → let a = (begun (goal.at.After-mondays_to-2 c).After-day_on-3).args.a in
-    c.mondays_to-2.result ≡ position a (end a)
+    c.mondays_to-2.result ≡ position a a.end
 to_is c = let s = begun (goal.at.After-mondays_to-2 c).After-day_on-3 in
     c.mondays_to-2.ensures ∙ ap mondays_to (end_day (goal.at.After-mondays_to-2 c).After-day_on-3)
-    ∙ sym (position_weeks s.args.a (end s.args.a) s.requires.2 s.requires.3 s.requires.4)
+    ∙ sym (position_weeks s.args.a s.args.a.end s.requires.2 s.requires.3 s.requires.4)
 
 from_to : (c : Else-at-mondays_to) → origin c.args.a ≤ position c.args.a c.args.v
 from_to c =
@@ -116,7 +114,7 @@ next : (c : After-at_midnight) → checked_if (Some (midnight (pos (7 * c.monday
     ≡ checked_if (next_in c.args.a c.args.v)
 next c = let x = c.args in
     let i = position x.a x.v - origin x.a + 1 in
-    let h = pos_part x.a.start_head in
+    let h = pos_part x.a.start.head in
     let place : 7 * c.mondays_to-at.result + 1 ≡ monday h + 7 * i =
     omega (
       arith,

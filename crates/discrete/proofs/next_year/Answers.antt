@@ -5,8 +5,7 @@ use native.Mathlib.Omega.{arith}
 use Prim.Native.Nat.{ℕ, ◌+◌, ◌-◌, ◌≤◌}
 use Rattle.std.specs.Prelude.{Some}
 use Rattle.calendar.specs.declared.Date.{Date}
-use Rattle.axis.specs.Axes.{end}
-use Rattle.counting.specs.Counting.{first_date, date_on, origin, position}
+use Rattle.counting.specs.Counting.{first_date, origin, position}
 use Rattle.discrete.specs.Indices.{january}
 use Rattle.axis.specs.Questions.{checked_if}
 use Rattle.counting.proofs.Counting.{on_day, end_on, is_day_law, origin_years, position_years}
@@ -46,12 +45,12 @@ from_to c =
     )
 
 pub date_on-last-requires : goal.date_on-last-requires
-date_on-last-requires c = rw c.end.ensures (is_day_law (end c.args.a) (on_day c.args.a c.requires.0 (end c.args.a)
-    (end_on c.args.a c.requires.0)))
+date_on-last-requires c = is_day_law c.args.a.end (on_day c.args.a c.requires.0 c.args.a.end
+    (end_on c.args.a c.requires.0))
 
-to_is : (c : After-date_on-last) → c.date_on-last.result.year ≡ position c.args.a (end c.args.a)
-to_is c = ap (λ (t : Date). t.year) (c.date_on-last.ensures ∙ ap date_on c.end.ensures)
-    ∙ sym (position_years c.args.a (end c.args.a) c.requires.2 c.requires.3)
+to_is : (c : After-date_on-last) → c.date_on-last.result.year ≡ position c.args.a c.args.a.end
+to_is c = ap (λ (t : Date). t.year) c.date_on-last.ensures
+    ∙ sym (position_years c.args.a c.args.a.end c.requires.2 c.requires.3)
 
 pub returns-then-last-date : goal.returns-then-last-date
 returns-then-last-date c = let x = c.args in

@@ -3,13 +3,10 @@ use mathlib.Core.Path.{◌≡◌, sym, ◌∙◌, ap}
 use native.Mathlib.Omega.{arith}
 use Prim.Native.Nat.{ℕ, ◌+◌, ◌*◌, ◌≤◌}
 use lib.IntN.{pos}
-use Rattle.std.specs.Prelude.{Ok}
 use Rattle.laws.specs.Numbers.{pos_part}
 use Rattle.weeks.specs.Weeks.{monday}
 use Rattle.weeks.proofs.Mondays.{monday_is}
-use Rattle.values.specs.declared.Value.{Value}
 use Rattle.values.specs.Values.{midnight}
-use Rattle.axis.specs.Axes.{start}
 use Rattle.axis.specs.Questions.{checked}
 use Rattle.axis.proofs.Checked.{in_range_law}
 use Rattle.counting.proofs.Counting.{starts, is_day_law}
@@ -19,19 +16,18 @@ use Rattle.discrete.proofs.week_at.Goals.{After-day_on, After-monday, Start}
 
 pub returns-then-i-eq0 : goal.returns-then-i-eq0
 returns-then-i-eq0 c = let a = c.args.a in
-    ap Ok c.start-start.ensures
-    ∙ in_range_law (start a) (is_day_law (start a) (starts a c.requires.0))
+    in_range_law a.start (is_day_law a.start (starts a c.requires.0))
     ∙ ap checked (sym (week_first a c.args.i c.if-i-eq0.true))
 
 pub day_on-requires : goal.day_on-requires
-day_on-requires c = rw c.start-start.ensures (is_day_law (start c.args.a) (starts c.args.a c.requires.0))
+day_on-requires c = is_day_law c.args.a.start (starts c.args.a c.requires.0)
 
 module _ (c : After-day_on) where
   abbrev s : Start
   s = (goal.at.After-day_on c).Start
 
-  start_day : c.day_on.result ≡ pos_part s.args.a.start_head
-  start_day = c.day_on.ensures ∙ ap (λ (v : Value). pos_part v.head) c.start-start.ensures
+  start_day : c.day_on.result ≡ pos_part s.args.a.start.head
+  start_day = c.day_on.ensures
 
   day_range : (1 ≤ c.day_on.result) × (c.day_on.result ≤ 3652059)
   day_range = let v = starts s.args.a s.requires.0 in

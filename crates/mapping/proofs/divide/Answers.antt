@@ -1,10 +1,6 @@
 -- `mapping::divide` meets its contract: the kind decides between the two mappings. Assumes nothing.
-use borrow.Author.Rules.{rules}
 use mathlib.Core.Path.{◌≡◌, sym, ◌∙◌, ap}
 use mathlib.Core.Bool.{Bool, true, false, cond}
-use mir.Syntax.{w64}
-use mir.Val.{SFits}
-use mir.Facts.{to_z-of_z}
 use Rattle.values.specs.declared.Value.{Value}
 use Rattle.values.specs.Values.{is_duration}
 use Rattle.axis.specs.declared.Axis.{Axis}
@@ -14,12 +10,6 @@ use Rattle.mapping.specs.Mapping.{limits_of, map_coord, map_duration, placed, ha
 use Rattle.mapping.proofs.divide.Goals as goal
 use Rattle.mapping.proofs.divide.Goals.{After-is_duration, Start}
 
-kind_fits : (c : Start) → SFits w64 c.args.a.kind
-kind_fits c = search rules
-
-asked : (c : After-is_duration) → c.is_duration.result ≡ is_duration c.args.a.kind
-asked c = rw (to_z-of_z (kind_fits (goal.at.After-is_duration c).Start)) at c.is_duration.ensures
-
 is_placed : (a : Axis) (l : Limits) (v : Value) (b : Bool) → is_duration a.kind ≡ b →
     hairline_at a l v (cond b (map_duration a l v) (map_coord a l v)) ≡ hairline a l v
 unfolding hairline placed
@@ -27,10 +17,10 @@ is_placed a l v b k = ap (λ (d : Bool). hairline_at a l v (cond d (map_duration
 
 pub returns-then-is_duration : goal.returns-then-is_duration
 returns-then-is_duration c = c.map_duration.ensures
-    ∙ is_placed c.args.a (limits_of c.args.s) c.args.v true (sym (asked (goal.at.returns-then-is_duration c).After-is_duration) ∙
+    ∙ is_placed c.args.a (limits_of c.args.s) c.args.v true (sym c.is_duration.ensures ∙
     c.if-is_duration.true)
 
 pub returns : goal.returns
 returns c = c.map_coord.ensures
-    ∙ is_placed c.args.a (limits_of c.args.s) c.args.v false (sym (asked (goal.at.returns c).After-is_duration) ∙
+    ∙ is_placed c.args.a (limits_of c.args.s) c.args.v false (sym c.is_duration.ensures ∙
     c.if-is_duration.false)

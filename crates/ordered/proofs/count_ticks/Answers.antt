@@ -1,7 +1,13 @@
 -- `ordered::count_ticks` meets its contract. Assumes nothing.
+use mathlib.Core.Path.{◌≡◌}
 use native.Mathlib.Omega.{arith}
-use Rattle.ordered.proofs.Counts.{number_fits, ticks_most}
+use Rattle.std.proofs.Common.{rules}
+use Rattle.asking.specs.Asking.{and_then}
+use Rattle.ticks.specs.Answers.{ticks_answer}
+use Rattle.ordered.proofs.Counts.{number_on, ticks_most}
 use Rattle.ordered.proofs.count_ticks.Goals as goal
 
 pub number_reply-requires : goal.number_reply-requires
-number_reply-requires c = number_fits _ c.count.ensures (λ n. ticks_most _ _ c.args.lent_len n (omega arith))
+number_reply-requires c = let x = c.args.axis in
+    let e : c.and_then.result ≡ and_then x (λ a. ticks_answer a c.args.h c.args.lent_len) = search rules in
+    number_on x _ _ e (λ a n. ticks_most a c.args.h c.args.lent_len n (omega arith))

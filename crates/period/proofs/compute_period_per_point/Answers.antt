@@ -8,7 +8,8 @@ use Rattle.period.proofs.Ladders.{chosen_ends}
 use Rattle.period.proofs.Periods.{Answers, answers_none, answers, below_day, any_step, days_listed}
 use Rattle.period.proofs.compute_period_per_point.Goals as goal
 use Rattle.period.proofs.compute_period_per_point.Goals.{After-climb}
-use Rattle.period.proofs.compute_period_per_point.Goals.{else-sub_daily-via-then-sub_daily+else-p-ge-DAY, else-sub_daily-via-else-sub_daily}
+use Rattle.period.proofs.compute_period_per_point.Goals.{else-sub_daily-via-then-sub_daily+else-p-ge-DAY}
+use Rattle.period.proofs.compute_period_per_point.Goals.{else-sub_daily-via-else-sub_daily}
 
 pub returns-then-p-ge-DAY-clause-nanoseconds : goal.returns-then-p-ge-DAY-clause-nanoseconds
 returns-then-p-ge-DAY-clause-nanoseconds c = let a = c.args in

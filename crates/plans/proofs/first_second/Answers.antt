@@ -5,8 +5,9 @@ use lib.IntN.{pos, ◌*ℤ◌, +ℤ_idr}
 use mir.Syntax.{w64}
 use mir.Val.{to_z, of_z}
 use mir.Facts.{to_z-of_z}
-use Rattle.values.proofs.Values.{DurationValue, duration_value}
+use Rattle.values.specs.declared.Kind.TheVariants.{Span}
 use Rattle.values.proofs.Order.{same_is_equal}
+use Rattle.values.proofs.Values.{DurationValue, duration_value}
 use Rattle.axis.specs.Questions.{equals}
 use Rattle.plans.specs.Times.{first_second}
 use Rattle.values.specs.Differences.{of_days, days_in}
@@ -15,7 +16,7 @@ use Rattle.plans.proofs.first_second.Goals as goal
 use Rattle.plans.proofs.first_second.Goals.{After-days_in-whole, After-eq, Start}
 
 value : (c : Start) → DurationValue c.args.v
-value c = duration_value (pos 7) c.args.v c.requires refl
+value c = duration_value Span c.args.v c.requires refl
 
 whole : (c : After-days_in-whole) → to_z w64 (of_z w64 c.days_in-whole.result) ≡ days_in c.args.v
 whole c = to_z-of_z {w = w64} {z = c.days_in-whole.result} (search rules) ∙ c.days_in-whole.ensures
@@ -33,7 +34,8 @@ same_test c =
 
 pub overflow_mul-whole : goal.overflow_mul-whole
 overflow_mul-whole c =
-    rw (whole (goal.at.overflow_mul-whole c).After-days_in-whole) (second_fits c.args.v (value (goal.at.overflow_mul-whole c).Start))
+    rw (whole (goal.at.overflow_mul-whole c).After-days_in-whole)
+    (second_fits c.args.v (value (goal.at.overflow_mul-whole c).Start))
 
 pub returns-then-eq : goal.returns-then-eq
 unfolding first_second
@@ -49,5 +51,6 @@ overflow_add-result c =
 pub returns-else-eq : goal.returns-else-eq
 unfolding first_second
 returns-else-eq c =
-    rw (product (goal.at.returns-else-eq c).After-days_in-whole) (to_z-of_z (later_fits c.args.v (value (goal.at.returns-else-eq c).Start)) ∙
+    rw (product (goal.at.returns-else-eq c).After-days_in-whole)
+    (to_z-of_z (later_fits c.args.v (value (goal.at.returns-else-eq c).Start)) ∙
     rw (sym (same_test (goal.at.returns-else-eq c).After-eq) ∙ c.if-eq.false))

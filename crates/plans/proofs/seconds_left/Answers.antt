@@ -7,25 +7,24 @@ use mir.Syntax.{w64}
 use mir.Val.{SFits, to_z, of_z}
 use mir.Facts.{to_z-of_z}
 use Rattle.laws.specs.Numbers.{pos_part}
-use Rattle.axis.specs.Axes.{start}
 use Rattle.counting.proofs.Counting.{no_less}
 use Rattle.plans.specs.Times.{first_second, seconds_left}
 use Rattle.plans.proofs.Spans.{left_dn, left_fits, left_small}
 use Rattle.plans.proofs.seconds_left.Goals as goal
 use Rattle.plans.proofs.seconds_left.Goals.{After-as_count-whole, Start}
 
-end_fits : (c : Start) → SFits w64 c.args.a.end_head
+end_fits : (c : Start) → SFits w64 c.args.a.end.head
 end_fits c = search rules
 
-tail_fits : (c : Start) → SFits w64 c.args.a.end_tail
+tail_fits : (c : Start) → SFits w64 c.args.a.end.tail
 tail_fits c = search rules
 
-ends_at : (c : Start) → to_z w64 (of_z w64 c.args.a.end_head) -ℤ to_z w64 (of_z w64 c.args.first)
-    ≡ c.args.a.end_head -ℤ first_second (start c.args.a)
+ends_at : (c : Start) → to_z w64 (of_z w64 c.args.a.end.head) -ℤ to_z w64 (of_z w64 c.args.first)
+    ≡ c.args.a.end.head -ℤ first_second c.args.a.start
 ends_at c = rw (to_z-of_z (end_fits c), to_z-of_z c.ranges.first, c.requires.1)
 
 counted : (c : After-as_count-whole) → let a = c.args.a in
-    c.as_count-whole.result ≡ pos_part (a.end_head -ℤ first_second (start a))
+    c.as_count-whole.result ≡ pos_part (a.end.head -ℤ first_second a.start)
 counted c =
     c.as_count-whole.ensures ∙ rw (ends_at (goal.at.After-as_count-whole c).Start, to_z-of_z (left_fits c.args.a c.requires.0))
 
@@ -35,7 +34,7 @@ overflow_sub-a c = rw (ends_at (goal.at.overflow_sub-a c).Start) (left_fits c.ar
 pub as_count-whole-requires : goal.as_count-whole-requires
 as_count-whole-requires c = let a = c.args.a in
     rw (ends_at (goal.at.as_count-whole-requires c).Start, to_z-of_z (left_fits a c.requires.0))
-    (no_less (a.end_head -ℤ first_second (start a)) (left_dn a c.requires.0))
+    (no_less (a.end.head -ℤ first_second a.start) (left_dn a c.requires.0))
 
 pub overflow_add-result : goal.overflow_add-result
 overflow_add-result c =

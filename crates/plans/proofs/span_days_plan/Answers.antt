@@ -1,13 +1,12 @@
 -- `plans::span_days_plan` meets its contract. Assumes nothing.
 use borrow.Author.Rules.{rules}
-use mathlib.Core.Path.{◌≡◌, ◌∙◌, ap}
+use mathlib.Core.Path.{◌≡◌, ◌∙◌}
 use native.Mathlib.Omega.{arith}
 use lib.IntN.{◌-ℤ◌}
 use mir.Syntax.{w64}
 use mir.Val.{to_z, of_z}
 use mir.Facts.{to_z-of_z}
 use Rattle.laws.specs.Numbers.{pos_part}
-use Rattle.axis.specs.Axes.{start, end}
 use Rattle.counting.proofs.Counting.{no_less}
 use Rattle.period.proofs.Fits.{fit_above, fit_most}
 use Rattle.plans.specs.Times.{first_second, span_days_plan}
@@ -17,32 +16,32 @@ use Rattle.plans.proofs.span_days_plan.Goals as goal
 use Rattle.plans.proofs.span_days_plan.Goals.{After-as_count, After-days_in-2, After-first_second-first}
 
 first : (c : After-first_second-first) → to_z w64 (of_z w64 c.first_second-first.result)
-    ≡ first_second (start c.args.a)
+    ≡ first_second c.args.a.start
 first c = to_z-of_z {w = w64} {z = c.first_second-first.result} (search rules)
-    ∙ (c.first_second-first.ensures ∙ ap first_second c.start.ensures)
+    ∙ c.first_second-first.ensures
 
 between : (c : After-days_in-2) → let a = c.args.a in
     to_z w64 (of_z w64 c.days_in.result) -ℤ to_z w64 (of_z w64 c.days_in-2.result)
-    ≡ days_in (end a) -ℤ days_in (start a)
+    ≡ days_in a.end -ℤ days_in a.start
 between c = let e = to_z-of_z {w = w64} {z = c.days_in.result} (search rules)
-    ∙ (c.days_in.ensures ∙ ap days_in c.end.ensures) in
+    ∙ c.days_in.ensures in
     let s = to_z-of_z {w = w64} {z = c.days_in-2.result} (search rules)
-    ∙ (c.days_in-2.ensures ∙ ap days_in c.start-2.ensures) in
+    ∙ c.days_in-2.ensures in
     rw (e, s)
 
 counted : (c : After-as_count) → let a = c.args.a in
-    c.as_count.result ≡ pos_part (days_in (end a) -ℤ days_in (start a))
+    c.as_count.result ≡ pos_part (days_in a.end -ℤ days_in a.start)
 counted c =
     c.as_count.ensures ∙ rw (between (goal.at.After-as_count c).After-days_in-2, to_z-of_z (total_range c.args.a c.requires).1)
 
 pub first_second-first-requires : goal.first_second-first-requires
-first_second-first-requires c = rw c.start.ensures (start_seven c.args.a c.requires.real c.requires.duration)
+first_second-first-requires c = start_seven c.args.a c.requires.real c.requires.duration
 
 pub days_in-requires : goal.days_in-requires
-days_in-requires c = rw c.end.ensures (end_seven c.args.a c.requires.real c.requires.duration)
+days_in-requires c = end_seven c.args.a c.requires.real c.requires.duration
 
 pub days_in-requires-2 : goal.days_in-requires-2
-days_in-requires-2 c = rw c.start-2.ensures (start_seven c.args.a c.requires.real c.requires.duration)
+days_in-requires-2 c = start_seven c.args.a c.requires.real c.requires.duration
 
 pub overflow_sub-d : goal.overflow_sub-d
 overflow_sub-d c = rw (between (goal.at.overflow_sub-d c).After-days_in-2) (total_range c.args.a c.requires).1
@@ -50,7 +49,7 @@ overflow_sub-d c = rw (between (goal.at.overflow_sub-d c).After-days_in-2) (tota
 pub as_count-requires : goal.as_count-requires
 as_count-requires c = let a = c.args.a in
     rw (between (goal.at.as_count-requires c).After-days_in-2, to_z-of_z (total_range a c.requires).1)
-    (no_less (days_in (end a) -ℤ days_in (start a)) (total_dn a c.requires))
+    (no_less (days_in a.end -ℤ days_in a.start) (total_dn a c.requires))
 
 pub overflow_mul-step : goal.overflow_mul-step
 overflow_mul-step c = omega (

@@ -15,13 +15,10 @@ use Rattle.plans.proofs.Spans.{tail_range, shift_small}
 use Rattle.plans.proofs.time_plan.Goals as goal
 use Rattle.plans.proofs.time_plan.Goals.{After-as_count, After-as_count-tail, After-unwrap-span, Start}
 
-kind_fits : (c : Start) → SFits w64 c.args.a.kind
-kind_fits c = search rules
-
-head_fits : (c : Start) → SFits w64 c.args.a.start_head
+head_fits : (c : Start) → SFits w64 c.args.a.start.head
 head_fits c = search rules
 
-tail_fits : (c : Start) → SFits w64 c.args.a.start_tail
+tail_fits : (c : Start) → SFits w64 c.args.a.start.tail
 tail_fits c = search rules
 
 value : (c : After-unwrap-span) → to_z w64 (of_z w64 c.unwrap-span.result) ≡ span_of c.args.a
@@ -32,7 +29,7 @@ value c =
 pub unwrap-span-requires : goal.unwrap-span-requires
 unwrap-span-requires c = rw (c.span.ensures, value_is (span_of c.args.a) c.requires.fits) (search rules)
 
-tail : (c : After-as_count-tail) → c.as_count-tail.result ≡ pos_part c.args.a.start_tail
+tail : (c : After-as_count-tail) → c.as_count-tail.result ≡ pos_part c.args.a.start.tail
 tail c = c.as_count-tail.ensures ∙ ap pos_part (to_z-of_z (tail_fits (goal.at.After-as_count-tail c).Start))
 
 counted : (c : After-as_count) → c.as_count.result ≡ pos_part (span_of c.args.a)
@@ -41,7 +38,7 @@ counted c = c.as_count.ensures ∙ ap pos_part (value (goal.at.After-as_count c)
 pub as_count-tail-requires : goal.as_count-tail-requires
 as_count-tail-requires c =
     rw (to_z-of_z (tail_fits (goal.at.as_count-tail-requires c).Start))
-    (no_less c.args.a.start_tail (tail_range c.args.a c.requires.real).0)
+    (no_less c.args.a.start.tail (tail_range c.args.a c.requires.real).0)
 
 pub overflow_add-tail : goal.overflow_add-tail
 overflow_add-tail c = omega (
@@ -64,7 +61,6 @@ unfolding time_plan
 returns c = c.even_plan.ensures
     ∙ rw (
       c.unit.ensures,
-      to_z-of_z (kind_fits (goal.at.returns c).Start),
       to_z-of_z (head_fits (goal.at.returns c).Start),
       tail (goal.at.returns c).After-as_count-tail,
       c.shift.ensures,

@@ -42,7 +42,12 @@ week_step-requires c = (few (goal.at.week_step-requires c).After-saturating_sub-
 
 stride : (c : After-week_step) → (0 < c.week_step.result) × (c.week_step.result < 4000001)
 stride c = let n = c.args.n in
-    omega (arith, c.week_step.ensures, week_room (c.saturating_sub-2.result / 7) n, few (goal.at.After-week_step c).After-saturating_sub-2)
+    omega (
+      arith,
+      c.week_step.ensures,
+      week_room (c.saturating_sub-2.result / 7) n,
+      few (goal.at.After-week_step c).After-saturating_sub-2,
+    )
 
 pub overflow_mul-week_step : goal.overflow_mul-week_step
 overflow_mul-week_step c = omega (arith, stride (goal.at.overflow_mul-week_step c).After-week_step)

@@ -3,6 +3,6 @@ use borrow.Author.Rules.{rules}
 use Rattle.text_line.specs.Line.{kind_of}
 use Rattle.text_line.proofs.kind_of.Goals as goal
 
-pub returns-clause-value : goal.returns-clause-value
+pub returns : goal.returns
 unfolding kind_of
-returns-clause-value c = search rules
+returns c = search rules

@@ -14,7 +14,7 @@ returns-then-not-in_form c = rw (← c.in_form.ensures, c.if-not-in_form.true)
 formed : (c : After-kind_of) → let s = c.args.s.now in
     option_and_then (λ k. fields_of k s) c.kind_of.result ≡ read_line s
 unfolding read_line
-formed c = rw (c.kind_of.ensures.value, c.field.ensures, ← c.in_form.ensures, c.if-not-in_form.false)
+formed c = rw (c.kind_of.ensures, c.field.ensures, ← c.in_form.ensures, c.if-not-in_form.false)
 
 pub returns-in_err-kind : goal.returns-in_err-kind
 returns-in_err-kind c =
@@ -108,7 +108,6 @@ returns-in_err-high c =
 pub returns : goal.returns
 returns c =
     rw (
-      c.axis_of.ensures,
       ← formed (goal.at.returns c).After-kind_of,
       c.in_ok-kind.was,
       ← c.rest_of-a.ensures,

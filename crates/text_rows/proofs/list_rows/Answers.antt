@@ -61,20 +61,18 @@ loop-tick-init c = record {
 
 pub row-requires : goal.row-requires
 row-requires c =
-    let p = goal.at.row-requires c in
-    let kind : SFits w64 c.args.a.kind = search rules in (
-      rw (to_z-of_z kind, read p.After-v-in-loop-tick-1) (c.requires.0 _ (turn p.In-Some).0),
+    let p = goal.at.row-requires c in (
+      rw (read p.After-v-in-loop-tick-1) (c.requires.0 _ (turn p.In-Some).0),
       grind (arith, common_steps, (turn p.In-Some).0),
     )
 
 pub loop-tick-preserved : goal.loop-tick-preserved
 loop-tick-preserved c =
     let p = goal.at.loop-tick-preserved c in
-    let kind : SFits w64 c.args.a.kind = search rules in
     let i = length c.loop-tick.yielded in
     let n : length (c.loop-tick.yielded ++ (c.in-Some.tick ∷ [])) ≡ i + 1 = length-append c.loop-tick.yielded _ in
     let pixel = rw (read p.After-v-in-loop-tick-1) at c.map_ready-p.ensures in
-    let row = rw (to_z-of_z kind, read p.After-v-in-loop-tick-1, pixel, c.shows_fractions-shown.ensures) at c.row.ensures in
+    let row = rw (read p.After-v-in-loop-tick-1, pixel, c.shows_fractions-shown.ensures) at c.row.ensures in
     record {
       can_next = search rules;
       finite = search rules;

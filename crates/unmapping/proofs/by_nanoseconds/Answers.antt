@@ -7,6 +7,7 @@ use mir.Syntax.{w64}
 use mir.Val.{SFits, to_z, of_z}
 use mir.Facts.{to_z-of_z}
 use Rattle.laws.proofs.Signed.{rem_fits}
+use Rattle.unmapping.specs.Moves.{OnWidth}
 use Rattle.unmapping.proofs.Moves.{quot_abs_fits, product_fits_law, rest_product_fits, quotient_fits, sum_fits, divisor}
 use Rattle.unmapping.proofs.by_nanoseconds.Goals as goal
 use Rattle.unmapping.proofs.by_nanoseconds.Goals.{Start}
@@ -20,6 +21,9 @@ module _ (c : Start) where
 
   abbrev o : ℤ
   o = c.args.o.pixels
+
+  abbrev on : OnWidth o w
+  on = c.args.o.on_width
 
   -- what the code has read
   pixels_is : to_z w64 (of_z w64 o) ≡ o
@@ -35,22 +39,22 @@ module _ (c : Start) where
   span_is = to_z-of_z c.ranges.s
 
   factor_is : to_z w64 (of_z w64 (quot_z s w)) ≡ quot_z s w
-  factor_is = to_z-of_z (quot_abs_fits s w c.ranges.s c.requires.2)
+  factor_is = to_z-of_z (quot_abs_fits s w c.ranges.s c.requires.1)
 
   rest_is : to_z w64 (of_z w64 (rem_z s w)) ≡ rem_z s w
   rest_is = to_z-of_z (rem_fits s w c.ranges.s)
 
   product_fits : SFits w64 (o *ℤ quot_z s w)
-  product_fits = product_fits_law s w o c.requires.1.pixels_most c.requires.1.width_most c.requires.1.width_some c.requires.3
+  product_fits = product_fits_law s w o on.pixels_most on.width_most on.width_some c.requires.2
 
   rest_fits : SFits w64 (rem_z s w *ℤ o)
-  rest_fits = rest_product_fits s w o c.requires.1.pixels_most c.requires.1.width_most c.requires.1.width_some c.requires.3
+  rest_fits = rest_product_fits s w o on.pixels_most on.width_most on.width_some c.requires.2
 
   more_fits : SFits w64 (quot_z (rem_z s w *ℤ o) w)
-  more_fits = quotient_fits s w o c.requires.1.pixels_most c.requires.1.width_most c.requires.1.width_some c.requires.3
+  more_fits = quotient_fits s w o on.pixels_most on.width_most on.width_some c.requires.2
 
   all_fits : SFits w64 (o *ℤ quot_z s w +ℤ quot_z (rem_z s w *ℤ o) w)
-  all_fits = sum_fits s w o c.requires.1.pixels_most c.requires.1.width_most c.requires.1.width_some c.requires.3
+  all_fits = sum_fits s w o on.pixels_most on.width_most on.width_some c.requires.2
 
 pub overflow_mul-o : goal.overflow_mul-o
 overflow_mul-o c = let p = (goal.at.overflow_mul-o c).Start in
@@ -58,7 +62,7 @@ overflow_mul-o c = let p = (goal.at.overflow_mul-o c).Start in
 
 pub nonzero_div-s-2 : goal.nonzero_div-s-2
 nonzero_div-s-2 c = let p = (goal.at.nonzero_div-s-2 c).Start in (
-  divisor (w p) (width_fits p) c.requires.1.width_some,
+  divisor (w p) (width_fits p) c.args.o.on_width.width_some,
   rw (pixels_is p, span_is p, width_is p, rest_is p, to_z-of_z (rest_fits p)) (more_fits p),
 )
 

@@ -12,25 +12,25 @@ use Rattle.values.specs.Values.{a_date_time}
 use Rattle.values.specs.Differences.{nanoseconds, fits_i64}
 use Rattle.values.proofs.Fits.{answer_none, answer_some}
 use Rattle.axis.specs.declared.Axis.{Axis}
-use Rattle.axis.specs.Axes.{start, span_of}
+use Rattle.axis.specs.Axes.{span_of}
 use Rattle.axis.proofs.Axes.{both_ends, span_from_0}
 use Rattle.unmapping.specs.declared.Offset.{Offset}
 use Rattle.unmapping.specs.Unmapping.{product_fits, by_nanoseconds, by_days}
 use Rattle.unmapping.specs.Moves.{since_zero, date_time_answer}
 use Rattle.unmapping.proofs.Moves.{start_value, start_is, moved_long, branch}
 use Rattle.unmapping.proofs.date_time_at.Goals as goal
-use Rattle.unmapping.proofs.date_time_at.Goals.{After-start-v, In-Some}
+use Rattle.unmapping.proofs.date_time_at.Goals.{In-Some, Start}
 
-module _ (c : After-start-v) where
+module _ (c : Start) where
   abbrev a : Axis
   a = c.args.a
 
   -- the start's nanoseconds, as the code has them
-  at : since_zero c.start-v.result ≡ nanoseconds a.kind (start a)
-  at = ap since_zero c.start-v.ensures ∙ start_is a.kind (start a) c.requires.0
+  at : since_zero a.start ≡ nanoseconds a.kind a.start
+  at = start_is a.kind a.start c.requires.0
 
-  start_at : a_date_time c.start-v.result ≡ true
-  start_at = rw c.start-v.ensures (start_value a.kind (start a) (both_ends a c.requires.1).first c.requires.0)
+  start_at : a_date_time a.start ≡ true
+  start_at = start_value a.kind a.start (both_ends a c.requires.1).first c.requires.0
 
 -- a span that fits
 module _ (c : In-Some) where
@@ -59,7 +59,7 @@ module _ (c : In-Some) where
   tested b e = sym (e ∙ ap (λ (z : ℤ). product_fits o.pixels (quot_z z o.width) (rem_z z o.width)) span_is)
 
 pub by_days-requires : goal.by_days-requires
-by_days-requires c = start_at (goal.at.by_days-requires c).After-start-v
+by_days-requires c = start_at (goal.at.by_days-requires c).Start
 
 pub returns-in_default : goal.returns-in_default
 returns-in_default c = let x = c.args in
@@ -67,17 +67,16 @@ returns-in_default c = let x = c.args in
     let days = to_z-of_z {w = w64} {z = c.span_days.result} (search rules) ∙ c.span_days.ensures in
     let long : fits_i64 s ≡ false = answer_none s c.span.result c.span.ensures c.in_default.is in
     c.by_days.ensures
-    ∙ ((λ i. date_time_answer (at (goal.at.returns-in_default c).After-start-v i
+    ∙ ((λ i. date_time_answer (at (goal.at.returns-in_default c).Start i
     +ℤ by_days (days i) x.o.width x.o.pixels *ℤ pos 86400000000000))
-    ∙ ap (λ (y : ℤ). date_time_answer (nanoseconds x.a.kind (start x.a) +ℤ y)) (moved_long s x.o.width x.o.pixels long))
+    ∙ ap (λ (y : ℤ). date_time_answer (nanoseconds x.a.kind x.a.start +ℤ y)) (moved_long s x.o.width x.o.pixels long))
 
 pub product_fits-requires : goal.product_fits-requires
-product_fits-requires c = (c.requires.3, none_below (goal.at.product_fits-requires c).In-Some)
+product_fits-requires c = none_below (goal.at.product_fits-requires c).In-Some
 
 pub by_nanoseconds-requires : goal.by_nanoseconds-requires
 by_nanoseconds-requires c = (
-  start_at (goal.at.by_nanoseconds-requires c).After-start-v,
-  c.requires.3,
+  start_at (goal.at.by_nanoseconds-requires c).Start,
   none_below (goal.at.by_nanoseconds-requires c).In-Some,
   sym c.product_fits.ensures ∙ c.if-product_fits.true,
 )
@@ -87,13 +86,13 @@ returns-then-product_fits c = let x = c.args in
     let p = (goal.at.returns-then-product_fits c).In-Some in
     let e = tested p true (sym c.if-product_fits.true ∙ c.product_fits.ensures) in
     c.by_nanoseconds.ensures
-    ∙ ((λ i. date_time_answer (at (goal.at.returns-then-product_fits c).After-start-v i
+    ∙ ((λ i. date_time_answer (at (goal.at.returns-then-product_fits c).Start i
     +ℤ by_nanoseconds (span_is p i) x.o.width x.o.pixels))
-    ∙ ap (λ (y : ℤ). date_time_answer (nanoseconds x.a.kind (start x.a) +ℤ y))
+    ∙ ap (λ (y : ℤ). date_time_answer (nanoseconds x.a.kind x.a.start +ℤ y))
     (branch (span_of x.a) x.o.width x.o.pixels true (fits p) e))
 
 pub by_days-requires-2 : goal.by_days-requires-2
-by_days-requires-2 c = start_at (goal.at.by_days-requires-2 c).After-start-v
+by_days-requires-2 c = start_at (goal.at.by_days-requires-2 c).Start
 
 pub returns : goal.returns
 returns c = let x = c.args in
@@ -101,7 +100,7 @@ returns c = let x = c.args in
     let e = tested p false (sym c.if-product_fits.false ∙ c.product_fits.ensures) in
     let days = to_z-of_z {w = w64} {z = c.span_days-2.result} (search rules) ∙ c.span_days-2.ensures in
     c.by_days-2.ensures
-    ∙ ((λ i. date_time_answer (at (goal.at.returns c).After-start-v i
+    ∙ ((λ i. date_time_answer (at (goal.at.returns c).Start i
     +ℤ by_days (days i) x.o.width x.o.pixels *ℤ pos 86400000000000))
-    ∙ ap (λ (y : ℤ). date_time_answer (nanoseconds x.a.kind (start x.a) +ℤ y))
+    ∙ ap (λ (y : ℤ). date_time_answer (nanoseconds x.a.kind x.a.start +ℤ y))
     (branch (span_of x.a) x.o.width x.o.pixels false (fits p) e))

@@ -27,7 +27,7 @@ pub returns : goal.returns
 returns c = let o = c.args.o in
     let s = c.args.s in
     let w = to_z-of_z (width_fits (goal.at.returns c).Start) in
-    let q = quot_abs_fits s o.width c.ranges.s c.requires.1 in
+    let q = quot_abs_fits s o.width c.ranges.s c.requires in
     let r = rem_fits s o.width c.ranges.s in
     let z = count_fits 0 (omega arith) in
     let m = quot_abs_fits (pos 9223372036854775807) (quot_z s o.width) (count_fits 9223372036854775807 (omega arith)) refl in

@@ -1,6 +1,6 @@
 -- `unmapping::unmap_coord` meets its contract. Assumes nothing.
 use borrow.Author.Rules.{rules}
-use mathlib.Core.Path.{◌≡◌, sym, ◌∙◌, ap, subst}
+use mathlib.Core.Path.{◌≡◌, ◌∙◌}
 use mathlib.Core.Bool.{true}
 use lib.IntN.{◌+ℤ◌, ◌-ℤ◌}
 use mir.Syntax.{w64}
@@ -8,10 +8,9 @@ use mir.Val.{SFits, to_z, of_z}
 use mir.Facts.{to_z-of_z}
 use Rattle.laws.proofs.Signed.{read_sub}
 use Rattle.values.specs.Differences.{nanoseconds}
-use Rattle.axis.specs.Axes.{start, span_of}
+use Rattle.axis.specs.Axes.{span_of}
 use Rattle.axis.specs.Questions.{is_pixel, differ}
 use Rattle.axis.proofs.Questions.{unmap_parts}
-use Rattle.unmapping.specs.declared.Offset.{Offset}
 use Rattle.unmapping.specs.Unmapping.{moved_by, unmap_coord}
 use Rattle.unmapping.specs.Moves.{OnWidth, date_time_answer}
 use Rattle.axis.proofs.PixelRanges.{limits_are, between_fits, between_few, width_some}
@@ -40,45 +39,32 @@ overflow_sub-o-2 c = let (l, h, p, d) = page (goal.at.overflow_sub-o-2 c).Start 
     rw (to_z-of_z (high_fits (goal.at.overflow_sub-o-2 c).Start), to_z-of_z (low_fits (goal.at.overflow_sub-o-2 c).Start))
     (between_fits c.args.l.high c.args.l.low h l)
 
-on_width : (c : Start) → OnWidth (record {
-  pixels = c.args.pixel -ℤ c.args.l.low;
-  width =
-      c.args.l.high -ℤ c.args.l.low;
-})
-on_width c = let (l, h, p, d) = page c in
-    record {
-      pixels_most = between_few c.args.pixel c.args.l.low p l;
-      width_most =
-          between_few c.args.l.high c.args.l.low h l;
-      width_some = width_some c.args.l d;
-    }
+-- the offset and the width, as the code has them
+module _ (c : Start) where
+  pub pixels_are : to_z w64 (of_z w64 (to_z w64 (of_z w64 c.args.pixel) -ℤ to_z w64 (of_z w64 c.args.l.low)))
+      ≡ c.args.pixel -ℤ c.args.l.low
+  pixels_are = let (l, h, p, d) = page c in
+      read_sub c.args.pixel c.args.l.low c.ranges.pixel (low_fits c) (between_fits c.args.pixel c.args.l.low p l)
 
-offset_is : (c : Start) → let x = c.args in
-    ◌≡◌ {A = Offset}
-    (record {
-      pixels = to_z w64 (of_z w64 (to_z w64 (of_z w64 x.pixel) -ℤ to_z w64 (of_z w64 x.l.low)));
-      width =
-          to_z w64 (of_z w64 (to_z w64 (of_z w64 x.l.high) -ℤ to_z w64 (of_z w64 x.l.low)));
-    })
-    (record { pixels = x.pixel -ℤ x.l.low; width = x.l.high -ℤ x.l.low })
-offset_is c = let x = c.args in
-    let (l, h, p, d) = page c in
-    let P = read_sub x.pixel x.l.low c.ranges.pixel (low_fits c) (between_fits x.pixel x.l.low p l) in
-    let W = read_sub x.l.high x.l.low (high_fits c) (low_fits c) (between_fits x.l.high x.l.low h l) in
-    λ i. record { pixels = P i; width = W i }
+  pub width_is : to_z w64 (of_z w64 (to_z w64 (of_z w64 c.args.l.high) -ℤ to_z w64 (of_z w64 c.args.l.low)))
+      ≡ c.args.l.high -ℤ c.args.l.low
+  width_is = let (l, h, p, d) = page c in
+      read_sub c.args.l.high c.args.l.low (high_fits c) (low_fits c) (between_fits c.args.l.high c.args.l.low h l)
 
-pub date_time_at-requires : goal.date_time_at-requires
-date_time_at-requires c = (
-  c.requires.dated,
-  c.requires.real,
-  c.requires.order,
-  subst (λ (o : Offset). OnWidth o)
-      (sym (offset_is (goal.at.date_time_at-requires c).Start)) (on_width (goal.at.date_time_at-requires c).Start),
-)
+  pub on_width : OnWidth (c.args.pixel -ℤ c.args.l.low) (c.args.l.high -ℤ c.args.l.low)
+  on_width = let (l, h, p, d) = page c in
+      record {
+        pixels_most = between_few c.args.pixel c.args.l.low p l;
+        width_most = between_few c.args.l.high c.args.l.low h l;
+        width_some = width_some c.args.l d;
+      }
+
+pub invariant_of-o : goal.invariant_of-o
+invariant_of-o c = let s = (goal.at.invariant_of-o c).Start in record { on_width = rw (pixels_are s, width_is s) (on_width s) }
 
 pub returns : goal.returns
 unfolding unmap_coord date_time_answer
 returns c = let a = c.args.a in
+    let s = (goal.at.returns c).Start in
     c.date_time_at.ensures
-    ∙ ap (λ (o : Offset). date_time_answer (nanoseconds a.kind (start a) +ℤ moved_by (span_of a) o.width o.pixels))
-    (offset_is (goal.at.returns c).Start)
+    ∙ (λ i. date_time_answer (nanoseconds a.kind a.start +ℤ moved_by (span_of a) (width_is s i) (pixels_are s i)))

@@ -5,11 +5,10 @@ use lib.IntN.{◌-ℤ◌}
 use mir.Syntax.{w64}
 use mir.Val.{SFits, to_z, of_z}
 use mir.Facts.{to_z-of_z}
-use Rattle.values.specs.Values.{is_duration}
 use Rattle.values.proofs.Values.{InRange}
 use Rattle.values.proofs.Differences.{parts_fit, days_of, seconds_of}
 use Rattle.values.proofs.split.Goals as goal
-use Rattle.values.proofs.split.Goals.{After-is_duration, Start}
+use Rattle.values.proofs.split.Goals.{Start}
 
 range_a : (c : Start) → InRange c.args.a
 range_a c = search rules
@@ -43,19 +42,12 @@ overflow_sub-tails c =
       to_z-of_z (range_a (goal.at.overflow_sub-tails c).Start).tail,
     ) (fit (goal.at.overflow_sub-tails c).Start).1
 
-asked : (c : After-is_duration) → c.is_duration.result
-    ≡ is_duration c.args.kind
-asked c = rw (to_z-of_z
-    c.ranges.kind) at c.is_duration.ensures
-
 pub returns-then-is_duration : goal.returns-then-is_duration
 returns-then-is_duration c =
     rw (heads_is (goal.at.returns-then-is_duration c).Start, tails_is (goal.at.returns-then-is_duration c).Start)
-    (seconds_of c.args.kind c.args.a c.args.b c.requires (sym (asked (goal.at.returns-then-is_duration c).After-is_duration)
-    ∙ c.if-is_duration.true))
+    (seconds_of c.args.kind c.args.a c.args.b c.requires (sym c.is_duration.ensures ∙ c.if-is_duration.true))
 
 pub returns : goal.returns
 returns c =
     rw (heads_is (goal.at.returns c).Start, tails_is (goal.at.returns c).Start)
-    (days_of c.args.kind c.args.a c.args.b c.requires (sym (asked (goal.at.returns c).After-is_duration)
-    ∙ c.if-is_duration.false))
+    (days_of c.args.kind c.args.a c.args.b c.requires (sym c.is_duration.ensures ∙ c.if-is_duration.false))

@@ -7,12 +7,11 @@ use mir.Syntax.{w64}
 use mir.Val.{SFits}
 use mir.Facts.{to_z-of_z}
 use Rattle.laws.proofs.Signed.{quot_fits}
-use Rattle.values.specs.Values.{is_duration}
 use Rattle.values.specs.Differences.{unit, difference}
 use Rattle.values.specs.Parts.{Of}
 use Rattle.values.proofs.Differences.{by_seconds}
 use Rattle.values.proofs.whole_days_between.Goals as goal
-use Rattle.values.proofs.whole_days_between.Goals.{After-is_duration, After-whole-n}
+use Rattle.values.proofs.whole_days_between.Goals.{After-whole-n}
 
 module _ (c : After-whole-n) where
   abbrev exact : ℤ
@@ -27,15 +26,11 @@ module _ (c : After-whole-n) where
   -- whole heads: seconds or days
   heads_is : c.whole-n.result ≡ quot_z exact (pos (unit c.args.kind))
   heads_is =
-      let p : Of c.args.kind c.args.a c.args.b c.split.result =
-      rw (to_z-of_z c.ranges.kind) at c.split.ensures in
+      let p : Of c.args.kind c.args.a c.args.b c.split.result = c.split.ensures in
       c.whole-n.ensures ∙ (ap (λ (x : ℤ). quot_z x c.split.result.unit) p.sum_is ∙ ap (quot_z exact) p.unit_is)
 
-asked : (c : After-is_duration) → c.is_duration.result ≡ is_duration c.args.kind
-asked c = rw (to_z-of_z c.ranges.kind) at c.is_duration.ensures
-
 pub returns-then-is_duration : goal.returns-then-is_duration
-returns-then-is_duration c = let e = sym (asked (goal.at.returns-then-is_duration c).After-is_duration) ∙ c.if-is_duration.true in
+returns-then-is_duration c = let e = sym c.is_duration.ensures ∙ c.if-is_duration.true in
     let h : c.whole-n.result ≡ quot_z (exact (goal.at.returns-then-is_duration c).After-whole-n) (pos 1000000000) =
     rw e at (heads_is (goal.at.returns-then-is_duration c).After-whole-n) in
     rw (
