@@ -20,6 +20,13 @@ pub struct Position {
     pub at: u64,
 }
 
+// An axis over dates or date-times, of which question 3 is answered.
+#[derive(Clone, Copy)]
+pub struct DateAxis {
+    pub axis: Axis,
+    ghost dated: { Dated axis },
+}
+
 // Does an axis count months?
 pub fn monthly(a: Axis) -> bool
     ensures { result ≡ monthly a }
@@ -32,25 +39,6 @@ pub fn yearly(a: Axis) -> bool
     ensures { result ≡ yearly a }
 {
     matches!(a.kind, Kind::Year | Kind::StampYear)
-}
-
-// date_ceil of the start.
-pub fn from_day(a: Axis) -> u64
-    requires { Dated a }
-    ensures { result ≡ from_day a }
-{
-    calendar::date_ceil(DateTime {
-        day: calendar::as_count(a.start.head),
-        nano: calendar::as_count(a.start.tail),
-    })
-}
-
-// date_floor of the end.
-pub fn to_day(a: Axis) -> u64
-    requires { Dated a }
-    ensures { result ≡ to_day a }
-{
-    calendar::as_count(a.end.head)
 }
 
 // The day of a value, whatever its time is.
@@ -69,14 +57,6 @@ pub fn date_on(v: Value) -> Date
     calendar::date_of(day_on(v))
 }
 
-// The date from which months and years are counted.
-pub fn first_date(a: Axis) -> Date
-    requires { Dated a }
-    ensures { result ≡ first_date a }
-{
-    calendar::date_of(from_day(a))
-}
-
 // How much x exceeds y, or 0.
 pub fn less(x: u64, y: u64) -> u64
     ensures { result ≡ x - y }
@@ -92,38 +72,64 @@ pub fn months_from(first: Date, date: Date) -> u64
     12 * date.year.saturating_sub(first.year) + date.month
 }
 
-pub fn position_of(a: Axis, v: Value) -> Position
-    requires { Dated a × (value_on a v ≡ true) }
-    ensures { result ≡ record { from = origin a; at = position a v } }
-{
-    match a.kind {
-        Kind::Month | Kind::StampMonth => {
-            let first = first_date(a);
-            Position {
-                from: first.month,
-                at: months_from(first, date_on(v)),
-            }
-        }
-        Kind::Year | Kind::StampYear => Position {
-            from: first_date(a).year,
-            at: date_on(v).year,
-        },
-        Kind::Week => Position {
-            from: weeks::mondays_to(day_on(a.start)),
-            at: weeks::mondays_to(day_on(v)),
-        },
-        Kind::Date | Kind::Stamp | Kind::Span => Position {
-            from: day_on(a.start),
-            at: day_on(v),
-        },
+impl DateAxis {
+    // date_ceil of the start.
+    pub fn from_day(self) -> u64
+        ensures { result ≡ from_day self.axis }
+    {
+        calendar::date_ceil(DateTime {
+            day: calendar::as_count(self.axis.start.head),
+            nano: calendar::as_count(self.axis.start.tail),
+        })
     }
-}
 
-// Both ends are counted. On kinds 5 and 6 the first date may lie behind the end; then the size may be 0.
-pub fn size_of(a: Axis) -> u64
-    requires { Dated a }
-    ensures { result ≡ size_of a }
-{
-    let p = position_of(a, a.end);
-    (p.at + 1).saturating_sub(p.from)
+    // date_floor of the end.
+    pub fn to_day(self) -> u64
+        ensures { result ≡ to_day self.axis }
+    {
+        calendar::as_count(self.axis.end.head)
+    }
+
+    // The date from which months and years are counted.
+    pub fn first_date(self) -> Date
+        ensures { result ≡ first_date self.axis }
+    {
+        calendar::date_of(self.from_day())
+    }
+
+    pub fn position_of(self, v: Value) -> Position
+        requires { value_on self.axis v ≡ true }
+        ensures { result ≡ record { from = origin self.axis; at = position self.axis v } }
+    {
+        let a = self.axis;
+        match a.kind {
+            Kind::Month | Kind::StampMonth => {
+                let first = self.first_date();
+                Position {
+                    from: first.month,
+                    at: months_from(first, date_on(v)),
+                }
+            }
+            Kind::Year | Kind::StampYear => Position {
+                from: self.first_date().year,
+                at: date_on(v).year,
+            },
+            Kind::Week => Position {
+                from: weeks::mondays_to(day_on(a.start)),
+                at: weeks::mondays_to(day_on(v)),
+            },
+            Kind::Date | Kind::Stamp | Kind::Span => Position {
+                from: day_on(a.start),
+                at: day_on(v),
+            },
+        }
+    }
+
+    // Both ends are counted. On kinds 5 and 6 the first date may lie behind the end; then the size may be 0.
+    pub fn size_of(self) -> u64
+        ensures { result ≡ size_of self.axis }
+    {
+        let p = self.position_of(self.axis.end);
+        (p.at + 1).saturating_sub(p.from)
+    }
 }

@@ -1,4 +1,4 @@
--- `counting::position_of` meets its contract: days, months, years or weeks, as the kind counts. Assumes nothing.
+-- `counting::DateAxis::position_of` meets its contract: days, months, years or weeks, as the kind counts. Assumes nothing.
 use mathlib.Core.Path.{sym, ◌∙◌, ap}
 use Prim.Native.Nat.{◌+◌, ◌-◌, ◌*◌}
 use native.Mathlib.Omega.{arith}
@@ -8,42 +8,42 @@ use Rattle.counting.specs.Counting.{first_date}
 use Rattle.counting.proofs.Counting.{Near, on_day, starts, is_day_law, on_near, in_months, in_years, in_weeks, in_days}
 use Rattle.counting.proofs.Counting.{origin_months, origin_years, origin_weeks, origin_days}
 use Rattle.counting.proofs.Counting.{position_months, position_years, position_weeks, position_days}
-use Rattle.counting.proofs.position_of.Goals as goal
-use Rattle.counting.proofs.position_of.Goals.{After-date_on}
+use Rattle.counting.proofs.DateAxis.position_of.Goals as goal
+use Rattle.counting.proofs.DateAxis.position_of.Goals.{After-date_on}
 
 pub date_on-requires : goal.date_on-requires
-date_on-requires c = is_day_law c.args.v (on_day c.args.a c.requires.0 c.args.v c.requires.1)
+date_on-requires c = is_day_law c.args.v (on_day c.args.self.axis c.args.self.dated c.args.v c.requires)
 
 near : (c : After-date_on) → Near c.date_on.result 9999
-near c = rw c.date_on.ensures (on_near c.args.a c.requires.0 c.args.v c.requires.1)
+near c = rw c.date_on.ensures (on_near c.args.self.axis c.args.self.dated c.args.v c.requires)
 
 pub months_from-requires : goal.months_from-requires
 months_from-requires c = let n = near (goal.at.months_from-requires c).After-date_on in (n.year_most, n.month_most)
 
 pub date_on-requires-in-Year : goal.date_on-requires-in-Year
-date_on-requires-in-Year c = is_day_law c.args.v (on_day c.args.a c.requires.0 c.args.v c.requires.1)
+date_on-requires-in-Year c = is_day_law c.args.v (on_day c.args.self.axis c.args.self.dated c.args.v c.requires)
 
 pub day_on-requires : goal.day_on-requires
-day_on-requires c = is_day_law c.args.a.start (starts c.args.a c.requires.0)
+day_on-requires c = is_day_law c.args.self.axis.start (starts c.args.self.axis c.args.self.dated)
 
 pub mondays_to-requires : goal.mondays_to-requires
-mondays_to-requires c = omega (arith, c.day_on.ensures, (starts c.args.a c.requires.0).head_most)
+mondays_to-requires c = omega (arith, c.day_on.ensures, (starts c.args.self.axis c.args.self.dated).head_most)
 
 pub day_on-requires-in-Week : goal.day_on-requires-in-Week
-day_on-requires-in-Week c = is_day_law c.args.v (on_day c.args.a c.requires.0 c.args.v c.requires.1)
+day_on-requires-in-Week c = is_day_law c.args.v (on_day c.args.self.axis c.args.self.dated c.args.v c.requires)
 
 pub mondays_to-requires-in-Week : goal.mondays_to-requires-in-Week
 mondays_to-requires-in-Week c =
-    omega (arith, c.day_on-in-Week.ensures, (on_day c.args.a c.requires.0 c.args.v c.requires.1).head_most)
+    omega (arith, c.day_on-in-Week.ensures, (on_day c.args.self.axis c.args.self.dated c.args.v c.requires).head_most)
 
 pub day_on-requires-in-Date : goal.day_on-requires-in-Date
-day_on-requires-in-Date c = is_day_law c.args.a.start (starts c.args.a c.requires.0)
+day_on-requires-in-Date c = is_day_law c.args.self.axis.start (starts c.args.self.axis c.args.self.dated)
 
 pub day_on-requires-in-Date-2 : goal.day_on-requires-in-Date-2
-day_on-requires-in-Date-2 c = is_day_law c.args.v (on_day c.args.a c.requires.0 c.args.v c.requires.1)
+day_on-requires-in-Date-2 c = is_day_law c.args.v (on_day c.args.self.axis c.args.self.dated c.args.v c.requires)
 
 pub returns-in-Month : goal.returns-in-Month
-returns-in-Month c = let a = c.args.a in
+returns-in-Month c = let a = c.args.self.axis in
     let m = in_months a c.in-Month.is in
     let p = ap (λ (t : Date). t.month) c.first_date-first.ensures ∙ sym (origin_months a m) in
     let q = c.months_from.ensures
@@ -53,21 +53,21 @@ returns-in-Month c = let a = c.args.a in
     λ i. record { from = p i; at = q i }
 
 pub returns-in-Year : goal.returns-in-Year
-returns-in-Year c = let a = c.args.a in
+returns-in-Year c = let a = c.args.self.axis in
     let (m, y) = in_years a c.in-Year.is in
     let p = ap (λ (d : Date). d.year) c.first_date.ensures ∙ sym (origin_years a m y) in
     let q = ap (λ (d : Date). d.year) c.date_on-in-Year.ensures ∙ sym (position_years a c.args.v m y) in
     λ i. record { from = p i; at = q i }
 
 pub returns-in-Week : goal.returns-in-Week
-returns-in-Week c = let a = c.args.a in
+returns-in-Week c = let a = c.args.self.axis in
     let (m, y, w) = in_weeks a c.in-Week.is in
     let p = c.mondays_to.ensures ∙ ap mondays_to c.day_on.ensures ∙ sym (origin_weeks a m y w) in
     let q = c.mondays_to-in-Week.ensures ∙ ap mondays_to c.day_on-in-Week.ensures ∙ sym (position_weeks a c.args.v m y w) in
     λ i. record { from = p i; at = q i }
 
 pub returns-in-Date : goal.returns-in-Date
-returns-in-Date c = let a = c.args.a in
+returns-in-Date c = let a = c.args.self.axis in
     let (m, y, w) = in_days a c.in-Date.is in
     let p = c.day_on-in-Date.ensures ∙ sym (origin_days a m y w) in
     let q = c.day_on-in-Date-2.ensures ∙ sym (position_days a c.args.v m y w) in

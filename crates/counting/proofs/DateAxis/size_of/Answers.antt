@@ -1,18 +1,18 @@
--- `counting::size_of` meets its contract. Assumes nothing.
+-- `counting::DateAxis::size_of` meets its contract. Assumes nothing.
 use mathlib.Core.Path.{sym, ◌∙◌, ap}
 use native.Mathlib.Omega.{arith}
 use Prim.Native.Nat.{◌+◌, ◌-◌}
 use Rattle.counting.specs.declared.Position.{Position}
 use Rattle.counting.proofs.Counting.{end_on, position_most}
 use Rattle.counting.proofs.Sizes.{size_is}
-use Rattle.counting.proofs.size_of.Goals as goal
+use Rattle.counting.proofs.DateAxis.size_of.Goals as goal
 
 pub position_of-p-requires : goal.position_of-p-requires
-position_of-p-requires c = (c.requires, end_on c.args.a c.requires)
+position_of-p-requires c = end_on c.args.self.axis c.args.self.dated
 
 pub overflow_add-p : goal.overflow_add-p
 overflow_add-p c = let e = ap (λ (x : Position). x.at) c.position_of-p.ensures in
-    omega (arith, e, position_most c.args.a c.requires c.args.a.end (end_on c.args.a c.requires))
+    omega (arith, e, position_most c.args.self.axis c.args.self.dated c.args.self.axis.end (end_on c.args.self.axis c.args.self.dated))
 
 pub returns : goal.returns
-returns c = c.saturating_sub.ensures ∙ ap (λ (x : Position). x.at + 1 - x.from) c.position_of-p.ensures ∙ sym (size_is c.args.a)
+returns c = c.saturating_sub.ensures ∙ ap (λ (x : Position). x.at + 1 - x.from) c.position_of-p.ensures ∙ sym (size_is c.args.self.axis)
