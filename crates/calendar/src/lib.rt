@@ -36,6 +36,7 @@ pub struct DateTime {
 // 9999-12-31.
 pub const LAST_DAY: i64 = 3652059;
 
+// The days of each month, in a year with no leap day.
 const LENGTHS: [u8; 12] = [31, 28, 31, 30, 31, 30, 31, 31, 30, 31, 30, 31];
 
 pub fn leap_day(y: u64) -> u64
@@ -50,6 +51,8 @@ pub fn leap_day(y: u64) -> u64
     if y % 400 == 0 { 1 } else { 0 }
 }
 
+// Year, month and day go side by side, each with its own bound, as the standard's rules name them: a Date exists and has all
+// three, while these are still to be asked or, as the first of a month, fixed in part.
 fn month_length(y: u64, m: u64) -> u64
     requires { (1 ≤ m) × (m ≤ 12) }
     ensures { result ≡ month_length y m }
@@ -111,7 +114,7 @@ pub fn date_ceil(t: DateTime) -> u64
     t.day
 }
 
-// A number that is not below 0, as a count.
+// A number that is not below 0, as a count. std's `try_from` would ask again what was asked just before each call.
 pub fn as_count(n: i64) -> u64
     requires { lt_z n (pos 0) ≡ false }
     ensures { result ≡ pos_part n }

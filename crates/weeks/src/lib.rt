@@ -41,7 +41,7 @@ fn third(y: u64) -> u64
     calendar::day_number(y, 1, 1) + 2
 }
 
-// The Thursdays of the year y.
+// The Thursdays of the year y. Year, week and weekday go side by side, each with its own bound, as in `calendar`.
 fn weeks_of(y: u64) -> u64
     requires { (1 ≤ y) × (y ≤ 9999) }
     ensures { result ≡ weeks_of y }
