@@ -7,7 +7,6 @@ use native.Mathlib.Omega.{arith}
 use lib.Dec.{T, lit≤}
 use lib.IntN.{ℤ, pos, negsuc, nat_abs, ◌+ℤ◌}
 use lib.Ieee.{Float, binary64, in_float}
-use lib.Signed.{nat_abs-le}
 use lib.Ieee.Casts.{to_signed_in}
 use mir.Syntax.{w32, w64}
 use mir.Val.{SFits}
@@ -46,9 +45,6 @@ up_32 (negsuc n) f = omega arith
 dn_32 : (z : ℤ) → SFits w32 z → neg_part z ≤ 2 ^ 31
 dn_32 (pos n) f = omega arith
 dn_32 (negsuc n) f = omega (arith, f.sfits)
-
-pub cut_few : (x : Float) → nat_abs (cut x) ≤ 2 ^ 31
-cut_few x = nat_abs-le (cut x) (to_signed_in 31 x)
 
 pub sum_fits : (low z : ℤ) → is_pixel low ≡ true → SFits w32 z → SFits w64 (low +ℤ z)
 sum_fits low z e f =

@@ -2,7 +2,6 @@
 use borrow.Author.Rules.{rules}
 use mathlib.Core.Path.{◌≡◌, refl, sym, ◌∙◌, ap}
 use mathlib.Core.Bool.{◌||◌}
-use native.Mathlib.Omega.{arith}
 use lib.IntN.{ℤ, ◌+ℤ◌, ◌-ℤ◌, ◌*ℤ◌}
 use mir.Syntax.{w32, w64}
 use mir.Val.{SFits, to_z, of_z}
@@ -14,8 +13,8 @@ use Rattle.floats.specs.Rounding.{cut}
 use Rattle.floats.specs.Losses.{lost_in}
 use Rattle.mapping.specs.Position.{width}
 use Rattle.mapping.specs.Mapping.{limits_of, exact_by, lost_by}
-use Rattle.mapping.proofs.Ranges.{wider, cut_fits, cut_few, sum_fits}
-use Rattle.mapping.proofs.Positions.{low_off, width_few}
+use Rattle.mapping.proofs.Ranges.{wider, cut_fits, sum_fits}
+use Rattle.mapping.proofs.Positions.{low_off}
 use Rattle.mapping.proofs.from_low.Goals as goal
 use Rattle.mapping.proofs.from_low.Goals.{After-to_i32-position, Start}
 
@@ -71,12 +70,6 @@ width_is c = read_sub c.args.s.high c.args.s.low (high_fits c) (low_fits c) (wid
 pub overflow_sub-s : goal.overflow_sub-s
 overflow_sub-s c = let p = (goal.at.overflow_sub-s c).Start in
     rw (to_z-of_z (high_fits p), to_z-of_z (low_fits p)) (width_fits p)
-
-pub same_products-requires : goal.same_products-requires
-same_products-requires c = let p = goal.at.same_products-requires c in (
-  rw (width_is p.Start) (omega (arith, width_few (limits_of c.args.s) c.requires.on_page)),
-  rw (back p.After-to_i32-position) (cut_few c.args.q.x),
-)
 
 pub returns : goal.returns
 returns c = let x = c.args in

@@ -12,9 +12,9 @@ use Rattle.std.specs.Prelude.{Some, None}
 use Rattle.std.specs.Bool.{then_some}
 use Rattle.laws.specs.Numbers.{is_number}
 use Rattle.values.specs.Differences.{whole_days}
+use Rattle.values.proofs.Order.{tested_equal}
 use Rattle.axis.specs.Axes.{offset_of, span_of}
 use Rattle.floats.specs.Rounding.{quotient_of}
-use Rattle.products.proofs.Halves.{same_bits}
 use Rattle.mapping.specs.declared.Ratio.{Ratio}
 use Rattle.mapping.proofs.Hairlines.{width_is}
 use Rattle.mapping.proofs.in_days.Goals as goal
@@ -33,7 +33,7 @@ returns c = let x = c.args in
     let span : to_z w64 (of_z w64 s) ≡ whole_days (span_of x.a) = to_z-of_z sf ∙ c.span_days-span.ensures in
     let total = c.from_i64.ensures.value ∙ ap (of_int binary64) span in
     let none : eqb (of_z w64 s) 0 ≡ is_number (whole_days (span_of x.a)) 0 =
-    same_bits s (pos 0) sf (search rules) ∙ ap (λ (z : ℤ). is_number z 0) c.span_days-span.ensures in
+    tested_equal s (pos 0) sf (search rules) ∙ ap (λ (z : ℤ). is_number z 0) c.span_days-span.ensures in
     λ i. record {
       x = (c.quotient.ensures
           ∙ (λ j. quotient_of (width_is x.a x.s c.requires.0.scale j) (days j) (total j))) i;

@@ -1,75 +1,35 @@
--- `products::same_products` meets its contract, by the law of halves. Assumes nothing.
-use mathlib.Core.Path.{◌≡◌, sym, ap, ◌∙◌, subst}
-use mathlib.Core.Bool.{◌&&◌}
-use lib.Bits.{bit_and, and_mask}
-use lib.Dec.{eqb}
-use lib.IntN.{ℤ, pos, nat_abs, ◌+ℤ◌, ◌*ℤ◌}
-use lib.Signed.{shr_z}
-use Prim.Native.Nat.{◌^◌, ◌≤◌}
-use native.Mathlib.Omega.{arith}
-use mir.Syntax.{w64}
-use mir.Val.{SFits, to_z, of_z}
+-- `products::same_products` meets its contract: no product exceeds 128 bits. Assumes nothing.
+use Rattle.std.proofs.Common.{rules, ◌*ℤ◌}
+use mathlib.Core.Path.{◌≡◌, refl, sym, ◌∙◌, ap}
+use mathlib.Core.Bool.{Bool, true, false, false≢true}
+use lib.Dec.{eqb, eqb→eq, eqb_refl}
+use lib.IntN.{ℤ}
+use mir.Syntax.{w128}
+use mir.Val.{SFits, of_z, to_z}
 use mir.Facts.{to_z-of_z}
 use Rattle.laws.specs.Numbers.{equal}
-use Rattle.laws.proofs.Halves.{upper, lower, upper_is, lower_is}
-use Rattle.products.proofs.Halves.{part_fits, upper_fits, above, above_fits, by_halves, same_bits, same_counts}
+use Rattle.laws.proofs.Tests.{holds, is_true}
+use Rattle.laws.proofs.Signed.{equal_true, true_equal}
 use Rattle.products.proofs.same_products.Goals as goal
 
--- one product's parts, as the code reads them back
-module _ (a b : ℤ) (F : SFits w64 a) (A : nat_abs a ≤ 2 ^ 31) (B : SFits w64 b) where
-  abbrev part : ℤ
-  part = to_z w64 (of_z w64 a) *ℤ to_z w64 (bit_and (of_z w64 b) 4294967295)
-
-  part_is : part ≡ a *ℤ pos (lower b)
-  part_is = λ i. to_z-of_z F i *ℤ lower_is (of_z w64 b) i
-
-  part_ok : SFits w64 part
-  part_ok = subst (SFits w64) (sym part_is) (part_fits a b A B)
-
-  lower_read : bit_and (of_z w64 part) 4294967295 ≡ lower (a *ℤ pos (lower b))
-  lower_read = and_mask (of_z w64 part) 32 ∙ ap lower part_is
-
-  abbrev up : ℤ
-  up = to_z w64 (of_z w64 a) *ℤ to_z w64 (of_z w64 (shr_z (to_z w64 (of_z w64 b)) 4294967296))
-
-  up_is : up ≡ a *ℤ upper b
-  up_is = λ i. to_z-of_z F i *ℤ upper_is b B i
-
-  up_ok : SFits w64 up
-  up_ok = subst (SFits w64) (sym up_is) (upper_fits a b A B)
-
-  abbrev sum : ℤ
-  sum = to_z w64 (of_z w64 up) +ℤ to_z w64 (of_z w64 (shr_z (to_z w64 (of_z w64 part)) 4294967296))
-
-  sum_is : sum ≡ above a b A B
-  sum_is = λ i. (to_z-of_z up_ok ∙ up_is) i +ℤ (upper_is part part_ok ∙ ap upper part_is) i
-
-  sum_ok : SFits w64 sum
-  sum_ok = subst (SFits w64) (sym sum_is) (above_fits a b A B)
-
-pub overflow_mul-p : goal.overflow_mul-p
-overflow_mul-p c = part_ok c.args.a c.args.b c.ranges.a c.requires.0 c.ranges.b
-
-pub overflow_mul-q : goal.overflow_mul-q
-overflow_mul-q c = part_ok c.args.c c.args.d c.ranges.c c.requires.1 c.ranges.d
-
-pub overflow_mul-x : goal.overflow_mul-x
-overflow_mul-x c = up_ok c.args.a c.args.b c.ranges.a c.requires.0 c.ranges.b
-
-pub overflow_add-x : goal.overflow_add-x
-overflow_add-x c = sum_ok c.args.a c.args.b c.ranges.a c.requires.0 c.ranges.b
-
-pub overflow_mul-y : goal.overflow_mul-y
-overflow_mul-y c = up_ok c.args.c c.args.d c.ranges.c c.requires.1 c.ranges.d
-
-pub overflow_add-y : goal.overflow_add-y
-overflow_add-y c = sum_ok c.args.c c.args.d c.ranges.c c.requires.1 c.ranges.d
+-- the code's `==` compares the numbers' bits
+same_bits : (x y : ℤ) → SFits w128 x → SFits w128 y → eqb (of_z w128 x) (of_z w128 y) ≡ equal x y
+same_bits x y f g = go (eqb (of_z w128 x) (of_z w128 y)) (equal x y) refl refl
+  where
+    go : (s t : Bool) → eqb (of_z w128 x) (of_z w128 y) ≡ s → equal x y ≡ t → s ≡ t
+    go true true d e = refl
+    go true false d e = absurd (false≢true (sym e ∙ true_equal x y
+        (sym (to_z-of_z f) ∙ ap (to_z w128) (eqb→eq _ _ (is_true _ d)) ∙ to_z-of_z g)))
+    go false true d e = absurd (false≢true (sym d ∙ ap (λ (z : ℤ). eqb (of_z w128 x) (of_z w128 z)) (sym (equal_true x y e))
+        ∙ holds _ (eqb_refl (of_z w128 x))))
+    go false false d e = refl
 
 pub returns : goal.returns
-returns c = let x = c.args in
-    let f = c.ranges in
-    (λ i. ((λ j. eqb (lower_read x.a x.b f.a c.requires.0 f.b j) (lower_read x.c x.d f.c c.requires.1 f.d j))
-    ∙ same_counts _ _ (omega arith) (omega arith)) i
-    && (same_bits _ _ (sum_ok x.a x.b f.a c.requires.0 f.b) (sum_ok x.c x.d f.c c.requires.1 f.d)
-    ∙ (λ j. equal (sum_is x.a x.b f.a c.requires.0 f.b j) (sum_is x.c x.d f.c c.requires.1 f.d j))) i)
-    ∙ by_halves x.a x.b x.c x.d c.requires.0 f.b c.requires.1 f.d
+returns c =
+    let a : to_z w128 (of_z w128 c.from.result) ≡ c.args.a = search rules in
+    let b : to_z w128 (of_z w128 c.from-2.result) ≡ c.args.b = search rules in
+    let x : to_z w128 (of_z w128 c.from-3.result) ≡ c.args.c = search rules in
+    let y : to_z w128 (of_z w128 c.from-4.result) ≡ c.args.d = search rules in
+    let p : SFits w128 (c.args.a *ℤ c.args.b) = search rules in
+    let q : SFits w128 (c.args.c *ℤ c.args.d) = search rules in
+    rw (a, b, x, y) (same_bits (c.args.a *ℤ c.args.b) (c.args.c *ℤ c.args.d) p q)

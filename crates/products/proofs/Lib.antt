@@ -1,2 +1,0 @@
--- Laws of products by halves.
-pub mod Halves
