@@ -11,17 +11,18 @@ use native.Mathlib.Omega.{arith}
 use lib.IntN.{ℤ}
 use lib.Signed.{mag}
 use lib.ListN.{length, take}
+use Rattle.steps.specs.declared.Heads.{Heads}
 use Rattle.steps.specs.declared.Steps.{Steps}
 use Rattle.values.specs.declared.Value.{Value}
 use Rattle.std.specs.Prelude.{Ok}
-use Rattle.steps.specs.Progression.{fitting, number_at, tick_of_number, tick_of, ticks, Sound}
+use Rattle.steps.specs.Progression.{fitting, number_at, tick_of_number, tick_of, ticks, InRange}
 use Rattle.steps.specs.Listing.{numbers, has_room, listed_of, lent_after, front, count_of}
 use Rattle.steps.specs.Promise.{Later, whole_second, Fine}
 use Rattle.steps.proofs.Fitting.{inside}
 use Rattle.steps.proofs.Places.{next_place}
 use Rattle.steps.proofs.Pairs.{pairs, pairs_are, length_pairs, nth_pairs}
 use Rattle.steps.proofs.Fronts.{front_is}
-use Rattle.steps.proofs.Order.{trans, later}
+use Rattle.steps.proofs.Order.{per_of, trans, later}
 
 -- a step k above 0 and a count: all the steps that the room has, and at most n + 1
 pub record Kept (k count n room : ℕ) : Type 0 where
@@ -50,7 +51,7 @@ pairs_fine f count n start end few growing to from =
 
 -- ---- any progression: its first tick is not before the whole second of the start, and its numbers have room up to one,
 -- last, whose tick is not after the end
-module _ (s : Steps) (n room last : ℕ) (start end : Value) (p : 0 < s.per) (k : Kept s.step s.count n room)
+module _ (s : Steps) (n room last : ℕ) (start end : Value) (p : 0 < per_of s.numbering) (k : Kept s.step s.count n room)
     (fits : 0 < room → s.first + room ≤ last + 1)
     (from : Later (tick_of_number s s.first) (whole_second start) → ⊥)
     (to : Later end (tick_of_number s last) → ⊥) where
@@ -118,19 +119,14 @@ last_in k (suc c) n room h =
     let a : c < fitting room k = omega (arith, h.all) in
     rw sub-one (omega (arith, inside room k c h.stride a))
 
-pub kept_sound : (s : Steps) (n room : ℕ) → Kept s.step s.count n room → 0 < s.per → s.per < 2 ^ 60 →
-    mag s.base < 2 ^ 60
-    → s.step / s.per < 2 ^ 60 → (s.first + room) / s.per < 2 ^ 60 → (s.by_month ≡ true → s.first + room < 120000) →
-    Sound s
-kept_sound s n room k p small base stride top month =
+pub kept_months : (s : Steps) (n room : ℕ) → Kept s.step s.count n room → s.first + room < 120000 →
+    number_at s (s.count - 1) < 120000
+kept_months s n room k top = omega (arith, last_in s.step s.count n room k)
+
+pub kept_even : (h : Heads) (s : Steps) (n room : ℕ) → Kept s.step s.count n room → 0 < h.per → h.per < 2 ^ 60 →
+    mag h.base < 2 ^ 60 → s.step / h.per < 2 ^ 60 → (s.first + room) / h.per < 2 ^ 60 → InRange h s
+kept_even h s n room k p small base stride top =
     let l = last_in s.step s.count n room k in
-    let a : s.first + room < 2 ^ 60 * s.per = (div-lt_iff_lt-mul p).0 top in
-    let b : number_at s (s.count - 1) < 2 ^ 60 * s.per = omega arith in
-    record {
-      divides = p;
-      small = small;
-      base = base;
-      stride = stride;
-      last = (div-lt_iff_lt-mul p).1 b;
-      month = λ e. omega (arith, month e);
-    }
+    let a : s.first + room < 2 ^ 60 * h.per = (div-lt_iff_lt-mul p).0 top in
+    let b : number_at s (s.count - 1) < 2 ^ 60 * h.per = omega arith in
+    record { divides = p; small = small; base = base; stride = stride; last = (div-lt_iff_lt-mul p).1 b }

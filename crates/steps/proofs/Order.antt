@@ -1,6 +1,5 @@
 -- The order of ticks, and that the ticks of a progression grow with its numbers. Assumes nothing.
-use mathlib.Core.Path.{◌≡◌, refl, ap, ◌∙◌, subst}
-use mathlib.Core.Bool.{Bool, true, false}
+use mathlib.Core.Path.{◌≡◌, ap, ◌∙◌, subst}
 use mathlib.Core.Logic.{◌⊎◌, inl, inr}
 use Prim.Native.Nat.{ℕ, ◌+◌, ◌*◌, ◌/◌, ◌%◌, ◌≤◌, ◌<◌}
 use native.Mathlib.Nat.{eq-or-lt_of_le, div-add-mod', div-mul-le_self, le-div_iff_mul-le}
@@ -12,9 +11,12 @@ use Rattle.laws.specs.Numbers.{pos_part, neg_part}
 use Rattle.laws.specs.Units.{per_second}
 use Rattle.laws.proofs.Signed.{add, is_lt, lt_true}
 use Rattle.laws.proofs.Tests.{holds, is_true}
+use Rattle.steps.specs.declared.Heads.{Heads}
+use Rattle.steps.specs.declared.Numbering.{Numbering}
+use Rattle.steps.specs.declared.Numbering.TheVariants as numbering
 use Rattle.steps.specs.declared.Steps.{Steps}
 use Rattle.values.specs.declared.Value.{Value}
-use Rattle.steps.specs.Progression.{even_tick, tick_of_number}
+use Rattle.steps.specs.Progression.{even_tick, tick_by, tick_of_number}
 use Rattle.steps.specs.Promise.{Later, by_head, by_tail, whole_second}
 use Rattle.steps.proofs.Months.{first_days}
 
@@ -73,23 +75,28 @@ parts x y per p h =
       | inr q ↦ inl q
     ]
 
-even_later : (s : Steps) (x y : ℕ) → 0 < s.per → x < y → Later (even_tick s x) (even_tick s y)
-even_later s x y p h =
-    elim (parts x y s.per p h) [
-      | inl q ↦ by_head (smaller _ _ (omega (arith, add s.base (pos (x / s.per)), add s.base (pos (y / s.per)))))
-      | inr q ↦ by_tail (ap (λ (n : ℕ). s.base +ℤ pos n) q.0) (smaller _ _ (omega (arith, q.1)))
+even_later : (n : Heads) (x y : ℕ) → 0 < n.per → x < y → Later (even_tick n x) (even_tick n y)
+even_later n x y p h =
+    elim (parts x y n.per p h) [
+      | inl q ↦ by_head (smaller _ _ (omega (arith, add n.base (pos (x / n.per)), add n.base (pos (y / n.per)))))
+      | inr q ↦ by_tail (ap (λ (m : ℕ). n.base +ℤ pos m) q.0) (smaller _ _ (omega (arith, q.1)))
     ]
 
+-- how many numbers make a head
+abbrev pub per_of : Numbering → ℕ
+per_of numbering.Months = 1
+per_of (numbering.Even h) = h.per
+
 -- a larger number is a later tick
-pub later : (s : Steps) (x y : ℕ) → 0 < s.per → x < y → Later (tick_of_number s x) (tick_of_number s y)
-later s x y p h = go s.by_month refl
+pub later : (s : Steps) (x y : ℕ) → 0 < per_of s.numbering → x < y → Later (tick_of_number s x) (tick_of_number s y)
+later s x y p h = go s.numbering p
   where
-    go : (b : Bool) → s.by_month ≡ b → Later (tick_of_number s x) (tick_of_number s y)
-    go true e = rw e (by_head (smaller _ _ (omega (arith, first_days x y h))))
-    go false e = rw e (even_later s x y p h)
+    go : (n : Numbering) → 0 < per_of n → Later (tick_by n x) (tick_by n y)
+    go numbering.Months q = by_head (smaller _ _ (omega (arith, first_days x y h)))
+    go (numbering.Even n) q = even_later n x y q h
 
 -- and one that is no smaller is no earlier
-pub not_earlier : (s : Steps) (x y : ℕ) → 0 < s.per → x ≤ y → Later (tick_of_number s y) (tick_of_number s x) → ⊥
+pub not_earlier : (s : Steps) (x y : ℕ) → 0 < per_of s.numbering → x ≤ y → Later (tick_of_number s y) (tick_of_number s x) → ⊥
 not_earlier s x y p h l =
     elim (eq-or-lt_of_le h) [
       | inl e ↦ irrefl (subst (λ (z : ℕ). Later (tick_of_number s y) (tick_of_number s z)) e l)

@@ -88,29 +88,28 @@ length_numbers [] = refl
 length_numbers (t ∷ l) = omega (arith, length_numbers l)
 
 -- ---- d with the ticks before place i written at its front
-pub record Written (s : Steps) (d l : List ℤ) (i : ℕ) : Type 0 where
-  pub turns : i ≤ s.count
+pub record Written (f : ℕ → Value) (count : ℕ) (d l : List ℤ) (i : ℕ) : Type 0 where
+  pub turns : i ≤ count
   pub length_is : length l ≡ length d
-  list_is : l ≡ pairs (tick_of s) i ++ drop (2 * i) d
+  list_is : l ≡ pairs f i ++ drop (2 * i) d
 
-pub none_written : (s : Steps) (d : List ℤ) → Written s d d 0
-none_written s d = record { turns = omega arith; length_is = refl; list_is = refl }
+pub none_written : (f : ℕ → Value) (count : ℕ) (d : List ℤ) → Written f count d d 0
+none_written f count d = record { turns = omega arith; length_is = refl; list_is = refl }
 
-module _ {s : Steps} {d l : List ℤ} {i : ℕ} (w : Written s d l i) where
+module _ {f : ℕ → Value} {count : ℕ} {d l : List ℤ} {i : ℕ} (w : Written f count d l i) where
   -- two stores are one tick more
-  pub one_more : {v : Value} → i < s.count → 2 * s.count ≤ length d → v ≡ tick_of s i
-      → Written s d (set (set l (2 * i) v.head) (2 * i + 1) v.tail) (i + 1)
+  pub one_more : {v : Value} → i < count → 2 * count ≤ length d → v ≡ f i
+      → Written f count d (set (set l (2 * i) v.head) (2 * i + 1) v.tail) (i + 1)
   one_more {v} h room e =
       let next : 2 * i + 1 < length d = omega arith in
       let two : 2 * (i + 1) ≡ 2 * i + 2 = omega arith in
       record {
         turns = omega arith;
         length_is = simp length-set w.length_is;
-        list_is = rw (two, add-one i, e) (push_two l (pairs (tick_of s) i) d (2 * i) (tick_of s i).head (tick_of s i).tail
-            w.list_is (length_pairs (tick_of s) i) next);
+        list_is = rw (two, add-one i, e) (push_two l (pairs f i) d (2 * i) (f i).head (f i).tail w.list_is (length_pairs f i) next);
       }
 
-  pub all_written : s.count ≤ i → l ≡ numbers (ticks s) ++ drop (2 * s.count) d
+  pub all_written : count ≤ i → l ≡ numbers (values_of f count) ++ drop (2 * count) d
   all_written h =
-      let i≡ : i ≡ s.count = omega (arith, w.turns) in
-      rw (pairs_are (tick_of s) s.count, ← i≡) w.list_is
+      let i≡ : i ≡ count = omega (arith, w.turns) in
+      rw (pairs_are f count, ← i≡) w.list_is

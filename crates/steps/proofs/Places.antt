@@ -1,6 +1,5 @@
 -- The places of a progression: in range before its count, and each from the one before by sums. Assumes nothing.
 use mathlib.Core.Path.{◌≡◌, ap, ◌∙◌}
-use mathlib.Core.Bool.{true}
 use Prim.Native.Nat.{ℕ, ◌+◌, ◌-◌, ◌*◌, ◌/◌, ◌%◌, ◌^◌, ◌≤◌, ◌<◌}
 use native.Mathlib.Nat.{mul-le-mul_right, div-lt_iff_lt-mul, mod-lt, add-mul, one-mul, div-add-mod'}
 use native.Mathlib.Nat.{mul-add-div_right, mul-add-mod_self_right, div-eq_of_lt, mod-eq_of_lt, div-eq-sub-div}
@@ -12,8 +11,9 @@ use mir.Syntax.{w64}
 use mir.Val.{SFits}
 use Rattle.laws.specs.Numbers.{pos_part, neg_part}
 use Rattle.laws.proofs.Signed.{add, fits}
+use Rattle.steps.specs.declared.Heads.{Heads}
 use Rattle.steps.specs.declared.Steps.{Steps}
-use Rattle.steps.specs.Progression.{number_at, Sound}
+use Rattle.steps.specs.Progression.{number_at, InRange}
 
 -- ---- a sum's whole heads and its rest
 module _ (x k per : ℕ) (p : 0 < per) where
@@ -40,16 +40,15 @@ module _ (x k per : ℕ) (p : 0 < per) where
 pub next_place : (s : Steps) (i : ℕ) → number_at s (i + 1) ≡ number_at s i + s.step
 next_place s i = omega (arith, add-mul i 1 s.step, one-mul s.step)
 
-module _ (s : Steps) (i whole part : ℕ) (p : 0 < s.per) (w : whole ≡ number_at s i / s.per)
-    (q : part ≡ number_at s i % s.per) where
-  pub next_kept : part + s.step % s.per < s.per
-      → (whole + s.step / s.per ≡ number_at s (i + 1) / s.per) × (part + s.step % s.per ≡ number_at s (i + 1) % s.per)
-  next_kept h = rw (next_place s i, w, q) (kept (number_at s i) s.step s.per p (rw q at h))
+module _ (per : ℕ) (s : Steps) (i whole part : ℕ) (p : 0 < per) (w : whole ≡ number_at s i / per)
+    (q : part ≡ number_at s i % per) where
+  pub next_kept : part + s.step % per < per
+      → (whole + s.step / per ≡ number_at s (i + 1) / per) × (part + s.step % per ≡ number_at s (i + 1) % per)
+  next_kept h = rw (next_place s i, w, q) (kept (number_at s i) s.step per p (rw q at h))
 
-  pub next_carried : s.per ≤ part + s.step % s.per
-      → (whole + s.step / s.per + 1 ≡ number_at s (i + 1) / s.per)
-      × (part + s.step % s.per - s.per ≡ number_at s (i + 1) % s.per)
-  next_carried h = rw (next_place s i, w, q) (carried (number_at s i) s.step s.per p (rw q at h))
+  pub next_carried : per ≤ part + s.step % per
+      → (whole + s.step / per + 1 ≡ number_at s (i + 1) / per) × (part + s.step % per - per ≡ number_at s (i + 1) % per)
+  next_carried h = rw (next_place s i, w, q) (carried (number_at s i) s.step per p (rw q at h))
 
 -- ---- before the count
 up_base : (z : ℤ) → mag z < 2 ^ 60 → pos_part z < 2 ^ 60
@@ -60,25 +59,26 @@ dn_base : (z : ℤ) → mag z < 2 ^ 60 → neg_part z ≤ 2 ^ 60
 dn_base (pos n) h = omega arith
 dn_base (negsuc n) h = omega arith
 
-module _ (s : Steps) (S : Sound s) (i : ℕ) (h : i < s.count) where
+module _ (s : Steps) (i : ℕ) (l : i < s.count) where
   up_to_law : i * s.step ≤ (s.count - 1) * s.step
   up_to_law = mul-le-mul_right s.step (omega arith)
 
-  pub head_small : number_at s i / s.per < 2 ^ 60
-  head_small =
-      let d = S.divides in
-      let a : number_at s (s.count - 1) < 2 ^ 60 * s.per = (div-lt_iff_lt-mul d).0 S.last in
-      let b : number_at s i < 2 ^ 60 * s.per = omega (arith, up_to_law) in
-      (div-lt_iff_lt-mul d).1 b
+  pub month_small : number_at s (s.count - 1) < 120000 → number_at s i < 120000
+  month_small m = omega (arith, up_to_law)
 
-  pub rest_small : number_at s i % s.per < 2 ^ 60
-  rest_small = omega (arith, mod-lt (number_at s i) S.divides, S.small)
+  module _ (h : Heads) (r : InRange h s) where
+    pub head_small : number_at s i / h.per < 2 ^ 60
+    head_small =
+        let d = r.divides in
+        let a : number_at s (s.count - 1) < 2 ^ 60 * h.per = (div-lt_iff_lt-mul d).0 r.last in
+        let b : number_at s i < 2 ^ 60 * h.per = omega (arith, up_to_law) in
+        (div-lt_iff_lt-mul d).1 b
 
-  pub month_small : s.by_month ≡ true → number_at s i < 120000
-  month_small e = omega (arith, up_to_law, S.month e)
+    pub rest_small : number_at s i % h.per < 2 ^ 60
+    rest_small = omega (arith, mod-lt (number_at s i) r.divides, r.small)
 
-  pub head_fits : SFits w64 (s.base +ℤ pos (number_at s i / s.per))
-  head_fits =
-      fits (s.base +ℤ pos (number_at s i / s.per)) (pos_part s.base + number_at s i / s.per) (neg_part s.base)
-      (omega (arith, add s.base (pos (number_at s i / s.per))))
-      (omega (arith, head_small, up_base s.base S.base)) (omega (arith, dn_base s.base S.base))
+    pub head_fits : SFits w64 (h.base +ℤ pos (number_at s i / h.per))
+    head_fits =
+        fits (h.base +ℤ pos (number_at s i / h.per)) (pos_part h.base + number_at s i / h.per) (neg_part h.base)
+        (omega (arith, add h.base (pos (number_at s i / h.per))))
+        (omega (arith, head_small, up_base h.base r.base)) (omega (arith, dn_base h.base r.base))

@@ -2,20 +2,31 @@
 // What a month is to a tick list stands here too; which progression a kind lists does not.
 #![tactic(auto)]
 
-ghost use Rattle.std.specs.Prelude.{◌≡◌, true, false, ◌++◌, ◌*◌, ◌<◌, ◌≤◌, length, drop};
+ghost use Rattle.std.specs.Prelude.{◌≡◌, ◌++◌, ◌-◌, ◌*◌, ◌<◌, ◌≤◌, length, drop};
 ghost use Rattle.steps.specs.Months.{first_day, month_number, month_of, whole_month};
-ghost use Rattle.steps.specs.Progression.{fitting, ticks, Sound};
+ghost use Rattle.steps.specs.Progression.{fitting, number_at, month_ticks, even_ticks, ticks, InRange, Sound};
 ghost use Rattle.steps.specs.Listing.{numbers, has_room, listed_of, lent_after};
 
 use asking::Refusal;
 
-// The numbers first, first + step, .. : count of them. With by_month set a number is a month, counted from 0001-01,
-// which is 0. Else a head has per numbers, and base is the head at which they start.
+// A head has per numbers, and base is the head at which they start.
 #[derive(Clone, Copy)]
-pub struct Steps {
-    pub by_month: bool,
+pub struct Heads {
     pub base: i64,
     pub per: u64,
+}
+
+// What a number stands for: a month, counted from 0001-01, which is 0, or so many parts of a head.
+#[derive(Clone, Copy)]
+pub enum Numbering {
+    Months,
+    Even(Heads),
+}
+
+// The numbers first, first + step, .. : count of them.
+#[derive(Clone, Copy)]
+pub struct Steps {
+    pub numbering: Numbering,
     pub first: u64,
     pub step: u64,
     pub count: u64,
@@ -86,8 +97,8 @@ pub fn count(s: Steps, k: u64) -> Result<u64, Refusal>
 // A day number for each tick; months have no common length. Both loops write by index: std says nothing of what a slice holds
 // after `chunks_exact_mut`.
 fn list_months(s: Steps, lent: &mut [i64])
-    requires { (Sound s × (s.by_month ≡ true)) × (2 * s.count ≤ length lent.old) }
-    ensures { lent.new ≡ numbers (ticks s) ++ drop (2 * s.count) lent.old }
+    requires { (number_at s (s.count - 1) < 120000) × (2 * s.count ≤ length lent.old) }
+    ensures { lent.new ≡ numbers (month_ticks s) ++ drop (2 * s.count) lent.old }
 {
     for i in 0..s.count as usize {
         let day = first_day(s.first + i as u64 * s.step) as i64;
@@ -97,40 +108,39 @@ fn list_months(s: Steps, lent: &mut [i64])
 }
 
 // No division for each tick: the step's whole heads and its rest are added, and a head is carried.
-fn list_even(s: Steps, lent: &mut [i64])
-    requires { (Sound s × (s.by_month ≡ false)) × (2 * s.count ≤ length lent.old) }
-    ensures { lent.new ≡ numbers (ticks s) ++ drop (2 * s.count) lent.old }
+fn list_even(h: Heads, s: Steps, lent: &mut [i64])
+    requires { InRange h s × (2 * s.count ≤ length lent.old) }
+    ensures { lent.new ≡ numbers (even_ticks h s) ++ drop (2 * s.count) lent.old }
 {
-    let heads = s.step / s.per;
-    let rest = s.step % s.per;
-    let mut whole = s.first / s.per;
-    let mut part = s.first % s.per;
+    let heads = s.step / h.per;
+    let rest = s.step % h.per;
+    let mut whole = s.first / h.per;
+    let mut part = s.first % h.per;
     let count = s.count as usize;
     for i in 0..count {
-        let head = s.base + whole as i64;
+        let head = h.base + whole as i64;
         lent[2 * i] = head;
         lent[2 * i + 1] = part as i64;
         whole += heads;
         part += rest;
-        if part >= s.per {
-            part -= s.per;
+        if part >= h.per {
+            part -= h.per;
             whole += 1;
         }
     }
 }
 
 // Sets the pairs of the list at the front of the lent numbers, unless these are too few.
-#[tactic(auto, using(crate::proofs::Fronts::room_for, crate::proofs::Fronts::set_list))]
+#[tactic(auto, using(crate::proofs::Fronts::by_numbering))]
 pub fn list(s: Steps, lent: &mut [i64]) -> Result<u64, Refusal>
     requires { Sound s }
     ensures value { result ≡ listed_of (ticks s) (length lent.old) }
     ensures after_call { lent.new ≡ lent_after (ticks s) lent.old }
 {
     let listed = count(s, lent.len() as u64)?;
-    if s.by_month {
-        list_months(s, lent);
-    } else {
-        list_even(s, lent);
+    match s.numbering {
+        Numbering::Months => list_months(s, lent),
+        Numbering::Even(h) => list_even(h, s, lent),
     }
     Ok(listed)
 }

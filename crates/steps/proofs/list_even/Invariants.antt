@@ -2,11 +2,11 @@
 -- heads and the rest of the place i. Assumes nothing.
 use mathlib.Core.Path.{◌≡◌}
 use Prim.Native.Nat.{◌/◌, ◌%◌}
-use Rattle.steps.specs.Progression.{number_at}
+use Rattle.steps.specs.Progression.{even_tick, number_at}
 use Rattle.steps.proofs.Pairs.{Written}
 use Rattle.steps.proofs.list_even.Given as goal
 
 abbrev pub invariant-loop-i : goal.invariant-loop-i
 invariant-loop-i l =
-    Written l.s l.initial.lent l.lent l.i × ((l.whole ≡ number_at l.s l.i / l.s.per) ×
-    (l.part ≡ number_at l.s l.i % l.s.per))
+    Written (λ i. even_tick l.h (number_at l.fn.s i)) l.fn.s.count l.initial.lent l.lent l.i
+    × ((l.whole ≡ number_at l.fn.s l.i / l.h.per) × (l.part ≡ number_at l.fn.s l.i % l.h.per))
