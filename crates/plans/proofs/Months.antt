@@ -93,5 +93,14 @@ months_kept m e n k w =
     let room : e + 1 - m ≤ (n + 1) * k = omega (arith, w.0, w.1) in
     record { stride = w.0; all = refl; few = few_steps (e + 1 - m) k n w.0 room }
 
--- what the plans of months and of years know
-pub ruleset steps_wide = (last_most, month_wide, year_wide)
+-- what the plans of months and of years know: few months, and steps above 0
+pub few_months : (a : Axis) → Dated a → to_month a - from_month a < 120000
+few_months a d = omega (arith, last_most a d)
+
+pub month_above : (t n : ℕ) → t < 120000 → 0 < month_step t n
+month_above t n h = (month_wide t n h).0
+
+pub year_above : (t n : ℕ) → t < 120000 → 0 < year_step t n
+year_above t n h = (year_wide t n h).0
+
+pub ruleset steps_wide = (few_months, month_above, year_above)

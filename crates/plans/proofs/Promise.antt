@@ -1,7 +1,7 @@
 -- Demand 3 of every plan: at most n + 1 ticks, each later than the one before, none after the end, none before the whole
 -- second in which the span starts; and the ranges in which a plan is listed. Assumes nothing.
-use mathlib.Core.Path.{◌≡◌, refl, sym, ap, ◌∙◌, subst}
-use mathlib.Core.Bool.{true, false, not, ◌&&◌, true≢false}
+use mathlib.Core.Path.{◌≡◌, refl, ap, ◌∙◌, subst}
+use mathlib.Core.Bool.{true, false, not, ◌&&◌}
 use Prim.Native.Nat.{ℕ, ◌+◌, ◌-◌, ◌*◌, ◌/◌, ◌%◌, ◌^◌, ◌≤◌, ◌<◌}
 use native.Mathlib.Nat.{div-one, mod-one, zero-mul, div-eq_of_lt, mod-eq_of_lt, mul-add-div_right}
 use native.Mathlib.Nat.{mul-add-mod_self_right, div-lt_iff_lt-mul}
@@ -35,15 +35,16 @@ use Rattle.period.specs.Ladders.{first_fit}
 use Rattle.period.specs.Periods.{period_of}
 use Rattle.period.proofs.Fits.{fit_above, fit_most, fit_room}
 use Rattle.period.proofs.Periods as periods
+use Rattle.steps.specs.declared.Heads.{Heads}
 use Rattle.steps.specs.declared.Steps.{Steps}
 use Rattle.steps.specs.Months.{first_day}
-use Rattle.steps.specs.Progression.{fitting, tick_of_number, ticks, Sound}
+use Rattle.steps.specs.Progression.{fitting, even_tick, tick_of_number, ticks, Sound}
 use Rattle.steps.specs.Listing.{numbers}
 use Rattle.steps.specs.Promise.{Later, by_head, by_tail, whole_second, Fine}
 use Rattle.steps.proofs.Fitting.{few_steps}
 use Rattle.steps.proofs.Order.{is_smaller, not_earlier, not_before_second}
-use Rattle.steps.proofs.Demand.{Kept, steps_fine, none_fine, kept_sound}
-use Rattle.plans.specs.Days.{evenly, date_step, days_by, day_plan}
+use Rattle.steps.proofs.Demand.{Kept, steps_fine, none_fine, kept_months, kept_even}
+use Rattle.plans.specs.Days.{whole_heads, evenly, date_step, days_by, day_plan}
 use Rattle.plans.specs.Weeks.{weeks_by, week_plan}
 use Rattle.plans.specs.Months.{from_month, to_month, year_step, month_step, months_by, month_plan, year_plan}
 use Rattle.plans.specs.Times.{period_in, shift, time_plan, Timed, first_second, seconds_left}
@@ -81,16 +82,9 @@ day_to : (v : Value) (x : ℕ) → neg_part v.head ≡ 0 → neg_part v.tail ≡
 day_to v x y z h (by_head p) = omega (arith, is_smaller p)
 day_to v x y z h (by_tail e q) = omega (arith, is_smaller q)
 
--- no progression of days or nanoseconds is one of months
-no_months : {A : Type 0} → false ≡ true → A
-no_months e = absurd (true≢false (sym e))
-
--- a progression of whole heads
-pub heads_tick : (s : Steps) (x : ℕ) → s.by_month ≡ false → s.per ≡ 1 → tick_of_number s x ≡ midnight (s.base +ℤ pos x)
-heads_tick s x m e =
-    let h : x / s.per ≡ x = rw e (div-one x) in
-    let t : x % s.per ≡ 0 = rw e (mod-one x) in
-    rw (m, h, t)
+-- the ticks of whole heads
+pub heads_tick : (base : ℤ) (x : ℕ) → even_tick (whole_heads base) x ≡ midnight (base +ℤ pos x)
+heads_tick base x = rw (div-one x, mod-one x)
 
 -- ---- days
 module _ (a : Axis) (n : ℕ) (r : Dated a) where
@@ -106,13 +100,13 @@ module _ (a : Axis) (n : ℕ) (r : Dated a) where
       let k : Kept s.step s.count n (d + 1) = rw z (days_kept d n (omega arith)) in
       let x : from_day a + 0 ≡ from_day a = omega arith in
       record {
-        sound = kept_sound s n (d + 1) k (omega arith) (omega arith) (mag_of (pos (from_day a)) (2 ^ 60) (omega arith)
+        sound = kept_even (whole_heads (pos (from_day a))) s n (d + 1) k (omega arith) (omega arith) (mag_of (pos (from_day a)) (2 ^ 60) (omega arith)
             (omega arith))
             (rw (div-one (date_step d n)) (omega (arith, step_wide d n (omega arith))))
-            (rw (div-one (0 + (d + 1))) (omega arith)) no_months;
+            (rw (div-one (0 + (d + 1))) (omega arith));
         fine = steps_fine s n (d + 1) d a.start a.end (omega arith) k (λ h. omega arith)
-            (rw (heads_tick s 0 refl refl, x) (day_from_law a.start (from_day a) v.head_dn p q))
-            (rw (heads_tick s d refl refl, e) (day_to a.end (to_day a) w.head_dn w.tail_dn
+            (rw (heads_tick (pos (from_day a)) 0, x) (day_from_law a.start (from_day a) v.head_dn p q))
+            (rw (heads_tick (pos (from_day a)) d, e) (day_to a.end (to_day a) w.head_dn w.tail_dn
             (omega (arith, to_is a))));
       }
 
@@ -133,15 +127,15 @@ module _ (a : Axis) (n : ℕ) (r : Dated a) where
       let k : Kept s.step s.count n room = rw z (weeks_kept f e n) in
       let x : f + 0 ≡ f = omega arith in
       record {
-        sound = kept_sound s n room k (omega arith) (omega arith) (mag_of (pos f) (2 ^ 60) (omega arith) (omega arith))
+        sound = kept_even (whole_heads (pos f)) s n room k (omega arith) (omega arith) (mag_of (pos f) (2 ^ 60) (omega arith) (omega arith))
             (rw (div-one s.step) (omega (arith, week_wide f e n)))
-            (rw (div-one (0 + room)) (omega arith)) no_months;
+            (rw (div-one (0 + room)) (omega arith));
         fine = elim (dec_le f e) [
           | yes l ↦
               let y : f + (e - f) ≡ to_day a = omega arith in
               steps_fine s n room (e - f) a.start a.end (omega arith) k (λ h. omega arith)
-              (rw (heads_tick s 0 refl refl, x) (day_from_law a.start f v.head_dn (omega arith) (λ i. q (omega arith))))
-              (rw (heads_tick s (e - f) refl refl, y) (day_to a.end (to_day a) w.head_dn w.tail_dn
+              (rw (heads_tick (pos f) 0, x) (day_from_law a.start f v.head_dn (omega arith) (λ i. q (omega arith))))
+              (rw (heads_tick (pos f) (e - f), y) (day_to a.end (to_day a) w.head_dn w.tail_dn
               (omega (arith, to_is a))))
           | no l ↦ let none : e + 1 - f ≡ 0 = omega arith in rw none (none_fine n a.start a.end)
         ];
@@ -169,8 +163,7 @@ module _ (a : Axis) (n : ℕ) (r : Dated a) where
       let h = months_kept m e n k wide in
       let top : m + room < 120000 = omega (arith, first_most a r, last_most a r) in
       record {
-        sound = kept_sound s n room h (omega arith) (omega arith) (omega arith) (rw (div-one k) (omega (arith, wide.2)))
-            (rw (div-one (m + room)) (omega arith)) (λ t. top);
+        sound = kept_months s n room h top;
         fine = steps_fine s n room e a.start a.end (omega arith) h (λ t. omega arith)
             (day_from_law a.start (first_day m) v.head_dn (omega (arith, f.ahead)) (λ i. q (omega (arith, f.ahead))))
             (day_to a.end (first_day e) w.head_dn w.tail_dn (omega (arith, l.begun, to_is a)));
@@ -188,12 +181,12 @@ module _ (a : Axis) (n : ℕ) (r : Dated a) where
 
 -- ---- a period apart
 -- the number x is q whole heads and t
-number_tick : (s : Steps) (q t x : ℕ) (h u : ℤ) → s.by_month ≡ false → 0 < s.per → x ≡ q * s.per + t → t < s.per →
-    s.base +ℤ pos q ≡ h → pos t ≡ u → tick_of_number s x ≡ record { head = h; tail = u }
-number_tick s q t x h u m p e l b r =
-    let d : x / s.per ≡ q = ap (λ (y : ℕ). y / s.per) e ∙ (mul-add-div_right p q t ∙ omega (arith, div-eq_of_lt l)) in
-    let c : x % s.per ≡ t = ap (λ (y : ℕ). y % s.per) e ∙ (mul-add-mod_self_right q s.per t ∙ mod-eq_of_lt l) in
-    rw (m, d, c, b, r)
+number_tick : (n : Heads) (q t x : ℕ) (h u : ℤ) → 0 < n.per → x ≡ q * n.per + t → t < n.per →
+    n.base +ℤ pos q ≡ h → pos t ≡ u → even_tick n x ≡ record { head = h; tail = u }
+number_tick n q t x h u p e l b r =
+    let d : x / n.per ≡ q = ap (λ (y : ℕ). y / n.per) e ∙ (mul-add-div_right p q t ∙ omega (arith, div-eq_of_lt l)) in
+    let c : x % n.per ≡ t = ap (λ (y : ℕ). y % n.per) e ∙ (mul-add-mod_self_right q n.per t ∙ mod-eq_of_lt l) in
+    rw (d, c, b, r)
 
 pub heads_in_order : (a : Axis) → in_order a ≡ true → pos_part a.start.head + neg_part a.end.head ≤ pos_part a.end.head
     + neg_part a.start.head
@@ -270,11 +263,13 @@ module _ (a : Axis) (n k per x : ℕ) (t : Timed a k) (c : Counts a per) (few : 
   abbrev from_head : ℕ
   from_head = pos_part a.start.tail
 
+  abbrev heads_on : Heads
+  heads_on = record { base = a.start.head; per = per }
+
   abbrev pub even : Steps
   even =
       evenly (record {
-        per = per;
-        base = a.start.head;
+        heads = heads_on;
         first = from_head + x;
         end = from_head + pos_part (span_of a);
         step = k;
@@ -286,15 +281,15 @@ module _ (a : Axis) (n k per x : ℕ) (t : Timed a k) (c : Counts a per) (few : 
   at_start_tick : tick_of_number even from_head ≡ a.start
   at_start_tick =
       let y : from_head ≡ 0 * per + from_head = omega (arith, zero-mul per) in
-      number_tick even 0 from_head from_head a.start.head a.start.tail refl above y c.start_most
+      number_tick heads_on 0 from_head from_head a.start.head a.start.tail above y c.start_most
       (+ℤ_idr a.start.head) (pos_up a.start.tail c.start_dn)
 
   pub at_end_tick : tick_of_number even (from_head + pos_part (span_of a)) ≡ a.end
   at_end_tick =
       let o = t.order in
       let e = at_end a o per c.parts (span_from_0 a t.real o) c.start_dn c.end_dn in
-      number_tick even (pos_part (heads a o)) (pos_part a.end.tail) (from_head + pos_part (span_of a)) a.end.head
-      a.end.tail refl above e c.end_most (heads_up a o) (pos_up a.end.tail c.end_dn)
+      number_tick heads_on (pos_part (heads a o)) (pos_part a.end.tail) (from_head + pos_part (span_of a)) a.end.head
+      a.end.tail above e c.end_most (heads_up a o) (pos_up a.end.tail c.end_dn)
 
   even_good : Good a n even
   even_good =
@@ -307,9 +302,9 @@ module _ (a : Axis) (n k per x : ℕ) (t : Timed a k) (c : Counts a per) (few : 
       let stride : k < 2 ^ 60 * per = omega (arith, t.small, c.least) in
       let top : f + (e - f) < 2 ^ 60 * per = omega (arith, t.small, c.least, c.most, c.start_most) in
       record {
-        sound = kept_sound even n (e - f) h above (omega (arith, c.most))
+        sound = kept_even heads_on even n (e - f) h above (omega (arith, c.most))
             (mag_of a.start.head (2 ^ 60) (omega (arith, c.head_up)) (omega (arith, c.head_dn)))
-            ((div-lt_iff_lt-mul above).1 stride) ((div-lt_iff_lt-mul above).1 top) no_months;
+            ((div-lt_iff_lt-mul above).1 stride) ((div-lt_iff_lt-mul above).1 top);
         fine = steps_fine even n (e - f) (e - 1) a.start a.end above h (λ g. omega arith)
             (not_before_second (tick_of_number even f) a.start c.start_dn
             (subst (λ (v : Value). Later (tick_of_number even f) v → ⊥) at_start_tick
@@ -358,7 +353,7 @@ module _ (a : Axis) (n : ℕ) (l : Long a) where
   unfolding span_days_plan
   long_good =
       let left = seconds_left a in
-      let s = evenly (record { per = 1; base = seconds; first = 0; end = left; step = stride }) in
+      let s = evenly (record { heads = whole_heads seconds; first = 0; end = left; step = stride }) in
       let total = pos_part (days_in a.end -ℤ days_in a.start) in
       let (small, f) = total_range a l in
       let p = fit_above total n in
@@ -374,13 +369,13 @@ module _ (a : Axis) (n : ℕ) (l : Long a) where
       let (last, even) = left_last a l in
       let end-at : left - 1 ≤ pos_part (a.end.head -ℤ seconds) = omega arith in
       record {
-        sound = kept_sound s n left h (omega arith) (omega arith) (mag_of seconds (2 ^ 60) (omega arith) (omega arith))
+        sound = kept_even (whole_heads seconds) s n left h (omega arith) (omega arith) (mag_of seconds (2 ^ 60) (omega arith) (omega arith))
             (rw (div-one stride) (omega (arith, fit_most total n)))
-            (rw (div-one (0 + left)) (omega (arith, left_small a l))) no_months;
+            (rw (div-one (0 + left)) (omega (arith, left_small a l)));
         fine = steps_fine s n left (left - 1) a.start a.end (omega arith) h (λ g. omega arith)
-            (rw (heads_tick s 0 refl refl) (not_before_second (midnight (seconds +ℤ pos 0)) a.start v.tail_dn
+            (rw (heads_tick seconds 0) (not_before_second (midnight (seconds +ℤ pos 0)) a.start v.tail_dn
             seconds_from))
-            (rw (heads_tick s (left - 1) refl refl) (seconds_to (left - 1) end-at));
+            (rw (heads_tick seconds (left - 1)) (seconds_to (left - 1) end-at));
       }
 
 -- ---- the days of an axis are in order

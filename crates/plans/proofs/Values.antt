@@ -20,11 +20,13 @@ use Rattle.values.proofs.Values.{of_dates, of_date_times, of_durations, by_form}
 use Rattle.axis.specs.declared.Axis.{Axis}
 use Rattle.axis.specs.Questions.{has_period}
 use Rattle.axis.proofs.Axes.{both_ends}
+use Rattle.steps.specs.declared.Numbering.{Numbering}
+use Rattle.steps.specs.declared.Numbering.TheVariants as numbering
 use Rattle.steps.specs.declared.Steps.{Steps}
-use Rattle.steps.specs.Progression.{number_at, ticks}
+use Rattle.steps.specs.Progression.{number_at, tick_by, ticks, SoundBy}
 use Rattle.steps.specs.Listing.{numbers}
 use Rattle.steps.specs.Promise.{nth, by_head}
-use Rattle.steps.proofs.Order.{at_least}
+use Rattle.steps.proofs.Order.{at_least, per_of}
 use Rattle.steps.proofs.Pairs.{nth_ticks}
 use Rattle.plans.specs.Days.{day_plan}
 use Rattle.plans.specs.Weeks.{week_plan}
@@ -37,8 +39,8 @@ use Rattle.plans.proofs.Promise.{counts, plan_good}
 
 -- how many numbers of a plan make a head: at most its nanoseconds, and one on all kinds but 4 and 7
 record Counted (a : Axis) (s : Steps) : Type 0 where
-  most : s.per ≤ unit a.kind
-  one : has_period a ≡ false → s.per ≡ 1
+  most : per_of s.numbering ≤ unit a.kind
+  one : has_period a ≡ false → per_of s.numbering ≡ 1
 
 -- kinds over dates have no period
 no_period : (a : Axis) → over_dates a.kind ≡ true → has_period a ≡ false
@@ -51,7 +53,7 @@ Small p t = (neg_part t.tail ≡ 0) × (pos_part t.tail < p)
 
 module _ (a : Axis) (n : ℕ) (q : Accepted a n) where
   -- whole heads, on any kind
-  heads : (s : Steps) → s.per ≡ 1 → Counted a s
+  heads : (s : Steps) → per_of s.numbering ≡ 1 → Counted a s
   heads s e = record { most = omega (arith, (counts a q.real).least); one = λ _. e }
 
   counted : Counted a (plan_of a n)
@@ -68,12 +70,14 @@ module _ (a : Axis) (n : ℕ) (q : Accepted a n) where
     abbrev v : Value
     v = nth (numbers (ticks (plan_of a n))) i
 
-    small : Small (plan_of a n).per v
+    small : Small (per_of (plan_of a n).numbering) v
     small =
         let s = plan_of a n in
-        let d = (plan_good a n q).sound.divides in
-        subst (Small s.per) (sym (nth_ticks s i l))
-        (choose (Small s.per) s.by_month (λ _. (refl, d)) (λ _. (refl, mod-lt (number_at s i) d)))
+        subst (Small (per_of s.numbering)) (sym (nth_ticks s i l)) (of_case s s.numbering (plan_good a n q).sound)
+      where
+        of_case : (s : Steps) (m : Numbering) → SoundBy m s → Small (per_of m) (tick_by m (number_at s i))
+        of_case s numbering.Months r = (refl, omega arith)
+        of_case s (numbering.Even h) r = (refl, mod-lt (number_at s i) r.divides)
 
     pub no_tail : has_period a ≡ false → v.tail ≡ pos 0
     no_tail e = same v.tail (pos 0) (omega (arith, small, counted.one e))

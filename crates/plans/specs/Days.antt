@@ -1,20 +1,24 @@
 -- The list of the days of an axis over dates or date-times: every day, every week or every few weeks, the last day
 -- included. Definitions only.
-use Rattle.std.specs.Prelude.{false, cond, ◌&&◌, ℕ, ◌+◌, ◌-◌, ◌*◌, ◌/◌, min, eqb, ltb, leb, pos}
+use Rattle.std.specs.Prelude.{cond, ◌&&◌, ℕ, ◌+◌, ◌-◌, ◌*◌, ◌/◌, min, eqb, ltb, leb, ℤ, pos}
 use Rattle.floats.specs.Rounding.{ceil_of}
 use Rattle.axis.specs.declared.Axis.{Axis}
 use Rattle.counting.specs.Counting.{from_day, to_day}
+use Rattle.steps.specs.declared.Heads.{Heads}
+use Rattle.steps.specs.declared.Numbering.TheVariants as numbering
 use Rattle.steps.specs.declared.Steps.{Steps}
 use Rattle.steps.specs.Progression.{fitting}
 use Rattle.plans.specs.declared.Even.{Even}
+
+-- each number is a head, from base on
+abbrev pub whole_heads : ℤ → Heads
+whole_heads base = record { base = base; per = 1 }
 
 -- all the ticks before the end
 abbrev pub evenly : Even → Steps
 evenly e =
     record {
-      by_month = false;
-      base = e.base;
-      per = e.per;
+      numbering = numbering.Even e.heads;
       first = e.first;
       step = e.step;
       count = fitting (e.end - e.first) e.step;
@@ -31,7 +35,7 @@ date_step d n =
 
 -- the days from a first day on, of which the last is d later
 abbrev pub days_by : ℕ → ℕ → ℕ → Steps
-days_by from d n = evenly (record { per = 1; base = pos from; first = 0; end = d + 1; step = date_step d n })
+days_by from d n = evenly (record { heads = whole_heads (pos from); first = 0; end = d + 1; step = date_step d n })
 
 -- the list of an axis by days
 unfoldable pub day_plan : Axis → ℕ → Steps

@@ -1,9 +1,10 @@
 -- The months that begin on an axis, counted from 0001-01, and their lists: every month, quarter, half-year, or every few
 -- years, each with the first month's number. The last month may be the one before the first. Definitions only.
-use Rattle.std.specs.Prelude.{true, cond, ℕ, ◌+◌, ◌-◌, ◌*◌, ◌/◌, leb, pos}
+use Rattle.std.specs.Prelude.{cond, ℕ, ◌+◌, ◌-◌, ◌*◌, ◌/◌, leb}
 use Rattle.period.specs.Ladders.{first_fit}
 use Rattle.axis.specs.declared.Axis.{Axis}
 use Rattle.counting.specs.Counting.{from_day, to_day}
+use Rattle.steps.specs.declared.Numbering.TheVariants as numbering
 use Rattle.steps.specs.declared.Steps.{Steps}
 use Rattle.steps.specs.Months.{month_of, whole_month}
 use Rattle.steps.specs.Progression.{fitting}
@@ -26,7 +27,7 @@ month_step t n = cond (leb t n) 1 (cond (leb t (n * 3)) 3 (cond (leb t (n * 6)) 
 
 -- from the month m to the month e, which is included, k apart
 abbrev pub months_by : ℕ → ℕ → ℕ → Steps
-months_by m e k = record { by_month = true; base = pos 0; per = 1; first = m; step = k; count = fitting (e + 1 - m) k }
+months_by m e k = record { numbering = numbering.Months; first = m; step = k; count = fitting (e + 1 - m) k }
 
 -- the list of a monthly axis
 unfoldable pub month_plan : Axis → ℕ → Steps

@@ -15,7 +15,7 @@ use Rattle.axis.specs.Questions.{ends, in_order, near_or_long, equals}
 use Rattle.period.specs.Ladders.{first_fit}
 use Rattle.period.specs.Periods.{period_of}
 use Rattle.steps.specs.declared.Steps.{Steps}
-use Rattle.plans.specs.Days.{evenly}
+use Rattle.plans.specs.Days.{whole_heads, evenly}
 
 -- ---- ticks a period apart
 -- the period, if there is one, else days are listed: date-times have none from a day on, durations none beyond i64 nanoseconds
@@ -42,8 +42,7 @@ shift a k = cond (is_duration a.kind) (shift_of (nanoseconds Span a.start) k) (s
 unfoldable pub time_plan : Axis → ℕ → Steps
 time_plan a k =
     evenly (record {
-      per = unit a.kind;
-      base = a.start.head;
+      heads = record { base = a.start.head; per = unit a.kind };
       first = pos_part a.start.tail + shift a k;
       end = pos_part a.start.tail + pos_part (span_of a);
       step = k;
@@ -71,8 +70,7 @@ seconds_left a = pos_part (a.end.head -ℤ first_second a.start) + cond (lt_z (p
 unfoldable pub span_days_plan : Axis → ℕ → Steps
 span_days_plan a n =
     evenly (record {
-      per = 1;
-      base = first_second a.start;
+      heads = whole_heads (first_second a.start);
       first = 0;
       end = seconds_left a;
       step = seconds_per_day * first_fit (pos_part (days_in a.end -ℤ days_in a.start)) n;

@@ -2,30 +2,29 @@
 // date-times and durations a period apart; whole days of a long duration.
 #![tactic(auto)]
 
-ghost use Rattle.std.specs.Prelude.{◌≡◌, true, ◌+◌, ◌≤◌, ◌<◌, ◌^◌, min, pos};
+ghost use Rattle.std.specs.Prelude.{◌≡◌, true, false, ◌+◌, ◌-◌, ◌≤◌, ◌<◌, ◌^◌, min, pos};
 ghost use Rattle.values.specs.declared.Kind.TheVariants.{Span};
-ghost use Rattle.values.specs.Values.{is_value};
+ghost use Rattle.values.specs.Values.{is_value, is_duration};
 ghost use Rattle.values.specs.Differences.{unit, days_in};
-ghost use Rattle.counting.specs.Counting.{Dated, from_day};
+ghost use Rattle.counting.specs.Counting.{from_day};
 ghost use Rattle.calendar.specs.Questions.{last_day};
 ghost use Rattle.plans.specs.Days.{evenly, date_step, day_plan};
 ghost use Rattle.plans.specs.Weeks.{week_step, week_plan};
 ghost use Rattle.floats.specs.Rounding.{ceil_of};
-ghost use Rattle.plans.specs.Months.{from_month, to_month, year_step, month_step, months_by, month_plan, year_plan};
+ghost use Rattle.plans.specs.Months.{from_month, to_month, year_step, month_step, months_by};
 ghost use Rattle.plans.specs.Times.{period_in, shift_up, shift_of, shift, time_plan, Timed};
 ghost use Rattle.plans.specs.Times.{first_second, seconds_left, span_days_plan, Long};
 ghost use Rattle.plans.specs.Plans.{Accepted, period_plan, plan_of};
 
 use axis::Axis;
-use steps::Steps;
+use counting::DateAxis;
+use steps::{Heads, Numbering, Steps};
 use values::{Kind, Value};
 
-// Ticks step apart from the number first to the number end, which is left out. A head has per numbers, and base is the
-// head of 0.
+// Ticks step apart from the number first to the number end, which is left out.
 #[derive(Clone, Copy)]
 pub struct Even {
-    pub per: u64,
-    pub base: i64,
+    pub heads: Heads,
     pub first: u64,
     pub end: u64,
     pub step: u64,
@@ -38,14 +37,20 @@ pub struct MonthRange {
     pub last: u64,
 }
 
+// An axis and the N of a hint, which the questions accept.
+#[derive(Clone, Copy)]
+pub struct Hinted {
+    pub axis: Axis,
+    pub n: u64,
+    ghost accepted: { Accepted axis n },
+}
+
 pub fn even_plan(e: Even) -> Steps
     requires { 0 < e.step }
     ensures { result ≡ evenly e }
 {
     Steps {
-        by_month: false,
-        base: e.base,
-        per: e.per,
+        numbering: Numbering::Even(e.heads),
         first: e.first,
         step: e.step,
         count: steps::how_many(e.end.saturating_sub(e.first), e.step),
@@ -84,19 +89,17 @@ fn date_step(d: u64, n: u64) -> u64
 }
 
 #[tactic(auto, using(crate::proofs::Days::days_of_axis), unfolding(crate::specs::Days::day_plan))]
-fn day_plan(a: Axis, n: u64) -> Steps
-    requires { Dated a }
-    ensures { result ≡ day_plan a n }
+fn day_plan(d: DateAxis, n: u64) -> Steps
+    ensures { result ≡ day_plan d.axis n }
 {
-    let from = counting::from_day(a);
-    let d = counting::to_day(a).saturating_sub(from);
+    let from = d.from_day();
+    let later = d.to_day().saturating_sub(from);
     let base = from as i64;
     even_plan(Even {
-        per: 1,
-        base: base,
+        heads: Heads { base, per: 1 },
         first: 0,
-        end: d + 1,
-        step: date_step(d, n),
+        end: later + 1,
+        step: date_step(later, n),
     })
 }
 
@@ -110,16 +113,15 @@ fn week_step(c: u64, n: u64) -> u64
 }
 
 // From the first Monday on, which may lie behind the last day.
-fn week_plan(a: Axis, n: u64) -> Steps
-    requires { Dated a × (from_day a ≤ last_day) × (n ≤ 4096) }
-    ensures { result ≡ week_plan a n }
+fn week_plan(d: DateAxis, n: u64) -> Steps
+    requires { (from_day d.axis ≤ last_day) × (n ≤ 4096) }
+    ensures { result ≡ week_plan d.axis n }
 {
-    let first = weeks::first_monday(counting::from_day(a));
-    let last = counting::to_day(a);
+    let first = weeks::first_monday(d.from_day());
+    let last = d.to_day();
     let base = first as i64;
     even_plan(Even {
-        per: 1,
-        base: base,
+        heads: Heads { base, per: 1 },
         first: 0,
         end: (last + 1).saturating_sub(first),
         step: 7 * week_step((last + 7).saturating_sub(first) / 7, n),
@@ -158,53 +160,32 @@ pub fn months_by(m: MonthRange, k: u64) -> Steps
     ensures { result ≡ months_by m.first m.last k }
 {
     Steps {
-        by_month: true,
-        base: 0,
-        per: 1,
+        numbering: Numbering::Months,
         first: m.first,
         step: k,
         count: steps::how_many((m.last + 1).saturating_sub(m.first), k),
     }
 }
 
-pub fn months_on(a: Axis) -> MonthRange
-    requires { Dated a }
-    ensures { result ≡ record { first = from_month a; last = to_month a } }
+pub fn months_on(d: DateAxis) -> MonthRange
+    ensures { result ≡ record { first = from_month d.axis; last = to_month d.axis } }
 {
     MonthRange {
-        first: steps::whole_month(counting::from_day(a)),
-        last: steps::month_of(counting::to_day(a)),
+        first: steps::whole_month(d.from_day()),
+        last: steps::month_of(d.to_day()),
     }
 }
 
-#[tactic(auto, using(crate::proofs::Months::steps_wide), unfolding(crate::specs::Months::month_plan))]
-fn month_plan(a: Axis, n: u64) -> Steps
-    requires { Dated a × (n ≤ 4096) }
-    ensures { result ≡ month_plan a n }
+// Months in a row, as far apart as step says where the last one is so many later than the first.
+#[tactic(auto, using(crate::proofs::Months::last_most))]
+fn by_months<F: FnOnce(u64) -> u64>(d: DateAxis, step: F) -> Steps
+    requires takes { F.pre step (to_month d.axis - from_month d.axis) }
+    requires above { (k : _) → F.post step (to_month d.axis - from_month d.axis) k → 0 < k }
+    ensures { (k : _) × F.post step (to_month d.axis - from_month d.axis) k
+        × (result ≡ months_by (from_month d.axis) (to_month d.axis) k) }
 {
-    let m = months_on(a);
-    months_by(m, month_step(m.last.saturating_sub(m.first), n))
-}
-
-// The same by years alone. One function of both would take a flag, which is no plainer.
-#[tactic(auto, using(crate::proofs::Months::steps_wide), unfolding(crate::specs::Months::year_plan))]
-fn year_plan(a: Axis, n: u64) -> Steps
-    requires { Dated a }
-    ensures { result ≡ year_plan a n }
-{
-    let m = months_on(a);
-    months_by(m, year_step(m.last.saturating_sub(m.first), n))
-}
-
-// The period of kinds 4 and 7, if there is one: else days are listed.
-pub fn period_in(a: Axis, n: u64) -> Option<u64>
-    requires { Accepted a n × (1 ≤ n) }
-    ensures { result ≡ period_in a n }
-{
-    let span = axis::span(a)?;
-    let sub_daily = !a.kind.is_duration();
-    let p = period::compute_period_per_point(calendar::as_count(span), n, sub_daily)?;
-    Some(p.nanoseconds)
+    let m = months_on(d);
+    months_by(m, step(m.last.saturating_sub(m.first)))
 }
 
 // From x up to a multiple of k.
@@ -265,8 +246,10 @@ fn time_plan(a: Axis, k: u64) -> Steps
     let span = axis::span(a).unwrap();
     let tail = calendar::as_count(a.start.tail);
     even_plan(Even {
-        per: unit(a.kind),
-        base: a.start.head,
+        heads: Heads {
+            base: a.start.head,
+            per: unit(a.kind),
+        },
         first: tail + shift(a, k),
         end: tail + calendar::as_count(span),
         step: k,
@@ -314,36 +297,60 @@ fn span_days_plan(a: Axis, n: u64) -> Steps
     let d = days_in(a.end) - days_in(a.start);
     let step = 86400 * period::first_fit(calendar::as_count(d), n);
     even_plan(Even {
-        per: 1,
-        base: first,
+        heads: Heads {
+            base: first,
+            per: 1,
+        },
         first: 0,
         end: seconds_left(a, first),
         step: step,
     })
 }
 
-// The plan of kinds 4 and 7: days where there is no period.
-fn period_plan(a: Axis, n: u64) -> Steps
-    requires { Accepted a n × (1 ≤ n) }
-    ensures { result ≡ period_plan a n }
-{
-    match period_in(a, n) {
-        Some(k) => time_plan(a, k),
-        None if a.kind.is_duration() => span_days_plan(a, n),
-        None => day_plan(a, n),
+impl Hinted {
+    // The period of kinds 4 and 7, if there is one: else days are listed.
+    pub fn period(self) -> Option<u64>
+        requires { 1 ≤ self.n }
+        ensures { result ≡ period_in self.axis self.n }
+    {
+        let span = axis::span(self.axis)?;
+        let sub_daily = !self.axis.kind.is_duration();
+        let p = period::compute_period_per_point(calendar::as_count(span), self.n, sub_daily)?;
+        Some(p.nanoseconds)
     }
-}
 
-// The plan of a kind.
-pub fn plan_of(a: Axis, n: u64) -> Steps
-    requires { Accepted a n }
-    ensures { result ≡ plan_of a n }
-{
-    match a.kind {
-        Kind::Date => day_plan(a, n),
-        Kind::Month | Kind::StampMonth => month_plan(a, n),
-        Kind::Year | Kind::StampYear => year_plan(a, n),
-        Kind::Stamp | Kind::Span => period_plan(a, n),
-        Kind::Week => week_plan(a, n),
+    // The axis, where it is over dates or date-times.
+    fn dates(self) -> DateAxis
+        requires { is_duration self.axis.kind ≡ false }
+        ensures { result.axis ≡ self.axis }
+    {
+        DateAxis { axis: self.axis }
+    }
+
+    // The plan of kinds 4 and 7: days where there is no period.
+    fn period_plan(self) -> Steps
+        requires { 1 ≤ self.n }
+        ensures { result ≡ period_plan self.axis self.n }
+    {
+        match self.period() {
+            Some(k) => time_plan(self.axis, k),
+            None if self.axis.kind.is_duration() => span_days_plan(self.axis, self.n),
+            None => day_plan(self.dates(), self.n),
+        }
+    }
+
+    // The plan of a kind.
+    #[tactic(auto, using(crate::proofs::Months::steps_wide))]
+    pub fn plan(self) -> Steps
+        ensures { result ≡ plan_of self.axis self.n }
+    {
+        let n = self.n;
+        match self.axis.kind {
+            Kind::Date => day_plan(self.dates(), n),
+            Kind::Month | Kind::StampMonth => by_months(self.dates(), |t| month_step(t, n)),
+            Kind::Year | Kind::StampYear => by_months(self.dates(), |t| year_step(t, n)),
+            Kind::Stamp | Kind::Span => self.period_plan(),
+            Kind::Week => week_plan(self.dates(), n),
+        }
     }
 }

@@ -5,11 +5,11 @@ use Rattle.plans.specs.Months.{from_month, to_month}
 use Rattle.plans.proofs.months_on.Goals as goal
 
 pub whole_month-requires : goal.whole_month-requires
-whole_month-requires c = let r = from_range c.args.a c.requires in
+whole_month-requires c = let r = from_range c.args.d.axis c.args.d.dated in
     rw c.from_day.ensures (r.0, omega arith)
 
 pub month_of-requires : goal.month_of-requires
-month_of-requires c = let r = to_range c.args.a c.requires in
+month_of-requires c = let r = to_range c.args.d.axis c.args.d.dated in
     rw c.to_day.ensures (r.0, omega arith)
 
 pub returns : goal.returns

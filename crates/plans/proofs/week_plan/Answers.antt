@@ -13,17 +13,17 @@ use Rattle.plans.proofs.week_plan.Goals as goal
 use Rattle.plans.proofs.week_plan.Goals.{After-first_monday-first, After-saturating_sub-2, After-to_day-last, After-week_step}
 
 pub first_monday-first-requires : goal.first_monday-first-requires
-first_monday-first-requires c = rw c.from_day.ensures ((from_range c.args.a c.requires.0).0, c.requires.1)
+first_monday-first-requires c = rw c.from_day.ensures ((from_range c.args.d.axis c.args.d.dated).0, c.requires.0)
 
-first_is : (c : After-first_monday-first) → c.first_monday-first.result ≡ first_monday (from_day c.args.a)
+first_is : (c : After-first_monday-first) → c.first_monday-first.result ≡ first_monday (from_day c.args.d.axis)
 first_is c = c.first_monday-first.ensures ∙ rw c.from_day.ensures
 
 first_small : (c : After-first_monday-first) → c.first_monday-first.result < 2 ^ 63
-first_small c = let r = from_range c.args.a c.requires.0 in
-    omega (arith, first_is c, first_monday_law (from_day c.args.a) (omega arith))
+first_small c = let r = from_range c.args.d.axis c.args.d.dated in
+    omega (arith, first_is c, first_monday_law (from_day c.args.d.axis) (omega arith))
 
 last_small : (c : After-to_day-last) → c.to_day-last.result ≤ 3652059
-last_small c = omega (arith, c.to_day-last.ensures, to_range c.args.a c.requires.0)
+last_small c = omega (arith, c.to_day-last.ensures, to_range c.args.d.axis c.args.d.dated)
 
 pub overflow_cast-base : goal.overflow_cast-base
 overflow_cast-base c = count_fits _ (first_small (goal.at.overflow_cast-base c).After-first_monday-first)
@@ -38,7 +38,7 @@ few : (c : After-saturating_sub-2) → c.saturating_sub-2.result / 7 < 4000000
 few c = omega (arith, c.saturating_sub-2.ensures, last_small (goal.at.After-saturating_sub-2 c).After-to_day-last)
 
 pub week_step-requires : goal.week_step-requires
-week_step-requires c = (few (goal.at.week_step-requires c).After-saturating_sub-2, c.requires.2)
+week_step-requires c = (few (goal.at.week_step-requires c).After-saturating_sub-2, c.requires.1)
 
 stride : (c : After-week_step) → (0 < c.week_step.result) × (c.week_step.result < 4000001)
 stride c = let n = c.args.n in
