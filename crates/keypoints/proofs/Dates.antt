@@ -19,7 +19,7 @@ use Rattle.axis.specs.declared.Axis.{Axis}
 use Rattle.counting.specs.Counting.{from_day, to_day}
 use Rattle.steps.specs.declared.Steps.{Steps}
 use Rattle.steps.specs.Progression.{fitting, tick_of, ticks}
-use Rattle.plans.specs.Days.{date_step, evenly, days_by, day_plan}
+use Rattle.plans.specs.Days.{date_step, whole_heads, evenly, days_by, day_plan}
 use Rattle.plans.proofs.Promise.{heads_tick}
 use Rattle.keypoints.specs.Loops.{for_to}
 use Rattle.keypoints.specs.Dates.{every_few, dates_from, date_key_points}
@@ -31,10 +31,10 @@ on day = midnight (pos day)
 
 -- days k apart, of which the last is no more than d after the first
 abbrev apart : ℕ → ℕ → ℕ → Steps
-apart from d k = evenly (record { per = 1; base = pos from; first = 0; end = d + 1; step = k })
+apart from d k = evenly (record { heads = whole_heads (pos from); first = 0; end = d + 1; step = k })
 
 day_tick : (from d k i : ℕ) → tick_of (apart from d k) i ≡ on (from + i * k)
-day_tick from d k i = heads_tick (apart from d k) (0 + i * k) refl refl ∙ ap on (omega arith)
+day_tick from d k i = heads_tick (pos from) (0 + i * k) ∙ ap on (omega arith)
 
 -- a loop over such days lists them
 module _ (from d k last : ℕ) (is : d / k ≡ last) (day : ℕ → ℕ) (each : (i : ℕ) → i ≤ last → day i ≡ from + i * k) where

@@ -23,7 +23,7 @@ use Rattle.period.proofs.Search.{Come, come_first}
 use Rattle.period.proofs.Fits.{fit_here, fit_next, fit_above, fit_room}
 use Rattle.steps.specs.Progression.{ticks}
 use Rattle.steps.proofs.Fitting.{few_steps}
-use Rattle.plans.specs.Days.{evenly}
+use Rattle.plans.specs.Days.{whole_heads, evenly}
 use Rattle.plans.specs.Times.{first_second, seconds_left, span_days_plan, Long}
 use Rattle.plans.proofs.Cases.{both_ways, choose}
 use Rattle.plans.proofs.Spans.{left_dn, left_most, total_dn, total_range}
@@ -106,11 +106,11 @@ module _ (a : Axis) (n turns : ℕ) (l : Long a) (t : n + 30 ≤ turns) where
 
   by_days_law : (f : ℕ) → 0 < f → seconds_left a ≤ (n + 1) * (seconds_per_day * f) →
       whole_days_by turns a f
-      ≡ ticks (evenly (record { per = 1; base = first; first = 0; end = seconds_left a; step = seconds_per_day * f }))
+      ≡ ticks (evenly (record { heads = whole_heads first; first = 0; end = seconds_left a; step = seconds_per_day * f }))
   unfolding whole_days_by
   by_days_law f p room =
       let k = seconds_per_day * f in
-      let s = evenly (record { per = 1; base = first; first = 0; end = seconds_left a; step = k }) in
+      let s = evenly (record { heads = whole_heads first; first = 0; end = seconds_left a; step = k }) in
       let above : 0 < k = omega arith in
       let c : seconds_left a - 0 ≤ (n + 1) * k = omega arith in
       walk_is a s (seconds_left a) (λ v. record { head = v.head +ℤ pos k; tail = v.tail }) above refl

@@ -7,6 +7,7 @@ use native.Mathlib.Nat.{div-div-eq-div-mul, div-lt_iff_lt-mul, div-eq_of_lt, div
 use native.Mathlib.Decide.{dec_le}
 use native.Mathlib.Numerals.{add-one}
 use native.Mathlib.Omega.{arith}
+use lib.IntN.{pos}
 use lib.ListN.{length}
 use borrow.Author.Tests.{eqb-true, eqb-false, leb-true, leb-false}
 use Rattle.weeks.specs.Weeks.{weekday, first_monday}
@@ -179,7 +180,7 @@ weeks_by_law f e n =
     let p = (week_room c n).0 in
     rw (every_are m p (λ i. on (f + i * 7)) c, days_fit f e m p)
     (values_same (λ i. on (f + i * m * 7)) (tick_of (weeks_by f e n)) (weeks_by f e n).count
-    (λ i l. ap on (omega arith) ∙ sym (heads_tick (weeks_by f e n) (0 + i * (7 * m)) refl refl)))
+    (λ i l. ap on (omega arith) ∙ sym (heads_tick (pos f) (0 + i * (7 * m)))))
 
 pub weeks_same : (a : Axis) (n : ℕ) → Dated a → week_key_points a n ≡ ticks (week_plan a n)
 unfolding week_key_points mondays_on week_plan
