@@ -97,7 +97,7 @@ module _ (a : Axis) where
     pub no_duration : is_duration a.kind ≡ false
     no_duration = elim (either_true (monthly a) (yearly a) e) [ inl x ↦ monthly_dated a x | inr x ↦ yearly_dated a x ]
 
-    finer_accepted : (n : ℕ) → Accepted a n → Accepted (finer a) n
+    pub finer_accepted : (n : ℕ) → Accepted a n → Accepted (finer a) n
     unfolding ends in_order
     finer_accepted n q =
         let v = both_ends a q.real in
@@ -238,5 +238,3 @@ module _ (a : Axis) where
       let row = period_questions a h in
       let q = row_accepted a (has_period a) (hint_on a (Bold h)) h.n e (bold_range a h) in
       (q, q.some (period_no_dates a (told 2 row e)), (bold_range a h (told 6 row e)).none_below)
-
-pub ruleset light_hints = (accepted, light_counts, refined_accepted)

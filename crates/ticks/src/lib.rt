@@ -5,15 +5,16 @@
 ghost use Rattle.std.specs.Prelude.{◌≡◌, true, cond, ◌||◌, ◌≤◌, length, Some, None, Ok};
 ghost use Rattle.asking.specs.Asking.{asked, passes};
 ghost use Rattle.axis.specs.Axes.{closed};
-ghost use Rattle.axis.specs.Questions.{ends};
 ghost use Rattle.counting.specs.Counting.{counts_months, counts_years};
-ghost use Rattle.keypoints.specs.Hints.{finer_kind};
+ghost use Rattle.keypoints.specs.Hints.{finer_kind, limit};
 ghost use Rattle.ticks.specs.Answers.{tick_questions, ticks_answer, ticks_written, ticks_handed};
 ghost use Rattle.ticks.specs.Answers.{period_questions, period_answer};
 ghost use Rattle.ticks.specs.Plans.{refined, axis_for, points, plan_for};
 
 use asking::{Refusal, ask};
 use axis::{Axis, BoldPoints, Hint};
+use counting::DateAxis;
+use plans::Hinted;
 use steps::Steps;
 use values::Kind;
 
@@ -31,17 +32,21 @@ fn finer_kind(kind: Kind) -> Option<Kind>
 }
 
 // The finer axis, if the size is at most twice the bold count.
-fn refined(bold: u64, a: Axis) -> Axis
-    requires { (bold ≤ 4096) × (ends a ≡ true) }
-    ensures { result ≡ refined bold a }
+fn refined(bold: u64, q: Hinted) -> Hinted
+    requires { bold ≤ 4096 }
+    ensures { (result.axis ≡ refined bold q.axis) × (result.n ≡ q.n) }
 {
-    let Some(kind) = finer_kind(a.kind) else {
-        return a;
+    let Some(kind) = finer_kind(q.axis.kind) else {
+        return q;
     };
-    if 2 * bold < counting::size_of(a) {
-        return a;
+    let d = DateAxis { axis: q.axis };
+    if 2 * bold < d.size_of() {
+        return q;
     }
-    Axis { kind, ..a }
+    Hinted {
+        axis: Axis { kind, ..q.axis },
+        n: q.n,
+    }
 }
 
 // The questions before the list's length is known.
@@ -50,22 +55,6 @@ pub fn ask_ticks(a: Axis, h: Hint) -> Result<(), Refusal>
 {
     axis::ask_axis(a, true)?;
     ask(Refusal::Hint, axis::hint_on(a, h))
-}
-
-// The axis that lists: with a light hint years may go to months, and these to dates or date-times.
-#[tactic(auto, using(crate::proofs::Hints::light_hints))]
-fn axis_for(a: Axis, h: Hint) -> Axis
-    requires { passes (tick_questions a h) ≡ true }
-    ensures { result ≡ axis_for a h }
-{
-    match h {
-        Hint::Bold(_) => a,
-        Hint::Light(l) => {
-            let bold = calendar::as_count(l.bold);
-            let once = refined(bold, a);
-            refined(bold, once)
-        }
-    }
 }
 
 // N of a hint.
@@ -78,12 +67,22 @@ fn points(h: Hint) -> i64
     }
 }
 
-// The plan of that axis, by N.
-fn plan_for(a: Axis, h: Hint) -> Steps
+// The axis that lists, by N: with a light hint years may go to months, and these to dates or date-times.
+fn axis_for(a: Axis, h: Hint) -> Hinted
     requires { passes (tick_questions a h) ≡ true }
-    ensures { result ≡ plan_for a h }
+    ensures { (result.axis ≡ axis_for a h) × (result.n ≡ limit h) }
 {
-    plans::plan_of(axis_for(a, h), calendar::as_count(points(h)))
+    let q = Hinted {
+        axis: a,
+        n: calendar::as_count(points(h)),
+    };
+    match h {
+        Hint::Bold(_) => q,
+        Hint::Light(l) => {
+            let bold = calendar::as_count(l.bold);
+            refined(bold, refined(bold, q))
+        }
+    }
 }
 
 // Asks the questions before the list's length is known, and makes the plan of the axis by which the axis lists.
@@ -91,7 +90,7 @@ pub fn plan(a: Axis, h: Hint) -> Result<Steps, Refusal>
     ensures { result ≡ asked (tick_questions a h) (Ok (plan_for (closed a) h)) }
 {
     ask_ticks(a, h)?;
-    Ok(plan_for(axis::closed(a), h))
+    Ok(axis_for(axis::closed(a), h).plan())
 }
 
 // How many ticks a hint gets, where lent_len numbers are lent.
@@ -133,5 +132,9 @@ pub fn period_per_point(a: Axis, h: BoldPoints) -> Result<Option<u64>, Refusal>
     ensures { result ≡ period_answer a h }
 {
     ask_period(a, h)?;
-    Ok(plans::period_in(a, calendar::as_count(h.n)))
+    let q = Hinted {
+        axis: a,
+        n: calendar::as_count(h.n),
+    };
+    Ok(q.period())
 }

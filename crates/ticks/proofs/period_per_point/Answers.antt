@@ -34,12 +34,17 @@ as_count-requires c =
     rw (to_z-of_z (limit_fits (goal.at.as_count-requires c).Start))
     (no_less c.args.h.n (period_accepted c.args.a c.args.h (none (goal.at.as_count-requires c).In_ok-ask_period)).2)
 
-pub period_in-requires : goal.period_in-requires
-period_in-requires c = let x = c.args in
-    let (q, k, d) = period_accepted x.a x.h (none (goal.at.period_in-requires c).In_ok-ask_period) in
-    rw (counted (goal.at.period_in-requires c).After-as_count) (q, k)
+pub invariant_of-q : goal.invariant_of-q
+invariant_of-q c = let x = c.args in
+    let (q, k, d) = period_accepted x.a x.h (none (goal.at.invariant_of-q c).In_ok-ask_period) in
+    record { accepted = rw (counted (goal.at.invariant_of-q c).After-as_count) q }
+
+pub period-requires : goal.period-requires
+period-requires c = let x = c.args in
+    let (q, k, d) = period_accepted x.a x.h (none (goal.at.period-requires c).In_ok-ask_period) in
+    rw (counted (goal.at.period-requires c).After-as_count) k
 
 pub returns : goal.returns
 returns c = let x = c.args in
-    ap Ok (c.period_in.ensures ∙ ap (period_in x.a) (counted (goal.at.returns c).After-as_count))
+    ap Ok (c.period.ensures ∙ ap (period_in x.a) (counted (goal.at.returns c).After-as_count))
     ∙ period_answered x.a x.h (none (goal.at.returns c).In_ok-ask_period)

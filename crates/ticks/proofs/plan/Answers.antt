@@ -11,6 +11,6 @@ use Rattle.ticks.proofs.plan.Goals.{In_ok-ask_ticks}
 none : (c : In_ok-ask_ticks) → passes (tick_questions c.args.a c.args.h) ≡ true
 none c = all_pass (tick_questions c.args.a c.args.h) tt (sym c.in_ok-ask_ticks.ensures)
 
-pub plan_for-requires : goal.plan_for-requires
-plan_for-requires c = let x = c.args in
-    rw c.closed.ensures (closed_passed x.a x.h (none (goal.at.plan_for-requires c).In_ok-ask_ticks))
+pub axis_for-requires : goal.axis_for-requires
+axis_for-requires c = let x = c.args in
+    rw c.closed.ensures (closed_passed x.a x.h (none (goal.at.axis_for-requires c).In_ok-ask_ticks))
