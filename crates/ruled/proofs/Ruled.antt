@@ -1,16 +1,18 @@
 -- The ruled list of an axis is the list of its plan, and the plan is one that can be listed. Assumes nothing.
 use mathlib.Core.Path.{◌≡◌, refl, sym, ap, ◌∙◌}
-use mathlib.Core.Bool.{Bool, true, true≢false}
+use mathlib.Core.Bool.{Bool, true}
 use Prim.Native.Nat.{ℕ, ◌+◌, ◌-◌, ◌*◌, ◌/◌, ◌≤◌, ◌<◌}
 use native.Mathlib.Nat.{div-one, mul-le-mul_left}
 use native.Mathlib.Omega.{arith}
+use lib.IntN.{pos}
 use Rattle.axis.specs.declared.Axis.{Axis}
 use Rattle.counting.specs.Counting.{Dated, from_day, to_day}
 use Rattle.counting.proofs.Counting.{from_range, to_range}
 use Rattle.steps.specs.Months.{first_day, whole_month}
 use Rattle.steps.specs.Progression.{fitting, tick_of, values_of, ticks, Sound}
 use Rattle.steps.proofs.Fitting.{few_steps}
-use Rattle.steps.proofs.Demand.{Kept, kept_sound}
+use Rattle.steps.proofs.Demand.{Kept, kept_months, kept_even}
+use Rattle.plans.specs.Days.{whole_heads}
 use Rattle.plans.specs.Months.{from_month, to_month, months_by}
 use Rattle.plans.proofs.Months.{last_month, first_most, last_most}
 use Rattle.plans.proofs.Promise.{heads_tick}
@@ -53,7 +55,7 @@ module _ (a : Axis) (d : Dated a) where
         let z : to_day a + 1 - from_day a - 0 ≡ c = omega arith in
         rw (days_on_law (λ _. true) (λ i. i) (λ i. i) (λ n p q. each_day n), every_are step h (λ i. on (from_day a + i)) c, z)
         (values_same (λ i. on (from_day a + i * step)) (tick_of s) (fitting c step)
-        (λ i l. ap on (omega arith) ∙ sym (heads_tick s (0 + i * step) refl refl)))
+        (λ i l. ap on (omega arith) ∙ sym (heads_tick (pos (from_day a)) (0 + i * step))))
 
     by_months : every step (days_on is_first a) ≡ ticks (ruled_plan unit.Month step a)
     unfolding ruled_plan from_month
@@ -104,15 +106,14 @@ module _ (a : Axis) (d : Dated a) where
       let (p, q) = from_range a d in
       let (r, t) = to_range a d in
       let room = to_day a + 1 - from_day a - 0 in
-      kept_sound (ruled_plan unit.Day step a) room room (all_kept step room h) (omega arith) (omega arith) (omega arith)
-      (rw (div-one step) (omega arith)) (rw (div-one (0 + room)) (omega arith)) (λ e. absurd (true≢false (sym e)))
+      kept_even (whole_heads (pos (from_day a))) (ruled_plan unit.Day step a) room room (all_kept step room h) (omega arith) (omega arith) (omega arith)
+      (rw (div-one step) (omega arith)) (rw (div-one (0 + room)) (omega arith))
 
   months_sound : (m k : ℕ) → m ≤ 119988 → 1 ≤ k → k ≤ 12000 → Sound (months_by m (to_month a) k)
   months_sound m k f p q =
       let room = to_month a + 1 - m in
       let top : m + room < 120000 = omega (arith, last_most a d) in
-      kept_sound (months_by m (to_month a) k) room room (all_kept k room p) (omega arith) (omega arith) (omega arith)
-      (rw (div-one k) (omega arith)) (rw (div-one (m + room)) (omega arith)) (λ e. top)
+      kept_months (months_by m (to_month a) k) room room (all_kept k room p) top
 
 pub ruled_sound : (unit : Unit) (step : ℕ) (a : Axis) → Dated a → 1 ≤ step → step ≤ 1000 → Sound (ruled_plan unit step a)
 unfolding ruled_plan

@@ -7,7 +7,7 @@ use Rattle.axis.specs.declared.Axis.{Axis}
 use Rattle.axis.specs.Axes.{closed}
 use Rattle.counting.specs.Counting.{from_day, to_day}
 use Rattle.steps.specs.declared.Steps.{Steps}
-use Rattle.plans.specs.Days.{evenly}
+use Rattle.plans.specs.Days.{whole_heads, evenly}
 use Rattle.plans.specs.Months.{from_month, to_month, months_by}
 use Rattle.rules.specs.declared.Unit.{Unit}
 use Rattle.rules.specs.declared.Unit.TheVariants as unit
@@ -22,7 +22,7 @@ january m = (m + 11) / 12 * 12
 -- every step-th day from the first, month from the first whole one, or January
 unfoldable pub ruled_plan : Unit → ℕ → Axis → Steps
 ruled_plan unit.Day step a =
-    evenly (record { per = 1; base = pos (from_day a); first = 0; end = to_day a + 1 - from_day a; step = step })
+    evenly (record { heads = whole_heads (pos (from_day a)); first = 0; end = to_day a + 1 - from_day a; step = step })
 ruled_plan unit.Month step a = months_by (from_month a) (to_month a) step
 ruled_plan unit.Year step a = months_by (january (from_month a)) (to_month a) (12 * step)
 

@@ -3,28 +3,28 @@
 #![tactic(auto)]
 
 ghost use Rattle.std.specs.Prelude.{◌≡◌, ◌≤◌, ◌<◌, length};
-ghost use Rattle.counting.specs.Counting.{Dated};
 ghost use Rattle.ruled.specs.Answers.{has_rules, length_of, ruled_answer, ruled_written};
 ghost use Rattle.ruled.specs.Plans.{january, ruled_plan, RuledFor};
 ghost use Rattle.rules.specs.declared.Unit.TheVariants as unit;
 
 use asking::Refusal;
 use axis::Axis;
+use counting::DateAxis;
 use plans::{Even, MonthRange};
 use rules::{Row, Unit};
-use steps::Steps;
+use steps::{Heads, Steps};
 
 // Every step-th day from the first on; the last is included.
-fn days_by(a: Axis, step: u64) -> Steps
-    requires { Dated a × (1 ≤ step) }
-    ensures { result ≡ ruled_plan unit.Day step a }
+fn days_by(d: DateAxis, step: u64) -> Steps
+    requires { 1 ≤ step }
+    ensures { result ≡ ruled_plan unit.Day step d.axis }
 {
-    let from = counting::from_day(a);
+    let from = d.from_day();
+    let base = from as i64;
     plans::even_plan(Even {
-        per: 1,
-        base: from as i64,
+        heads: Heads { base, per: 1 },
         first: 0,
-        end: counting::less(counting::to_day(a) + 1, from),
+        end: (d.to_day() + 1).saturating_sub(from),
         step,
     })
 }
@@ -41,14 +41,14 @@ fn from_january(m: MonthRange) -> MonthRange
 }
 
 // The plan of a row.
-fn plan_by(a: Axis, w: Row) -> Steps
-    requires { Dated a × (1 ≤ w.step) × (w.step ≤ 1000) }
-    ensures { result ≡ ruled_plan w.unit w.step a }
+fn plan_by(d: DateAxis, w: Row) -> Steps
+    requires { (1 ≤ w.step) × (w.step ≤ 1000) }
+    ensures { result ≡ ruled_plan w.unit w.step d.axis }
 {
     match w.unit {
-        Unit::Day => days_by(a, w.step),
-        Unit::Month => plans::months_by(plans::months_on(a), w.step),
-        Unit::Year => plans::months_by(from_january(plans::months_on(a)), 12 * w.step),
+        Unit::Day => days_by(d, w.step),
+        Unit::Month => plans::months_by(plans::months_on(d), w.step),
+        Unit::Year => plans::months_by(from_january(plans::months_on(d)), 12 * w.step),
     }
 }
 
@@ -60,11 +60,10 @@ fn has_rules(a: Axis) -> bool
 }
 
 // The days from the first to the last.
-fn length(a: Axis) -> u64
-    requires { Dated a }
-    ensures { result ≡ length_of a }
+fn length(d: DateAxis) -> u64
+    ensures { result ≡ length_of d.axis }
 {
-    counting::less(counting::to_day(a), counting::from_day(a))
+    d.to_day().saturating_sub(d.from_day())
 }
 
 // Asks the table and the axis, and makes the plan by the row for the axis's length.
@@ -73,9 +72,11 @@ fn plan(a: Axis, table: &[u8]) -> Result<Steps, Refusal>
 {
     let rules = rules::checked(table)?;
     axis::ask_plain(a, has_rules(a))?;
-    let c = axis::closed(a);
-    let w = rules::row_for(rules.as_slice(), length(c)).unwrap();
-    Ok(plan_by(c, w))
+    let d = DateAxis {
+        axis: axis::closed(a),
+    };
+    let w = rules::row_for(rules.as_slice(), length(d)).unwrap();
+    Ok(plan_by(d, w))
 }
 
 // How many ticks the table gives, where lent_len numbers are lent.

@@ -53,14 +53,15 @@ none c = let t = c.args.table.now in
     passes_append (table_questions t) row
     ∙ rw ((accepted (goal.at.In_ok-ask_plain c).In_ok-rules).0, all_pass row tt (sym e ∙ c.in_ok-ask_plain.was))
 
-pub length-requires : goal.length-requires
-length-requires c = rw c.closed-c.ensures (dated c.args.table.now c.args.a (none (goal.at.length-requires c).In_ok-ask_plain))
+pub invariant_of-d : goal.invariant_of-d
+invariant_of-d c =
+    record { dated = rw c.closed.ensures (dated c.args.table.now c.args.a (none (goal.at.invariant_of-d c).In_ok-ask_plain)) }
 
 -- the row that is found
 row_is : (c : After-row_for) → c.row_for.result ≡ row_on (rows_in c.args.table.now) (closed c.args.a)
 row_is c = let n = (accepted (goal.at.After-row_for c).In_ok-rules).1 in
     c.row_for.ensures
-    ∙ (λ i. row_for ((c.as_slice.ensures.value ∙ sym n) i) ((c.length.ensures ∙ ap length_of c.closed-c.ensures) i))
+    ∙ (λ i. row_for ((c.as_slice.ensures.value ∙ sym n) i) ((c.length.ensures ∙ ap length_of c.closed.ensures) i))
 
 pub unwrap-w-requires : goal.unwrap-w-requires
 unwrap-w-requires c =
@@ -78,10 +79,10 @@ plan_by-requires c = let t = c.args.table.now in
     let f = found (goal.at.plan_by-requires c).After-unwrap-w in
     let s : w ≡ c.unwrap-w.result = cc in
     let q : InRange c.unwrap-w.result = rw (← s) r in
-    rw c.closed-c.ensures (dated t a z, q.step, q.short)
+    (q.step, q.short)
 
 pub returns : goal.returns
 returns c = let w = c.unwrap-w.result in (
   none (goal.at.returns c).In_ok-ask_plain,
-  (w, found (goal.at.returns c).After-unwrap-w, c.plan_by.ensures ∙ ap (ruled_plan w.unit w.step) c.closed-c.ensures),
+  (w, found (goal.at.returns c).After-unwrap-w, c.plan_by.ensures ∙ ap (ruled_plan w.unit w.step) c.closed.ensures),
 )

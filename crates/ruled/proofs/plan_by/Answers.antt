@@ -6,15 +6,15 @@ use Rattle.ruled.specs.Plans.{ruled_plan}
 use Rattle.ruled.proofs.plan_by.Goals as goal
 
 pub months_by-requires : goal.months_by-requires
-months_by-requires c = (c.requires.1, rw c.months_on.ensures (omega (arith, last_most c.args.a c.requires.0)))
+months_by-requires c = (c.requires.0, rw c.months_on.ensures (omega (arith, last_most c.args.d.axis c.args.d.dated)))
 
 pub from_january-requires : goal.from_january-requires
-from_january-requires c = rw c.months_on-in-Year.ensures (omega (arith, first_most c.args.a c.requires.0))
+from_january-requires c = rw c.months_on-in-Year.ensures (omega (arith, first_most c.args.d.axis c.args.d.dated))
 
 pub months_by-requires-in-Year : goal.months_by-requires-in-Year
 months_by-requires-in-Year c =
-    let l = last_most c.args.a c.requires.0 in
-    (omega (arith, c.requires.1), rw (c.from_january.ensures, c.months_on-in-Year.ensures) (omega (arith, l)))
+    let l = last_most c.args.d.axis c.args.d.dated in
+    (omega (arith, c.requires), rw (c.from_january.ensures, c.months_on-in-Year.ensures) (omega (arith, l)))
 
 pub returns-in-Month : goal.returns-in-Month
 unfolding ruled_plan
