@@ -1,6 +1,7 @@
 -- What the operations answer, by where a value stands, and the axis of an accepted call. Assumes nothing.
 use mathlib.Core.Path.{◌≡◌, refl, sym, ◌∙◌}
 use mathlib.Core.Bool.{Bool, true, false, cond, ◌&&◌}
+use mathlib.Core.List.{List, [], ◌∷◌}
 use Prim.Native.Nat.{ℕ, ◌+◌, ◌-◌, ◌≤◌, ◌<◌}
 use native.Mathlib.Omega.{arith}
 use lib.Dec.{leb}
@@ -9,8 +10,8 @@ use borrow.Author.Tests.{le-leb, lt-leb, lt-ltb, le-ltb}
 use Rattle.std.specs.Prelude.{Some, None, Ok}
 use Rattle.laws.specs.Numbers.{pos_part}
 use Rattle.asking.specs.declared.Refusal.TheVariants as refusal
-use Rattle.asking.specs.Asking.{ask, asked, passes}
-use Rattle.asking.proofs.Asked.{told, fewer, answered_ok}
+use Rattle.asking.specs.Asking.{Question, ask, asked, passes}
+use Rattle.asking.proofs.Asked.{told, fewer, answered_ok, passed_first}
 use Rattle.calendar.specs.Questions.{last_day}
 use Rattle.values.specs.declared.Value.{Value}
 use Rattle.axis.specs.declared.Axis.{Axis}
@@ -26,6 +27,13 @@ use Rattle.discrete.specs.Answers.{size_questions, value_questions, index_questi
 -- ---- the axis by which an accepted call counts
 pub counted : (a : Axis) → passes (size_questions a) ≡ true → Dated (closed a)
 counted a e = closed_dated a (has_index a) (index_dated a (told 2 (size_questions a) e)) e
+
+-- the same, as it is handed on
+pub axis_asked : (row : List Question) (b x : Axis) → Ok x ≡ asked row (Ok b) → (passes row ≡ true) × (x ≡ b)
+axis_asked row b x e =
+    let (r, f) = answered_ok row (Ok b) x (sym e) in
+    let z : x ≡ b = cc in
+    (r, z)
 
 -- and a value on it
 pub value_asked : (a : Axis) (v : Value) → passes (value_questions a v) ≡ true → Dated (closed a) × (value_on (closed a) v ≡ true)
@@ -55,6 +63,12 @@ index_asked a i k e =
       count = sym same;
       most = omega (arith, same, (index_range i o).1);
     }
+
+pub index_after : (a : Axis) (i : ℤ) (k : ℕ) → passes (size_questions a) ≡ true →
+    Ok k ≡ asked (ask refusal.Value (is_index i) ∷ []) (Ok (pos_part i)) → Indexed a i k
+index_after a i k r e =
+    index_asked a i k
+    (sym (passed_first (size_questions a) (ask refusal.Value (is_index i) ∷ []) (Ok (pos_part i)) r) ∙ sym e)
 
 -- ---- neighbours, by where a value stands
 module _ (a : Axis) (v : Value) where

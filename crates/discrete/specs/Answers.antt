@@ -16,6 +16,7 @@ use Rattle.axis.specs.Questions.{checked, checked_if}
 use Rattle.unmapping.specs.Unmapping.{unmap_coord}
 use Rattle.discrete.specs.declared.Cursor.{Cursor}
 use Rattle.counting.specs.Counting.{size_of}
+use Rattle.counting.specs.declared.DateAxis.{DateAxis}
 use Rattle.discrete.specs.Indices.{is_indexed, index_of, value_at, index_under}
 
 -- ---- the questions
@@ -33,6 +34,11 @@ index_questions a i = size_questions a ++ (ask refusal.Value (is_index i) ∷ []
 -- of a pixel between two limits
 abbrev pub unmap_questions : Axis → Limits → ℤ → List Question
 unmap_questions a l p = plain_questions (has_unmap a) a ++ (ask refusal.Limits (unmap_pixels l p) ∷ [])
+
+-- the axis of what was answered
+abbrev pub axis_in : Result DateAxis Refusal → Result Axis Refusal
+axis_in (Ok d) = Ok d.axis
+axis_in (Err q) = Err q
 
 -- ---- the answers, on an axis whose end belongs to it
 unfoldable pub index_in : Axis → Value → Option ℕ

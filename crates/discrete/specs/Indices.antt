@@ -1,16 +1,28 @@
 -- Indices: which value has one, the value of an index, and the index under a pixel. Definitions only.
-use Rattle.std.specs.Prelude.{Bool, cond, ℕ, ◌+◌, ◌-◌, ◌*◌, ◌/◌, ◌%◌, eqb, leb, ℤ, pos, ◌-ℤ◌}
+use Rattle.std.specs.Prelude.{Bool, true, false, cond, ℕ, ◌+◌, ◌-◌, ◌*◌, ◌/◌, ◌%◌, eqb, leb, ℤ, pos, ◌-ℤ◌}
 use Rattle.std.specs.Float.{binary64}
 use Rattle.std.specs.Float.Ieee.{of_int, mul, div, to_unsigned}
 use Rattle.laws.specs.Numbers.{pos_part}
 use Rattle.calendar.specs.Gregorian.{day_number}
 use Rattle.weeks.specs.Weeks.{monday}
 use Rattle.floats.specs.Rounding.{floor_f}
+use Rattle.values.specs.declared.Kind.{Kind}
+use Rattle.values.specs.declared.Kind.TheVariants as kind
 use Rattle.values.specs.declared.Value.{Value}
 use Rattle.values.specs.Values.{midnight}
 use Rattle.axis.specs.declared.Axis.{Axis}
 use Rattle.axis.specs.declared.Limits.{Limits}
 use Rattle.counting.specs.Counting.{monthly, yearly, weekly, from_day, first_date, origin, position, size_of}
+
+-- days are counted
+abbrev pub counts_days : Kind → Bool
+counts_days kind.Date = true
+counts_days kind.Stamp = true
+counts_days kind.Span = true
+counts_days k = false
+
+unfoldable pub daily : Axis → Bool
+daily a = counts_days a.kind
 
 -- a value that stands before the start has no index
 unfoldable pub is_indexed : Axis → Value → Bool

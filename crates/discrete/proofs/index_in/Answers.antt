@@ -10,19 +10,19 @@ use Rattle.discrete.proofs.Answers.{index_none, index_is}
 use Rattle.discrete.proofs.index_in.Goals as goal
 use Rattle.discrete.proofs.index_in.Goals.{After-position_of-p, Start}
 
-from_is : (c : After-position_of-p) → c.position_of-p.result.from ≡ origin c.args.a
+from_is : (c : After-position_of-p) → c.position_of-p.result.from ≡ origin c.args.d.axis
 from_is c = ap (λ (x : Position). x.from) c.position_of-p.ensures
 
-at_is : (c : After-position_of-p) → c.position_of-p.result.at ≡ position c.args.a c.args.v
+at_is : (c : After-position_of-p) → c.position_of-p.result.at ≡ position c.args.d.axis c.args.v
 at_is c = ap (λ (x : Position). x.at) c.position_of-p.ensures
 
 -- a difference that is there, or not
-by_difference : (s : Start) (r : Option ℕ) (m n : ℕ) → m ≡ origin s.args.a → n ≡ position s.args.a s.args.v →
-    SomeIff r (m ≤ n) (n - m) → r ≡ index_in s.args.a s.args.v
-by_difference s None m n e f h = index_none s.args.a s.args.v (let z : n < m = omega (arith, h) in omega (arith, z, e, f))
+by_difference : (s : Start) (r : Option ℕ) (m n : ℕ) → m ≡ origin s.args.d.axis → n ≡ position s.args.d.axis s.args.v →
+    SomeIff r (m ≤ n) (n - m) → r ≡ index_in s.args.d.axis s.args.v
+by_difference s None m n e f h = index_none s.args.d.axis s.args.v (let z : n < m = omega (arith, h) in omega (arith, z, e, f))
 by_difference s (Some i) m n e f (l, d) =
-    let z : i ≡ position s.args.a s.args.v - origin s.args.a = omega (arith, d, e, f) in
-    ap Some z ∙ index_is s.args.a s.args.v (omega (arith, l, e, f))
+    let z : i ≡ position s.args.d.axis s.args.v - origin s.args.d.axis = omega (arith, d, e, f) in
+    ap Some z ∙ index_is s.args.d.axis s.args.v (omega (arith, l, e, f))
 
 pub returns : goal.returns
 returns c = let s = (goal.at.returns c).Start in

@@ -1,29 +1,29 @@
 -- `discrete::index_of` meets its contract. Assumes nothing.
 use borrow.Author.Rules.{rules}
 use mathlib.Core.Path.{◌≡◌, sym, ◌∙◌, ap}
-use mathlib.Core.Bool.{true}
 use Rattle.std.specs.Prelude.{Ok}
-use Rattle.asking.specs.Asking.{passes}
-use Rattle.asking.proofs.Asked.{all_pass, passed}
+use Rattle.asking.proofs.Asked.{passed, refused}
 use Rattle.axis.specs.declared.Axis.{Axis}
 use Rattle.axis.specs.Axes.{closed}
 use Rattle.discrete.specs.Answers.{value_questions, index_in, index_answer}
-use Rattle.discrete.proofs.Answers.{value_asked}
+use Rattle.discrete.proofs.Answers.{axis_asked, value_asked}
 use Rattle.discrete.proofs.index_of.Goals as goal
-use Rattle.discrete.proofs.index_of.Goals.{In_ok-ask_value}
 
-pub returns-in_err-ask_value : goal.returns-in_err-ask_value
+pub returns-in_err-d : goal.returns-in_err-d
 unfolding index_answer
-returns-in_err-ask_value c = search rules
-
-pass : (c : In_ok-ask_value) → passes (value_questions c.args.a c.args.v) ≡ true
-pass c = all_pass (value_questions c.args.a c.args.v) tt (sym c.ask_value.ensures ∙ c.in_ok-ask_value.was)
+returns-in_err-d c = let x = c.args in
+    let e = refused (value_questions x.a x.v) (closed x.a) (Ok (index_in (closed x.a) x.v)) c.in_err-d.field-0.0
+    (sym c.in_err-d.ensures) in
+    search rules
 
 pub index_in-requires : goal.index_in-requires
-index_in-requires c = rw c.closed.ensures (value_asked c.args.a c.args.v (pass (goal.at.index_in-requires c).In_ok-ask_value))
+index_in-requires c = let x = c.args in
+    let (pass, is) = axis_asked (value_questions x.a x.v) (closed x.a) c.in_ok-d.d.axis c.in_ok-d.ensures in
+    rw is (value_asked x.a x.v pass).1
 
 pub returns : goal.returns
 unfolding index_answer
 returns c = let x = c.args in
-    ap Ok (c.index_in.ensures ∙ ap (λ (b : Axis). index_in b x.v) c.closed.ensures)
-    ∙ passed (value_questions x.a x.v) (Ok (index_in (closed x.a) x.v)) (pass (goal.at.returns c).In_ok-ask_value)
+    let (pass, is) = axis_asked (value_questions x.a x.v) (closed x.a) c.in_ok-d.d.axis c.in_ok-d.ensures in
+    ap Ok (c.index_in.ensures ∙ ap (λ (b : Axis). index_in b x.v) is)
+    ∙ passed (value_questions x.a x.v) (Ok (index_in (closed x.a) x.v)) pass

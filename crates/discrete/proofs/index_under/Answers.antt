@@ -21,7 +21,7 @@ high_fits : (c : Start) → SFits w64 c.args.l.high
 high_fits c = search rules
 
 apart : (c : Start) → Pixels c.args.l c.args.p
-apart c = pixels_apart c.args.l c.args.p c.requires.1
+apart c = pixels_apart c.args.l c.args.p c.requires
 
 inner : (x y : ℤ) → SFits w64 x → SFits w64 y → SFits w64 (x -ℤ y) → SFits w64 (to_z w64 (of_z w64 x) -ℤ to_z w64 (of_z w64 y))
 inner x y f g h = rw (to_z-of_z f, to_z-of_z g) h
@@ -46,7 +46,7 @@ width_is s = read_sub s.args.l.high s.args.l.low (high_fits s) (low_fits s) (apa
 
 pub index_at-requires : goal.index_at-requires
 index_at-requires c = let small : c.size_of.result ≤ 3652059 =
-    omega (arith, c.size_of.ensures, size_most c.args.a c.requires.0) in
+    omega (arith, c.size_of.ensures, size_most c.args.d.axis c.args.d.dated) in
     rw (offset_is (goal.at.index_at-requires c).Start, width_is (goal.at.index_at-requires c).Start) (
       (apart (goal.at.index_at-requires c).Start).offset_small,
       small,

@@ -18,26 +18,26 @@ use Rattle.discrete.proofs.january.Goals as goal
 use Rattle.discrete.proofs.january.Goals.{After-day_on}
 
 pub returns-in_err-ask : goal.returns-in_err-ask
-returns-in_err-ask c = let a = c.args.a in
+returns-in_err-ask c = let a = c.args.d.axis in
     let y = c.args.year in
     let above : 9999 < y = search rules in
     let late : 3652059 < day_number y 1 1 = first_beyond y 1 (omega arith) (omega arith) (omega arith) above in
     let out = out_of_range (midnight (pos (day_number y 1 1))) (day_beyond (day_number y 1 1) late)
-    ∙ ap checked (sym (january_later a y (omega (arith, (starts a c.requires.0).head_most)))) in
+    ∙ ap checked (sym (january_later a y (omega (arith, (starts a c.args.d.dated).head_most)))) in
     search rules
 
 pub day_number-day-requires : goal.day_number-day-requires
-day_number-day-requires c = (a_first c.args.year 1 c.requires.1 (omega arith) (omega arith), search rules)
+day_number-day-requires c = (a_first c.args.year 1 c.requires (omega arith) (omega arith), search rules)
 
 pub day_on-requires : goal.day_on-requires
-day_on-requires c = is_day_law c.args.a.start (starts c.args.a c.requires.0)
+day_on-requires c = is_day_law c.args.d.axis.start (starts c.args.d.axis c.args.d.dated)
 
-start_day : (c : After-day_on) → c.day_on.result ≡ pos_part c.args.a.start.head
+start_day : (c : After-day_on) → c.day_on.result ≡ pos_part c.args.d.axis.start.head
 start_day c = c.day_on.ensures
 
 pub returns-then-day-day_on : goal.returns-then-day-day_on
-returns-then-day-day_on c = let a = c.args.a in
-    in_range_law a.start (is_day_law a.start (starts a c.requires.0))
+returns-then-day-day_on c = let a = c.args.d.axis in
+    in_range_law a.start (is_day_law a.start (starts a c.args.d.dated))
     ∙ ap checked
     (sym (january_start a c.args.year (omega (
       arith,
@@ -46,7 +46,7 @@ returns-then-day-day_on c = let a = c.args.a in
     ))))
 
 pub returns : goal.returns
-returns c = let a = c.args.a in
+returns c = let a = c.args.d.axis in
     c.at_midnight.ensures
     ∙ ap (λ (k : ℕ). checked (midnight (pos k))) c.day_number-day.ensures
     ∙ ap checked

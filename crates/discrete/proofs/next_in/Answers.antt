@@ -1,15 +1,13 @@
 -- `discrete::next_in` meets its contract. Assumes nothing.
-use Rattle.counting.proofs.Counting.{in_months, in_years, in_weeks, in_days}
+use Rattle.counting.proofs.Counting.{in_months, in_years}
+use Rattle.discrete.proofs.Ways.{in_daily}
 use Rattle.discrete.proofs.next_in.Goals as goal
 
 pub next_month-requires : goal.next_month-requires
-next_month-requires c = (c.requires.0, c.requires.1, in_months c.args.a c.in-Month.is)
+next_month-requires c = (c.requires, in_months c.args.d.axis c.in-Month.is)
 
 pub next_year-requires : goal.next_year-requires
-next_year-requires c = let (m, y) = in_years c.args.a c.in-Year.is in (c.requires.0, c.requires.1, m, y)
-
-pub next_week-requires : goal.next_week-requires
-next_week-requires c = let (m, y, w) = in_weeks c.args.a c.in-Week.is in (c.requires.0, c.requires.1, m, y, w)
+next_year-requires c = (c.requires, (in_years c.args.d.axis c.in-Year.is).1)
 
 pub next_day-requires : goal.next_day-requires
-next_day-requires c = let (m, y, w) = in_days c.args.a c.in-Date.is in (c.requires.0, c.requires.1, m, y, w)
+next_day-requires c = (c.requires, in_daily c.args.d.axis c.in-Date.is)

@@ -12,8 +12,9 @@ use Rattle.values.specs.Values.{midnight}
 use Rattle.axis.specs.Questions.{checked_if}
 use Rattle.axis.proofs.Checked.{no_value, checked_some, checked_refused}
 use Rattle.counting.specs.Counting.{origin, position}
-use Rattle.counting.proofs.Counting.{on_day, starts, end_on, is_day_law, origin_weeks, position_weeks, position_most}
-use Rattle.discrete.proofs.Indices.{value_weeks, week_later}
+use Rattle.counting.proofs.Counting.{on_day, starts, end_on, is_day_law, position_most}
+use Rattle.discrete.proofs.Indices.{week_later}
+use Rattle.discrete.proofs.Ways.{weeks_origin, weeks_position, weeks_value}
 use Rattle.discrete.specs.Answers.{next_in}
 use Rattle.discrete.proofs.Answers.{next_before, next_end, next_inside}
 use Rattle.discrete.proofs.next_week.Goals as goal
@@ -22,33 +23,33 @@ use Rattle.discrete.proofs.next_week.Goals.{After-mondays_to-2, After-mondays_to
 
 -- ---- where the value stands
 pub day_on-requires : goal.day_on-requires
-day_on-requires c = is_day_law c.args.v (on_day c.args.a c.requires.0 c.args.v c.requires.1)
+day_on-requires c = is_day_law c.args.v (on_day c.args.d.axis c.args.d.dated c.args.v c.requires.0)
 
 pub mondays_to-at-requires : goal.mondays_to-at-requires
-mondays_to-at-requires c = omega (arith, c.day_on.ensures, (on_day c.args.a c.requires.0 c.args.v c.requires.1).head_most)
+mondays_to-at-requires c = omega (arith, c.day_on.ensures, (on_day c.args.d.axis c.args.d.dated c.args.v c.requires.0).head_most)
 
-at_is : (c : After-mondays_to-at) → c.mondays_to-at.result ≡ position c.args.a c.args.v
+at_is : (c : After-mondays_to-at) → c.mondays_to-at.result ≡ position c.args.d.axis c.args.v
 at_is c = c.mondays_to-at.ensures ∙ ap mondays_to c.day_on.ensures
-    ∙ sym (position_weeks c.args.a c.args.v c.requires.2 c.requires.3 c.requires.4)
+    ∙ sym (weeks_position c.args.d.axis c.requires.1 c.args.v)
 
 -- ---- where the axis begins
 pub day_on-requires-2 : goal.day_on-requires-2
-day_on-requires-2 c = is_day_law c.args.a.start (starts c.args.a c.requires.0)
+day_on-requires-2 c = is_day_law c.args.d.axis.start (starts c.args.d.axis c.args.d.dated)
 
-start_day : (c : After-day_on-2) → c.day_on-2.result ≡ pos_part c.args.a.start.head
+start_day : (c : After-day_on-2) → c.day_on-2.result ≡ pos_part c.args.d.axis.start.head
 start_day c = c.day_on-2.ensures
 
 pub mondays_to-requires : goal.mondays_to-requires
 mondays_to-requires c =
-    omega (arith, start_day (goal.at.mondays_to-requires c).After-day_on-2, (starts c.args.a c.requires.0).head_most)
+    omega (arith, start_day (goal.at.mondays_to-requires c).After-day_on-2, (starts c.args.d.axis c.args.d.dated).head_most)
 
-from_is : (c : After-mondays_to) → c.mondays_to.result ≡ origin c.args.a
+from_is : (c : After-mondays_to) → c.mondays_to.result ≡ origin c.args.d.axis
 from_is c = c.mondays_to.ensures ∙ ap mondays_to (start_day (goal.at.After-mondays_to c).After-day_on-2)
-    ∙ sym (origin_weeks c.args.a c.requires.2 c.requires.3 c.requires.4)
+    ∙ sym (weeks_origin c.args.d.axis c.requires.1)
 
 pub returns-then-at-mondays_to : goal.returns-then-at-mondays_to
 returns-then-at-mondays_to c = let x = c.args in
-    no_value ∙ ap checked_if (sym (next_before x.a x.v (omega (
+    no_value ∙ ap checked_if (sym (next_before x.d.axis x.v (omega (
       arith,
       c.if-at-mondays_to.true,
       from_is (goal.at.returns-then-at-mondays_to c).After-mondays_to,
@@ -57,13 +58,13 @@ returns-then-at-mondays_to c = let x = c.args in
 
 -- ---- where it ends
 pub day_on-requires-3 : goal.day_on-requires-3
-day_on-requires-3 c = is_day_law c.args.a.end (on_day c.args.a c.requires.0 c.args.a.end
-    (end_on c.args.a c.requires.0))
+day_on-requires-3 c = is_day_law c.args.d.axis.end (on_day c.args.d.axis c.args.d.dated c.args.d.axis.end
+    (end_on c.args.d.axis c.args.d.dated))
 
 abbrev begun : After-day_on-3 → Start
 begun c = (goal.at.After-day_on-3 c).Start
 
-end_day : (c : After-day_on-3) → c.day_on-3.result ≡ pos_part (begun c).args.a.end.head
+end_day : (c : After-day_on-3) → c.day_on-3.result ≡ pos_part (begun c).args.d.axis.end.head
 end_day c = c.day_on-3.ensures
 
 pub mondays_to-requires-2 : goal.mondays_to-requires-2
@@ -71,16 +72,16 @@ mondays_to-requires-2 c = let s = begun (goal.at.mondays_to-requires-2 c).After-
     omega (
       arith,
       end_day (goal.at.mondays_to-requires-2 c).After-day_on-3,
-      (on_day s.args.a s.requires.0 s.args.a.end (end_on s.args.a s.requires.0)).head_most,
+      (on_day s.args.d.axis s.args.d.dated s.args.d.axis.end (end_on s.args.d.axis s.args.d.dated)).head_most,
     )
 
-to_is : (c : After-mondays_to-2) → let a = (begun (goal.at.After-mondays_to-2 c).After-day_on-3).args.a in
+to_is : (c : After-mondays_to-2) → let a = (begun (goal.at.After-mondays_to-2 c).After-day_on-3).args.d.axis in
     c.mondays_to-2.result ≡ position a a.end
 to_is c = let s = begun (goal.at.After-mondays_to-2 c).After-day_on-3 in
     c.mondays_to-2.ensures ∙ ap mondays_to (end_day (goal.at.After-mondays_to-2 c).After-day_on-3)
-    ∙ sym (position_weeks s.args.a s.args.a.end s.requires.2 s.requires.3 s.requires.4)
+    ∙ sym (weeks_position s.args.d.axis s.requires.1 s.args.d.axis.end)
 
-from_to : (c : Else-at-mondays_to) → origin c.args.a ≤ position c.args.a c.args.v
+from_to : (c : Else-at-mondays_to) → origin c.args.d.axis ≤ position c.args.d.axis c.args.v
 from_to c =
     omega (
       arith,
@@ -91,7 +92,7 @@ from_to c =
 
 pub returns-then-mondays_to-at : goal.returns-then-mondays_to-at
 returns-then-mondays_to-at c = let x = c.args in
-    no_value ∙ ap checked_if (sym (next_end x.a x.v (from_to (goal.at.returns-then-mondays_to-at c).Else-at-mondays_to)
+    no_value ∙ ap checked_if (sym (next_end x.d.axis x.v (from_to (goal.at.returns-then-mondays_to-at c).Else-at-mondays_to)
     (omega (
       arith,
       c.if-mondays_to-at.true,
@@ -101,7 +102,7 @@ returns-then-mondays_to-at c = let x = c.args in
 
 -- ---- the next Monday
 few : (c : After-mondays_to-at) → c.mondays_to-at.result ≤ 3652059
-few c = omega (arith, at_is c, position_most c.args.a c.requires.0 c.args.v c.requires.1)
+few c = omega (arith, at_is c, position_most c.args.d.axis c.args.d.dated c.args.v c.requires.0)
 
 pub overflow_mul-at : goal.overflow_mul-at
 overflow_mul-at c = omega (arith, few (goal.at.overflow_mul-at c).After-mondays_to-at)
@@ -111,24 +112,24 @@ overflow_add-at c = omega (arith, few (goal.at.overflow_add-at c).After-mondays_
 
 -- the value of the next index
 next : (c : After-at_midnight) → checked_if (Some (midnight (pos (7 * c.mondays_to-at.result + 1))))
-    ≡ checked_if (next_in c.args.a c.args.v)
+    ≡ checked_if (next_in c.args.d.axis c.args.v)
 next c = let x = c.args in
-    let i = position x.a x.v - origin x.a + 1 in
-    let h = pos_part x.a.start.head in
+    let i = position x.d.axis x.v - origin x.d.axis + 1 in
+    let h = pos_part x.d.axis.start.head in
     let place : 7 * c.mondays_to-at.result + 1 ≡ monday h + 7 * i =
     omega (
       arith,
       at_is (goal.at.After-at_midnight c).After-mondays_to-at,
       from_to (goal.at.After-at_midnight c).Else-at-mondays_to,
-      origin_weeks x.a c.requires.2 c.requires.3 c.requires.4,
+      weeks_origin x.d.axis c.requires.1,
       mondays_to_law h,
-      (starts x.a c.requires.0).head_least,
-      monday_is h (starts x.a c.requires.0).head_least,
+      (starts x.d.axis c.args.d.dated).head_least,
+      monday_is h (starts x.d.axis c.args.d.dated).head_least,
     ) in
     ap checked_if
     (ap (λ (k : ℕ). Some (midnight (pos k))) place
-    ∙ ap Some (sym (value_weeks x.a i c.requires.2 c.requires.3 c.requires.4 ∙ week_later x.a i (λ z. omega arith)))
-    ∙ sym (next_inside x.a x.v (from_to (goal.at.After-at_midnight c).Else-at-mondays_to)
+    ∙ ap Some (sym (weeks_value x.d.axis c.requires.1 i ∙ week_later x.d.axis i (λ z. omega arith)))
+    ∙ sym (next_inside x.d.axis x.v (from_to (goal.at.After-at_midnight c).Else-at-mondays_to)
     (omega (
       arith,
       c.if-mondays_to-at.false,

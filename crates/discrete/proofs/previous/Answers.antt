@@ -1,30 +1,29 @@
 -- `discrete::previous` meets its contract. Assumes nothing.
 use borrow.Author.Rules.{rules}
 use mathlib.Core.Path.{◌≡◌, sym, ◌∙◌, ap}
-use mathlib.Core.Bool.{true}
-use Rattle.asking.specs.Asking.{passes}
-use Rattle.asking.proofs.Asked.{all_pass, passed}
+use Rattle.asking.proofs.Asked.{passed, refused}
 use Rattle.axis.specs.declared.Axis.{Axis}
 use Rattle.axis.specs.Axes.{closed}
 use Rattle.axis.specs.Questions.{checked_if}
 use Rattle.discrete.specs.Answers.{value_questions, previous_in, previous_answer}
-use Rattle.discrete.proofs.Answers.{value_asked}
+use Rattle.discrete.proofs.Answers.{axis_asked, value_asked}
 use Rattle.discrete.proofs.previous.Goals as goal
-use Rattle.discrete.proofs.previous.Goals.{In_ok-ask_value}
 
-pub returns-in_err-ask_value : goal.returns-in_err-ask_value
+pub returns-in_err-d : goal.returns-in_err-d
 unfolding previous_answer
-returns-in_err-ask_value c = search rules
-
-pass : (c : In_ok-ask_value) → passes (value_questions c.args.a c.args.v) ≡ true
-pass c = all_pass (value_questions c.args.a c.args.v) tt (sym c.ask_value.ensures ∙ c.in_ok-ask_value.was)
+returns-in_err-d c = let x = c.args in
+    let e = refused (value_questions x.a x.v) (closed x.a) (checked_if (previous_in (closed x.a) x.v)) c.in_err-d.field-0.0
+    (sym c.in_err-d.ensures) in
+    search rules
 
 pub previous_in-requires : goal.previous_in-requires
-previous_in-requires c =
-    rw c.closed.ensures (value_asked c.args.a c.args.v (pass (goal.at.previous_in-requires c).In_ok-ask_value))
+previous_in-requires c = let x = c.args in
+    let (pass, is) = axis_asked (value_questions x.a x.v) (closed x.a) c.in_ok-d.d.axis c.in_ok-d.ensures in
+    rw is (value_asked x.a x.v pass).1
 
 pub returns : goal.returns
 unfolding previous_answer
 returns c = let x = c.args in
-    c.previous_in.ensures ∙ ap (λ (b : Axis). checked_if (previous_in b x.v)) c.closed.ensures
-    ∙ passed (value_questions x.a x.v) (checked_if (previous_in (closed x.a) x.v)) (pass (goal.at.returns c).In_ok-ask_value)
+    let (pass, is) = axis_asked (value_questions x.a x.v) (closed x.a) c.in_ok-d.d.axis c.in_ok-d.ensures in
+    c.previous_in.ensures ∙ ap (λ (b : Axis). checked_if (previous_in b x.v)) is
+    ∙ passed (value_questions x.a x.v) (checked_if (previous_in (closed x.a) x.v)) pass

@@ -15,35 +15,33 @@ use Rattle.discrete.proofs.Answers.{previous_none, previous_is}
 use Rattle.discrete.proofs.previous_in.Goals as goal
 use Rattle.discrete.proofs.previous_in.Goals.{After-position_of-p, After-value_at}
 
-from_is : (c : After-position_of-p) → c.position_of-p.result.from ≡ origin c.args.a
+from_is : (c : After-position_of-p) → c.position_of-p.result.from ≡ origin c.args.d.axis
 from_is c = ap (λ (x : Position). x.from) c.position_of-p.ensures
 
-at_is : (c : After-position_of-p) → c.position_of-p.result.at ≡ position c.args.a c.args.v
+at_is : (c : After-position_of-p) → c.position_of-p.result.at ≡ position c.args.d.axis c.args.v
 at_is c = ap (λ (x : Position). x.at) c.position_of-p.ensures
 
 pub returns-then-p : goal.returns-then-p
 returns-then-p c = let x = c.args in
-    no_value ∙ ap checked_if (sym (previous_none x.a x.v (omega (
+    no_value ∙ ap checked_if (sym (previous_none x.d.axis x.v (omega (
       arith,
       from_is (goal.at.returns-then-p c).After-position_of-p,
       at_is (goal.at.returns-then-p c).After-position_of-p,
     ))))
 
 pub value_at-requires : goal.value_at-requires
-value_at-requires c = (
-  c.requires.0,
-  omega (
-    arith,
-    at_is (goal.at.value_at-requires c).After-position_of-p,
-    position_most c.args.a c.requires.0 c.args.v c.requires.1,
-  ),
-)
+value_at-requires c =
+    omega (
+      arith,
+      at_is (goal.at.value_at-requires c).After-position_of-p,
+      position_most c.args.d.axis c.args.d.dated c.args.v c.requires,
+    )
 
 before : (c : After-value_at) → let p = c.position_of-p.result in
-    checked_if (Some (value_at c.args.a (p.at - p.from - 1))) ≡ checked_if (previous_in c.args.a c.args.v)
+    checked_if (Some (value_at c.args.d.axis (p.at - p.from - 1))) ≡ checked_if (previous_in c.args.d.axis c.args.v)
 before c = let x = c.args in
-    ap checked_if (ap (λ (y : Position). Some (value_at x.a (y.at - y.from - 1))) c.position_of-p.ensures
-    ∙ sym (previous_is x.a x.v (omega (
+    ap checked_if (ap (λ (y : Position). Some (value_at x.d.axis (y.at - y.from - 1))) c.position_of-p.ensures
+    ∙ sym (previous_is x.d.axis x.v (omega (
       arith,
       from_is (goal.at.After-value_at c).After-position_of-p,
       at_is (goal.at.After-value_at c).After-position_of-p,
@@ -51,11 +49,11 @@ before c = let x = c.args in
 
 pub returns-in_err-value_at : goal.returns-in_err-value_at
 returns-in_err-value_at c = let p = c.position_of-p.result in
-    let e = checked_refused (value_at c.args.a (p.at - p.from - 1)) c.in_err-value_at.field-0.0 (sym c.in_err-value_at.ensures)
+    let e = checked_refused (value_at c.args.d.axis (p.at - p.from - 1)) c.in_err-value_at.field-0.0 (sym c.in_err-value_at.ensures)
     ∙ before (goal.at.returns-in_err-value_at c).After-value_at in
     search rules
 
 pub returns : goal.returns
 returns c = let p = c.position_of-p.result in
-    checked_some (value_at c.args.a (p.at - p.from - 1)) c.in_ok-value_at.field-0 (sym c.in_ok-value_at.ensures)
+    checked_some (value_at c.args.d.axis (p.at - p.from - 1)) c.in_ok-value_at.field-0 (sym c.in_ok-value_at.ensures)
     ∙ before (goal.at.returns c).After-value_at

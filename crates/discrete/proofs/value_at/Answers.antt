@@ -11,27 +11,27 @@ use Rattle.discrete.proofs.value_at.Goals as goal
 
 pub returns-in-Month : goal.returns-in-Month
 returns-in-Month c = let x = c.args in
-    c.month_at.ensures ∙ ap checked (sym (value_months x.a x.i (in_months x.a c.in-Month.is)))
+    c.month_at.ensures ∙ ap checked (sym (value_months x.d.axis x.i (in_months x.d.axis c.in-Month.is)))
 
 pub returns-in-Year : goal.returns-in-Year
 returns-in-Year c = let x = c.args in
-    let (m, y) = in_years x.a c.in-Year.is in
-    c.year_at.ensures ∙ ap checked (sym (value_years x.a x.i m y))
+    let (m, y) = in_years x.d.axis c.in-Year.is in
+    c.year_at.ensures ∙ ap checked (sym (value_years x.d.axis x.i m y))
 
 pub returns-in-Week : goal.returns-in-Week
 returns-in-Week c = let x = c.args in
-    let (m, y, w) = in_weeks x.a c.in-Week.is in
-    c.week_at.ensures ∙ ap checked (sym (value_weeks x.a x.i m y w))
+    let (m, y, w) = in_weeks x.d.axis c.in-Week.is in
+    c.week_at.ensures ∙ ap checked (sym (value_weeks x.d.axis x.i m y w))
 
 pub day_on-requires : goal.day_on-requires
-day_on-requires c = is_day_law c.args.a.start (starts c.args.a c.requires.0)
+day_on-requires c = is_day_law c.args.d.axis.start (starts c.args.d.axis c.args.d.dated)
 
 pub at_midnight-requires : goal.at_midnight-requires
-at_midnight-requires c = omega (arith, c.day_on.ensures, (starts c.args.a c.requires.0).head_least)
+at_midnight-requires c = omega (arith, c.day_on.ensures, (starts c.args.d.axis c.args.d.dated).head_least)
 
 pub returns-in-Date : goal.returns-in-Date
 returns-in-Date c = let x = c.args in
-    let (m, y, w) = in_days x.a c.in-Date.is in
+    let (m, y, w) = in_days x.d.axis c.in-Date.is in
     c.at_midnight.ensures
     ∙ ap (λ (k : ℕ). checked (midnight (pos (k + x.i)))) c.day_on.ensures
-    ∙ ap checked (sym (value_days x.a x.i m y w))
+    ∙ ap checked (sym (value_days x.d.axis x.i m y w))

@@ -7,7 +7,7 @@ use Rattle.counting.proofs.Counting.{first_near}
 use Rattle.discrete.proofs.year_at.Goals as goal
 use Rattle.discrete.proofs.year_at.Goals.{After-first_date-first}
 
-year_is : (c : After-first_date-first) → c.first_date-first.result.year ≡ (first_date c.args.a).year
+year_is : (c : After-first_date-first) → c.first_date-first.result.year ≡ (first_date c.args.d.axis).year
 year_is c = ap (λ (t : Date). t.year) c.first_date-first.ensures
 
 pub overflow_add-first : goal.overflow_add-first
@@ -15,16 +15,14 @@ overflow_add-first c =
     omega (
       arith,
       year_is (goal.at.overflow_add-first c).After-first_date-first,
-      (first_near c.args.a c.requires.0).year_most,
-      c.requires.1,
+      (first_near c.args.d.axis c.args.d.dated).year_most,
+      c.requires,
     )
 
 pub january-requires : goal.january-requires
-january-requires c = (
-  c.requires.0,
-  omega (
-    arith,
-    year_is (goal.at.january-requires c).After-first_date-first,
-    (first_near c.args.a c.requires.0).year_least,
-  ),
-)
+january-requires c =
+    omega (
+      arith,
+      year_is (goal.at.january-requires c).After-first_date-first,
+      (first_near c.args.d.axis c.args.d.dated).year_least,
+    )

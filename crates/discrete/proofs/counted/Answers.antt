@@ -1,0 +1,23 @@
+-- `discrete::counted` meets its contract. Assumes nothing.
+use mathlib.Core.Path.{◌≡◌, sym, ◌∙◌, ap}
+use mathlib.Core.Bool.{true}
+use Rattle.std.specs.Prelude.{Ok}
+use Rattle.asking.specs.Asking.{passes}
+use Rattle.asking.proofs.Asked.{all_pass, passed}
+use Rattle.axis.specs.Axes.{closed}
+use Rattle.discrete.specs.Answers.{size_questions}
+use Rattle.discrete.proofs.Answers.{counted}
+use Rattle.discrete.proofs.counted.Goals as goal
+use Rattle.discrete.proofs.counted.Goals.{In_ok-ask_size}
+
+pass : (c : In_ok-ask_size) → passes (size_questions c.args.a) ≡ true
+pass c = all_pass (size_questions c.args.a) tt (sym c.ask_size.ensures ∙ c.in_ok-ask_size.was)
+
+pub invariant_of-result : goal.invariant_of-result
+invariant_of-result c = record {
+  dated = rw c.closed.ensures (counted c.args.a (pass (goal.at.invariant_of-result c).In_ok-ask_size));
+}
+
+pub returns : goal.returns
+returns c = let a = c.args.a in
+    ap Ok c.closed.ensures ∙ passed (size_questions a) (Ok (closed a)) (pass (goal.at.returns c).In_ok-ask_size)
