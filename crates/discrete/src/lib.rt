@@ -259,18 +259,11 @@ fn value_under(a: Axis, l: Limits, p: i64) -> Result<Value, Refusal>
     }
 }
 
-// The questions, one line for each.
-pub fn ask_size(a: Axis) -> Result<(), Refusal>
-    ensures { result ≡ asked (size_questions a) (Ok tt) }
-{
-    axis::ask_plain(a, axis::has_index(a))
-}
-
-// The axis by which an axis counts.
+// The axis by which an axis counts, where its questions pass.
 pub fn counted(a: Axis) -> Result<DateAxis, Refusal>
     ensures { axis_in result ≡ asked (size_questions a) (Ok (closed a)) }
 {
-    ask_size(a)?;
+    axis::ask_plain(a, axis::has_index(a))?;
     Ok(DateAxis {
         axis: axis::closed(a),
     })

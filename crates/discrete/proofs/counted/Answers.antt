@@ -5,19 +5,25 @@ use Rattle.std.specs.Prelude.{Ok}
 use Rattle.asking.specs.Asking.{passes}
 use Rattle.asking.proofs.Asked.{all_pass, passed}
 use Rattle.axis.specs.Axes.{closed}
+use Rattle.axis.specs.Questions.{plain_questions}
+use Rattle.counting.proofs.Counting.{index_dated}
 use Rattle.discrete.specs.Answers.{size_questions}
 use Rattle.discrete.proofs.Answers.{counted}
 use Rattle.discrete.proofs.counted.Goals as goal
-use Rattle.discrete.proofs.counted.Goals.{In_ok-ask_size}
+use Rattle.discrete.proofs.counted.Goals.{In_ok-ask_plain}
 
-pass : (c : In_ok-ask_size) → passes (size_questions c.args.a) ≡ true
-pass c = all_pass (size_questions c.args.a) tt (sym c.ask_size.ensures ∙ c.in_ok-ask_size.was)
+pub ask_plain-requires : goal.ask_plain-requires
+ask_plain-requires c t = index_dated c.args.a (sym c.has_index.ensures ∙ t)
+
+pass : (c : In_ok-ask_plain) → passes (size_questions c.args.a) ≡ true
+pass c = rw c.has_index.ensures at
+    (all_pass (plain_questions c.has_index.result c.args.a) tt (sym c.ask_plain.ensures ∙ c.in_ok-ask_plain.was))
 
 pub invariant_of-result : goal.invariant_of-result
 invariant_of-result c = record {
-  dated = rw c.closed.ensures (counted c.args.a (pass (goal.at.invariant_of-result c).In_ok-ask_size));
+  dated = rw c.closed.ensures (counted c.args.a (pass (goal.at.invariant_of-result c).In_ok-ask_plain));
 }
 
 pub returns : goal.returns
 returns c = let a = c.args.a in
-    ap Ok c.closed.ensures ∙ passed (size_questions a) (Ok (closed a)) (pass (goal.at.returns c).In_ok-ask_size)
+    ap Ok c.closed.ensures ∙ passed (size_questions a) (Ok (closed a)) (pass (goal.at.returns c).In_ok-ask_plain)

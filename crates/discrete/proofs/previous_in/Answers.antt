@@ -49,7 +49,8 @@ before c = let x = c.args in
 
 pub returns-in_err-value_at : goal.returns-in_err-value_at
 returns-in_err-value_at c = let p = c.position_of-p.result in
-    let e = checked_refused (value_at c.args.d.axis (p.at - p.from - 1)) c.in_err-value_at.field-0.0 (sym c.in_err-value_at.ensures)
+    let e = checked_refused (value_at c.args.d.axis (p.at - p.from - 1)) c.in_err-value_at.field-0.0
+    (sym c.in_err-value_at.ensures)
     ∙ before (goal.at.returns-in_err-value_at c).After-value_at in
     search rules
 
