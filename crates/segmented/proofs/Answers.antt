@@ -15,7 +15,7 @@ use Rattle.std.specs.Prelude.{⊤, Option, Some, None, Result, Ok, Err}
 use Rattle.asking.specs.declared.Refusal.{Refusal}
 use Rattle.asking.specs.declared.Refusal.TheVariants as refusal
 use Rattle.asking.specs.Asking.{Question, ask, asked, passes}
-use Rattle.asking.proofs.Asked.{fewer, answered_ok, asked_append, passed, refused}
+use Rattle.asking.proofs.Asked.{fewer, answered_ok, asked_append, passed, passed_first, refused, refused_first}
 use Rattle.laws.specs.Numbers.{within, is_number, pos_part}
 use Rattle.laws.proofs.Signed.{same, one_is_zero, equal_true}
 use Rattle.laws.proofs.Tests.{both_true, is_true}
@@ -38,7 +38,8 @@ use Rattle.segmented.specs.declared.SegmentValue.TheVariants.{Exact, CenterOf, L
 use Rattle.segmented.specs.declared.Segment.{Segment}
 use Rattle.segmented.specs.Segments.{head_tail, SegmentOn, segment_on, segment_of, segments, segment_mappable}
 use Rattle.segmented.specs.Segments.{Worked, segment_worked, pixel_checked}
-use Rattle.segmented.specs.Answers.{segment_at, segment_checked, segment_value_questions, segment_map_answer}
+use Rattle.segmented.specs.Answers.{segment_at, segment_checked, between_questions, segment_value_questions}
+use Rattle.segmented.specs.Answers.{segment_map_answer}
 use Rattle.segmented.specs.Answers.{segment_questions, segment_size_answer, segment_index_in, segment_index_answer}
 
 -- a row that refuses does not pass
@@ -154,6 +155,13 @@ module _ (a : Axis) (s : Segment) where
             ]
           ])
 
+-- the segment value that a row lets be answered
+pub segment_asked : (row : List Question) (w v : SegmentValue) → Ok v ≡ asked row (Ok w) → (passes row ≡ true) × (v ≡ w)
+segment_asked row w v e =
+    let (r, f) = answered_ok row (Ok w) v (sym e) in
+    let z : v ≡ w = cc in
+    (r, z)
+
 -- on the axis by which it counts
 pub on_closed : (a : Axis) (v : SegmentValue) → SegmentOn a v → SegmentOn (closed a) v
 on_closed a (Exact v) o = value_on_law a v ∙ o
@@ -187,13 +195,23 @@ module _ (a : Axis) (l : Limits) (s : Segment) where
   in_parts = asked_append (segment_value_questions a l s)
       (ask refusal.Length (segment_mappable a (segment_of s)) ∷ (ask refusal.Range found.fits ∷ [])) (Ok found.hairline)
 
-  pub map_refused : {B : Type 0} (b : B) (q : Refusal) → asked (segment_value_questions a l s) (Ok b) ≡ Err q →
+  -- a refusal of the axis, and one of the questions after it
+  pub axis_refused : {B : Type 0} (b : B) (q : Refusal) → asked (size_questions a) (Ok b) ≡ Err q →
       Err q ≡ segment_map_answer a l s
-  map_refused b q e = refused (segment_value_questions a l s) b (rest (segment_mappable a (segment_of s))) q e ∙ sym in_parts
+  axis_refused b q e =
+      refused_first (size_questions a) (between_questions a l s) b (rest (segment_mappable a (segment_of s))) q e ∙ sym in_parts
 
-  pub map_rest : passes (segment_value_questions a l s) ≡ true →
+  pub between_refused : passes (size_questions a) ≡ true → {B : Type 0} (b : B) (q : Refusal) →
+      asked (between_questions a l s) (Ok b) ≡ Err q → Err q ≡ segment_map_answer a l s
+  between_refused z b q e = let answer = rest (segment_mappable a (segment_of s)) in
+      refused (between_questions a l s) b answer q e
+      ∙ passed_first (size_questions a) (between_questions a l s) answer z ∙ sym in_parts
+
+  pub map_rest : passes (size_questions a) ≡ true → passes (between_questions a l s) ≡ true →
       rest (segment_mappable a (segment_of s)) ≡ segment_map_answer a l s
-  map_rest e = passed (segment_value_questions a l s) (rest (segment_mappable a (segment_of s))) e ∙ sym in_parts
+  map_rest z e = let answer = rest (segment_mappable a (segment_of s)) in
+      passed (between_questions a l s) answer e
+      ∙ passed_first (size_questions a) (between_questions a l s) answer z ∙ sym in_parts
 
 -- ---- a size and an index have a bound
 pub segment_size_range : (a : Axis) (n : ℕ) → segment_size_answer a ≡ Ok n → n ≤ 3652060

@@ -24,10 +24,13 @@ use Rattle.segmented.specs.Segments.{segment_on, segment_of, segments, segment_m
 abbrev pub segment_questions : Axis → Segment → List Question
 segment_questions a s = size_questions a ++ (ask refusal.Value (segment_on a s) ∷ [])
 
--- of a segment value between two limits, before the size is asked for
+-- of a segment value between two limits
+abbrev pub between_questions : Axis → Limits → Segment → List Question
+between_questions a l s = ask refusal.Limits (pixels l) ∷ (ask refusal.Value (segment_on a s) ∷ [])
+
+-- of all three, before the size is asked for
 abbrev pub segment_value_questions : Axis → Limits → Segment → List Question
-segment_value_questions a l s =
-    plain_questions (has_index a) a ++ (ask refusal.Limits (pixels l) ∷ (ask refusal.Value (segment_on a s) ∷ []))
+segment_value_questions a l s = plain_questions (has_index a) a ++ between_questions a l s
 
 -- and then the size, and what was worked out
 abbrev pub segment_map_questions : Axis → Limits → Segment → List Question

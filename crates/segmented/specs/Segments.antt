@@ -17,10 +17,10 @@ use Rattle.values.specs.declared.Value.{Value}
 use Rattle.axis.specs.declared.Axis.{Axis}
 use Rattle.axis.specs.declared.Limits.{Limits}
 use Rattle.axis.specs.Axes.{closed}
-use Rattle.axis.specs.Questions.{ends, value_on, mappable, fits_i32}
+use Rattle.axis.specs.Questions.{value_on, mappable, fits_i32}
 use Rattle.mapping.specs.declared.Hairline.{Hairline}
 use Rattle.mapping.specs.Mapping.{hairline}
-use Rattle.counting.specs.Counting.{Dated, size_of}
+use Rattle.counting.specs.Counting.{size_of}
 use Rattle.discrete.specs.Answers.{next_in}
 use Rattle.segmented.specs.declared.Segment.{Segment}
 use Rattle.segmented.specs.declared.SegmentValue.{SegmentValue}
@@ -56,11 +56,6 @@ unfoldable pub segment_mappable : Axis → SegmentValue → Bool
 segment_mappable a (Exact v) = ltb 0 (segments a) && mappable a v
 segment_mappable a (CenterOf v) = ltb 0 (segments a) && mappable a v
 segment_mappable a Last = ltb 0 (segments a)
-
--- an axis whose values are mapped, and by which its segments are counted
-pub record Countable (a : Axis) : Type 0 where
-  pub real : ends a ≡ true
-  pub counted : Dated (closed a)
 
 -- a size that has room for a segment
 pub record SomeSize (size : ℕ) : Type 0 where

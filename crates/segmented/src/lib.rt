@@ -2,22 +2,24 @@
 // an exact value, of a centre and of the last end; sizes, indices and ticks.
 #![tactic(auto)]
 
-ghost use Rattle.std.specs.Prelude.{◌≡◌, true, cond, ◌≤◌, length, Ok, Some, None};
-ghost use Rattle.asking.specs.Asking.{asked};
+ghost use Rattle.std.specs.Prelude.{◌≡◌, true, cond, ◌≤◌, length, Ok, Some, None, [], ◌∷◌};
+ghost use Rattle.asking.specs.Asking.{ask, asked};
+ghost use Rattle.asking.specs.declared.Refusal.TheVariants as refusal;
 ghost use Rattle.calendar.specs.Questions.{last_day};
+ghost use Rattle.axis.specs.Axes.{closed};
 ghost use Rattle.axis.specs.Questions.{ends, pixels, value_on};
 ghost use Rattle.mapping.specs.Mapping.{scale_of};
-ghost use Rattle.counting.specs.Counting.{Dated};
 ghost use Rattle.segmented.specs.Segments.{segment_on, SegmentOn, segment_of, segments, segment_mappable, SomeSize};
-ghost use Rattle.segmented.specs.Segments.{Countable, margin_of, inner, half, even};
+ghost use Rattle.segmented.specs.Segments.{margin_of, inner, half, even};
 ghost use Rattle.segmented.specs.Segments.{alone, between, beside, segment_worked, pixel_checked};
-ghost use Rattle.segmented.specs.Answers.{segment_questions, segment_value_questions, segment_kind_questions};
+ghost use Rattle.segmented.specs.Answers.{between_questions, segment_kind_questions};
 ghost use Rattle.segmented.specs.Answers.{segment_map_answer, segment_size_answer, segment_index_in, segment_index_answer};
 ghost use Rattle.segmented.specs.Answers.{segment_at, segment_checked, segment_from_answer};
 ghost use Rattle.segmented.specs.Answers.{segment_ticks_answer, segment_ticks_written};
 
 use asking::{Refusal, ask};
 use axis::{Axis, Hint, Limits};
+use counting::DateAxis;
 use mapping::{Hairline, Scale};
 use values::Value;
 
@@ -34,6 +36,21 @@ pub enum SegmentValue {
     Exact(Value),
     CenterOf(Value),
     Last,
+}
+
+// The segments of an axis between two limits. Values are mapped to the axis' end as written, and its segments are counted by
+// the axis by which it counts.
+#[derive(Clone, Copy)]
+struct Segments {
+    axis: Axis,
+    dates: DateAxis,
+    size: u64,
+    limits: Limits,
+    ghost real: { ends axis ≡ true },
+    ghost counted: { dates.axis ≡ closed axis },
+    ghost sized: { size ≡ segments axis },
+    ghost some: { SomeSize size },
+    ghost page: { pixels limits ≡ true },
 }
 
 // The segment value of three numbers; none where they are of no case, or their value none of the kind. The numbers beside the
@@ -53,26 +70,6 @@ fn segment_of(a: Axis, s: Segment) -> Option<SegmentValue>
     }
 }
 
-// (width as f32 / size as f32).round() as i32.
-fn margin_of(size: u64, l: Limits) -> i64
-    requires { SomeSize size × (pixels l ≡ true) }
-    ensures { result ≡ margin_of size l }
-{
-    let width = l.high - l.low;
-    floats::round_to_i32(width as f32 / size as f32) as i64
-}
-
-// Values are mapped between the low limit and the high one less a segment.
-fn inner(size: u64, l: Limits) -> Limits
-    requires { SomeSize size × (pixels l ≡ true) }
-    ensures { result ≡ inner size l }
-{
-    Limits {
-        low: l.low,
-        high: l.high - margin_of(size, l),
-    }
-}
-
 // A half, cut toward zero.
 fn half(z: i64) -> i64
     ensures { result ≡ half z }
@@ -87,11 +84,10 @@ fn even(z: i64) -> bool
     z % 2 == 0
 }
 
-// The segment value of any numbers, and question 8 of them.
+// Question 8 of a segment value.
 fn ask_segment(a: Axis, s: Segment) -> Result<SegmentValue, Refusal>
-    ensures { result ≡ asked (segment_questions a s) (Ok (segment_of s)) }
+    ensures { result ≡ asked (ask refusal.Value (segment_on a s) ∷ []) (Ok (segment_of s)) }
 {
-    discrete::ask_size(a)?;
     segment_of(a, s).ok_or(Refusal::Value)
 }
 
@@ -102,13 +98,13 @@ pub fn size(a: Axis) -> Result<u64, Refusal>
     Ok(discrete::size(a)? + 1)
 }
 
-fn index_in(a: Axis, v: SegmentValue) -> Option<u64>
-    requires { Dated a × SegmentOn a v }
-    ensures { result ≡ segment_index_in a v }
+fn index_in(d: DateAxis, v: SegmentValue) -> Option<u64>
+    requires { SegmentOn d.axis v }
+    ensures { result ≡ segment_index_in d.axis v }
 {
     match v {
-        SegmentValue::Exact(w) | SegmentValue::CenterOf(w) => discrete::index_in(a, w),
-        SegmentValue::Last => Some(counting::size_of(a)),
+        SegmentValue::Exact(w) | SegmentValue::CenterOf(w) => discrete::index_in(d, w),
+        SegmentValue::Last => Some(d.size_of()),
     }
 }
 
@@ -116,18 +112,19 @@ fn index_in(a: Axis, v: SegmentValue) -> Option<u64>
 pub fn index_of(a: Axis, s: Segment) -> Result<Option<u64>, Refusal>
     ensures { result ≡ segment_index_answer a s }
 {
+    let d = discrete::counted(a)?;
     let v = ask_segment(a, s)?;
-    Ok(index_in(axis::closed(a), v))
+    Ok(index_in(d, v))
 }
 
 // Below the size a value, at the size the last end, beyond it none.
-fn segment_at(a: Axis, i: u64) -> Result<Option<SegmentValue>, Refusal>
-    requires { Dated a × (i ≤ last_day) }
-    ensures { result ≡ segment_checked (segment_at a i) }
+fn segment_at(d: DateAxis, i: u64) -> Result<Option<SegmentValue>, Refusal>
+    requires { i ≤ last_day }
+    ensures { result ≡ segment_checked (segment_at d.axis i) }
 {
-    let size = counting::size_of(a);
+    let size = d.size_of();
     if i < size {
-        let v = discrete::value_at(a, i)?;
+        let v = discrete::value_at(d, i)?;
         return Ok(Some(SegmentValue::Exact(v)));
     }
     Ok((i == size).then_some(SegmentValue::Last))
@@ -137,8 +134,9 @@ fn segment_at(a: Axis, i: u64) -> Result<Option<SegmentValue>, Refusal>
 pub fn from_index(a: Axis, i: i64) -> Result<Option<SegmentValue>, Refusal>
     ensures { result ≡ segment_from_answer a i }
 {
-    let k = discrete::ask_index(a, i)?;
-    segment_at(axis::closed(a), k)
+    let d = discrete::counted(a)?;
+    let k = discrete::ask_index(i)?;
+    segment_at(d, k)
 }
 
 // Question 9: the size, and then the question of mapping; the last is asked only for the size.
@@ -188,60 +186,84 @@ fn beside(left: Hairline, margin: i64) -> Result<Hairline, Refusal>
     })
 }
 
-// The scale of all values of a segmented axis.
-fn inner_scale(a: Axis, size: u64, l: Limits) -> Scale
-    requires { (ends a ≡ true) × (pixels l ≡ true) × SomeSize size }
-    ensures { result ≡ scale_of a (inner size l) }
-{
-    mapping::scale_of(a, inner(size, l))
-}
+impl Segments {
+    // (width as f32 / size as f32).round() as i32.
+    fn margin_of(self) -> i64
+        ensures { result ≡ margin_of self.size self.limits }
+    {
+        let width = self.limits.high - self.limits.low;
+        floats::round_to_i32(width as f32 / self.size as f32) as i64
+    }
 
-// The centre of a value's segment, which ends where the next value stands. Both are mapped with one scale, to the end as
-// written.
-fn centre(a: Axis, size: u64, l: Limits, v: Value) -> Result<Hairline, Refusal>
-    requires { Countable a × (pixels l ≡ true) × SomeSize size × (value_on a v ≡ true) × (size ≡ segments a) }
-    ensures { result ≡ pixel_checked (segment_worked a l (SegmentValue.CenterOf v)) }
-{
-    let s = inner_scale(a, size, l);
-    let left = mapping::pixel_by(s, a, v);
-    match discrete::next_in(axis::closed(a), v)? {
-        Some(w) => between(left, mapping::pixel_by(s, a, w)),
-        None => beside(left, margin_of(size, l)),
+    // Values are mapped between the low limit and the high one less a segment.
+    fn inner(self) -> Limits
+        ensures { result ≡ inner self.size self.limits }
+    {
+        Limits {
+            low: self.limits.low,
+            high: self.limits.high - self.margin_of(),
+        }
+    }
+
+    // The scale of all values.
+    fn scale(self) -> Scale
+        ensures { result ≡ scale_of self.axis (inner self.size self.limits) }
+    {
+        mapping::scale_of(self.axis, self.inner())
+    }
+
+    // The centre of a value's segment, which ends where the next value stands. Both are mapped with one scale.
+    fn centre(self, v: Value) -> Result<Hairline, Refusal>
+        requires { value_on self.axis v ≡ true }
+        ensures { result ≡ pixel_checked (segment_worked self.axis self.limits (SegmentValue.CenterOf v)) }
+    {
+        let s = self.scale();
+        let left = mapping::pixel_by(s, self.axis, v);
+        match discrete::next_in(self.dates, v)? {
+            Some(w) => between(left, mapping::pixel_by(s, self.axis, w)),
+            None => beside(left, self.margin_of()),
+        }
+    }
+
+    fn segment_pixel(self, v: SegmentValue) -> Result<Hairline, Refusal>
+        requires { SegmentOn self.axis v }
+        ensures { result ≡ pixel_checked (segment_worked self.axis self.limits v) }
+    {
+        match v {
+            SegmentValue::Exact(w) => alone(mapping::pixel_by(self.scale(), self.axis, w)),
+            SegmentValue::CenterOf(w) => self.centre(w),
+            SegmentValue::Last => Ok(Hairline {
+                pixel: self.limits.high,
+                exact: true,
+                lost: false,
+            }),
+        }
     }
 }
 
-fn segment_pixel(a: Axis, size: u64, l: Limits, v: SegmentValue) -> Result<Hairline, Refusal>
-    requires { Countable a × (pixels l ≡ true) × SomeSize size × SegmentOn a v × (size ≡ segments a) }
-    ensures { result ≡ pixel_checked (segment_worked a l v) }
-{
-    match v {
-        SegmentValue::Exact(w) => alone(mapping::pixel_by(inner_scale(a, size, l), a, w)),
-        SegmentValue::CenterOf(w) => centre(a, size, l, w),
-        SegmentValue::Last => Ok(Hairline {
-            pixel: l.high,
-            exact: true,
-            lost: false,
-        }),
-    }
-}
-
-// The questions before the size is asked for, which is done only of real values.
+// The questions between those of the axis and the size's, which is asked for only of real values.
 fn ask_between(a: Axis, l: Limits, s: Segment) -> Result<SegmentValue, Refusal>
-    ensures { result ≡ asked (segment_value_questions a l s) (Ok (segment_of s)) }
+    ensures { result ≡ asked (between_questions a l s) (Ok (segment_of s)) }
 {
-    discrete::ask_size(a)?;
     ask(Refusal::Limits, axis::pixels(l))?;
-    segment_of(a, s).ok_or(Refusal::Value)
+    ask_segment(a, s)
 }
 
 // The pixel of any numbers.
 pub fn map(a: Axis, l: Limits, s: Segment) -> Result<Hairline, Refusal>
     ensures { result ≡ segment_map_answer a l s }
 {
+    let dates = discrete::counted(a)?;
     let v = ask_between(a, l, s)?;
-    let size = counting::size_of(axis::closed(a));
+    let size = dates.size_of();
     ask(Refusal::Length, segment_mappable(a, size, v))?;
-    segment_pixel(a, size, l, v)
+    let segments = Segments {
+        axis: a,
+        dates,
+        size,
+        limits: l,
+    };
+    segments.segment_pixel(v)
 }
 
 fn ask_kind(a: Axis) -> Result<(), Refusal>

@@ -8,10 +8,10 @@ use Rattle.segmented.proofs.index_in.Goals as goal
 pub returns-in-Exact : goal.returns-in-Exact
 unfolding segment_index_in
 returns-in-Exact c = c.index_in.ensures ∙ elim c.in-Exact.is [
-  | inl e ↦ ap (segment_index_in c.args.a) (sym e)
-  | inr e ↦ ap (segment_index_in c.args.a) (sym e)
+  | inl e ↦ ap (segment_index_in c.args.d.axis) (sym e)
+  | inr e ↦ ap (segment_index_in c.args.d.axis) (sym e)
 ]
 
 pub returns-in-Last : goal.returns-in-Last
 unfolding segment_index_in
-returns-in-Last c = ap Some c.size_of.ensures ∙ ap (segment_index_in c.args.a) (sym c.in-Last.is)
+returns-in-Last c = ap Some c.size_of.ensures ∙ ap (segment_index_in c.args.d.axis) (sym c.in-Last.is)

@@ -1,4 +1,4 @@
--- `segmented::segment_pixel` meets its contract. Assumes nothing.
+-- `segmented::Segments::segment_pixel` meets its contract. Assumes nothing.
 use borrow.Author.Rules.{rules}
 use mathlib.Core.Path.{sym, ◌∙◌, ap, subst}
 use mathlib.Core.Bool.{true, false}
@@ -15,34 +15,33 @@ use Rattle.mapping.proofs.Ranges.{limits_of_law}
 use Rattle.segmented.specs.declared.SegmentValue.{SegmentValue}
 use Rattle.segmented.specs.Segments.{SegmentOn, alone, inner, segment_worked, pixel_checked}
 use Rattle.segmented.proofs.Margins.{inner_for}
-use Rattle.segmented.proofs.segment_pixel.Goals as goal
-use Rattle.segmented.proofs.segment_pixel.Goals.{Start}
+use Rattle.segmented.proofs.Segments.segment_pixel.Goals as goal
+use Rattle.segmented.proofs.Segments.segment_pixel.Goals.{Start}
 
-high_fits : (s : Start) → SFits w64 s.args.l.high
+high_fits : (s : Start) → SFits w64 s.args.self.limits.high
 high_fits s = search rules
 
 pub pixel_by-requires : goal.pixel_by-requires
-pixel_by-requires c = (
-  inner_for c.args.a c.args.size c.args.l c.inner_scale.result c.requires.2 c.requires.1
-      c.inner_scale.ensures,
-  c.requires.0.real,
-  subst (λ (y : SegmentValue). SegmentOn c.args.a y) c.in-Exact.is c.requires.3,
+pixel_by-requires c = let x = c.args.self in (
+  inner_for x.axis x.size x.limits c.scale.result x.some x.page c.scale.ensures,
+  x.real,
+  subst (λ (y : SegmentValue). SegmentOn x.axis y) c.in-Exact.is c.requires,
 )
 
 pub returns-in-Exact : goal.returns-in-Exact
 unfolding segment_worked
-returns-in-Exact c = let x = c.args in
+returns-in-Exact c = let x = c.args.self in
     c.alone.ensures
     ∙ ap (λ (h : Hairline). pixel_checked (alone h))
     (c.pixel_by.ensures
-    ∙ ap (λ (y : Limits). hairline x.a y c.in-Exact.w)
-    (limits_of_law x.a (inner x.size x.l) c.inner_scale.result c.inner_scale.ensures
-    ∙ ap (λ (m : ℕ). inner m x.l) c.requires.4))
-    ∙ ap (λ (v : SegmentValue). pixel_checked (segment_worked x.a x.l v)) (sym c.in-Exact.is)
+    ∙ ap (λ (y : Limits). hairline x.axis y c.in-Exact.w)
+    (limits_of_law x.axis (inner x.size x.limits) c.scale.result c.scale.ensures
+    ∙ ap (λ (m : ℕ). inner m x.limits) c.args.self.sized))
+    ∙ ap (λ (v : SegmentValue). pixel_checked (segment_worked x.axis x.limits v)) (sym c.in-Exact.is)
 
 pub returns-in-Last : goal.returns-in-Last
 unfolding segment_worked
 returns-in-Last c =
     ap (λ (p : ℤ). Ok (record { pixel = p; exact = true; lost = false }))
     (to_z-of_z (high_fits (goal.at.returns-in-Last c).Start))
-    ∙ ap (λ (v : SegmentValue). pixel_checked (segment_worked c.args.a c.args.l v)) (sym c.in-Last.is)
+    ∙ ap (λ (v : SegmentValue). pixel_checked (segment_worked c.args.self.axis c.args.self.limits v)) (sym c.in-Last.is)
