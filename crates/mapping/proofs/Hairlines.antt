@@ -28,10 +28,9 @@ use Rattle.axis.proofs.Axes.{both_ends, with_value}
 use Rattle.axis.proofs.PixelRanges.{limits_are, between_few}
 use Rattle.mapping.specs.Position.{width}
 use Rattle.mapping.specs.declared.Span.{Span}
-use Rattle.mapping.specs.declared.Scale.{Scale}
 use Rattle.mapping.specs.declared.Ratio.{Ratio}
 use Rattle.mapping.specs.Hairlines.{on_pixel, in_nanoseconds, divides_nothing, exact_at, lost_at, hairline_at}
-use Rattle.mapping.specs.Mapping.{with_total, scale_of, limits_of, in_nanos, hairline_from}
+use Rattle.mapping.specs.Mapping.{with_total, ScaleFor, in_nanos, hairline_from}
 use Rattle.mapping.proofs.Ranges.{few}
 
 -- ---- nothing is lost in whole days
@@ -71,21 +70,16 @@ module _ (a : Axis) (l : Limits) (v : Value) (p : ℤ) where
   days_is f g = rw (f, g) refl
 
 -- ---- by a ready scale
-module _ (a : Axis) (s : Scale) (is : s ≡ scale_of a (limits_of s)) where
-  -- the span as the scale has it
-  span_is : s.span ≡ option_map with_total (nanoseconds_of (span_of a))
-  unfolding scale_of
-  span_is = ap (λ (x : Scale). x.span) is
-
-  pub span_none : s.span ≡ None → fits_i64 (span_of a) ≡ false
-  span_none f = by (nanoseconds_of (span_of a)) refl (sym span_is ∙ f)
+module _ {a : Axis} {l : Limits} {w : Float} {s : Option Span} (r : ScaleFor a l w s) where
+  pub span_none : s ≡ None → fits_i64 (span_of a) ≡ false
+  span_none f = by (nanoseconds_of (span_of a)) refl (sym r.spans ∙ f)
     where
       by : (n : Option ℤ) → n ≡ nanoseconds_of (span_of a) → option_map with_total n ≡ None → fits_i64 (span_of a) ≡ false
       by None e f = answer_none (span_of a) None e refl
       by (Some n) e f = absurd (let z : ⊥ = cc in z)
 
-  pub span_some : (t : Span) → s.span ≡ Some t → (fits_i64 (span_of a) ≡ true) × (t ≡ with_total (span_of a))
-  span_some t f = by (nanoseconds_of (span_of a)) refl (sym span_is ∙ f)
+  pub span_some : (t : Span) → s ≡ Some t → (fits_i64 (span_of a) ≡ true) × (t ≡ with_total (span_of a))
+  span_some t f = by (nanoseconds_of (span_of a)) refl (sym r.spans ∙ f)
     where
       by : (n : Option ℤ) → n ≡ nanoseconds_of (span_of a) → option_map with_total n ≡ Some t →
           (fits_i64 (span_of a) ≡ true) × (t ≡ with_total (span_of a))
@@ -95,15 +89,10 @@ module _ (a : Axis) (s : Scale) (is : s ≡ scale_of a (limits_of s)) where
           let z : with_total n ≡ t = cc in
           (k, sym z ∙ ap with_total m)
 
-  pub width_is : s.width ≡ of_int binary64 (width (limits_of s))
-  unfolding scale_of
-  width_is = ap (λ (x : Scale). x.width) is
-
--- ---- what is divided in nanoseconds, by a scale's span and an offset as the code has them
-pub nanos_are : (a : Axis) (s : Scale) → s ≡ scale_of a (limits_of s) → (v : Value) (o : ℤ) (t : Span) →
-    o ≡ offset_of a v → t ≡ with_total (span_of a) →
-    in_nanos s.width o t ≡ in_nanos (of_int binary64 (width (limits_of s))) (offset_of a v) (with_total (span_of a))
-nanos_are a s is v o t offset span = λ i. in_nanos (width_is a s is i) (offset i) (span i)
+  -- what is divided in nanoseconds, by the scale's span and an offset as the code has them
+  pub nanos_are : (v : Value) (o : ℤ) (t : Span) → o ≡ offset_of a v → t ≡ with_total (span_of a) →
+      in_nanos w o t ≡ in_nanos (of_int binary64 (width l)) (offset_of a v) (with_total (span_of a))
+  nanos_are v o t offset span = λ i. in_nanos (r.wide i) (offset i) (span i)
 
 -- ---- the hairline of what was divided
 module _ (a : Axis) (l : Limits) (v : Value) (x : Float) where

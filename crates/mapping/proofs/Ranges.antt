@@ -1,5 +1,5 @@
 -- A cut float is an i32, and fits with a pixel added; a width is a float exactly, and so are days. Assumes nothing.
-use mathlib.Core.Path.{◌≡◌, sym, ap, ◌∙◌}
+use mathlib.Core.Path.{◌≡◌}
 use mathlib.Core.Bool.{true}
 use Prim.Native.Nat.{◌+◌, ◌≤◌, ◌<◌, ◌^◌}
 use native.Mathlib.Nat.{lt_of_lt_of_le}
@@ -13,24 +13,12 @@ use mir.Val.{SFits}
 use Rattle.laws.specs.Numbers.{pos_part, neg_part}
 use Rattle.laws.proofs.Signed.{add, abs, fits}
 use Rattle.floats.proofs.Values.{in_float_law}
-use Rattle.axis.specs.declared.Axis.{Axis}
 use Rattle.axis.specs.declared.Limits.{Limits}
 use Rattle.axis.specs.Questions.{is_pixel, pixels}
 use Rattle.axis.proofs.Questions.{pixel_range}
 use Rattle.axis.proofs.PixelRanges.{limits_are, between_few}
 use Rattle.mapping.specs.Position.{width}
-use Rattle.mapping.specs.declared.Scale.{Scale}
-use Rattle.mapping.specs.Mapping.{scale_of, limits_of, ScaleFor}
 use Rattle.floats.specs.Rounding.{cut}
-
--- the scale of an axis between limits on the page, as the code has it
-module _ (a : Axis) (l : Limits) (s : Scale) (e : s ≡ scale_of a l) where
-  pub limits_of_law : limits_of s ≡ l
-  unfolding scale_of
-  limits_of_law = ap limits_of e
-
-  pub scale_for : pixels l ≡ true → ScaleFor a s
-  scale_for page = record { scale = e ∙ ap (scale_of a) (sym limits_of_law); on_page = ap pixels limits_of_law ∙ page }
 
 pub wider : (z : ℤ) → SFits w32 z → SFits w64 z
 wider z h = record { sfits = lt_of_lt_of_le h.sfits (lit≤ tt) }

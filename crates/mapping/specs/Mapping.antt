@@ -17,9 +17,8 @@ use Rattle.values.specs.Differences.{fits_i64, nanoseconds_of, whole_days}
 use Rattle.axis.specs.declared.Axis.{Axis}
 use Rattle.axis.specs.declared.Limits.{Limits}
 use Rattle.axis.specs.Axes.{span_of, offset_of}
-use Rattle.axis.specs.Questions.{pixels, value_on, mappable, fits_i32, axis_questions}
+use Rattle.axis.specs.Questions.{ends, pixels, value_on, mappable, fits_i32, axis_questions}
 use Rattle.mapping.specs.declared.Span.{Span}
-use Rattle.mapping.specs.declared.Scale.{Scale}
 use Rattle.mapping.specs.declared.Hairline.{Hairline}
 use Rattle.mapping.specs.declared.Ratio.{Ratio}
 use Rattle.mapping.specs.declared.Divided.{Divided}
@@ -95,28 +94,13 @@ mapped_by a l v = asked (pixel_questions a v (placed a l v)) (Ok (hairline a l v
 abbrev pub with_total : ℤ → Span
 with_total n = record { nanoseconds = n; total = of_int binary64 n }
 
-unfoldable pub scale_of : Axis → Limits → Scale
-unfolding nanoseconds_of
-scale_of a l =
-    record {
-      low = l.low;
-      high = l.high;
-      width = of_int binary64 (width l);
-      span = option_map with_total (nanoseconds_of (span_of a));
-    }
-
--- the limits of a scale
-abbrev pub limits_of : Scale → Limits
-limits_of s = record { low = s.low; high = s.high }
-
--- what the sum with the low limit and the products with W want
-pub record OnPage (s : Scale) : Type 0 where
-  pub on_page : pixels (limits_of s) ≡ true
-
--- a ready scale of an axis
-pub record ScaleFor (a : Axis) (s : Scale) : Type 0 where
-  pub scale : s ≡ scale_of a (limits_of s)
-  pub on_page : pixels (limits_of s) ≡ true
+-- a ready scale of an axis and its limits: the width, and the span, where it fits nanoseconds. The ends are real, and the limits
+-- on the page, as the sum with the low limit and the products with W want.
+pub record ScaleFor (a : Axis) (l : Limits) (w : Float) (s : Option Span) : Type 0 where
+  pub real : ends a ≡ true
+  pub on_page : pixels l ≡ true
+  pub wide : w ≡ of_int binary64 (width l)
+  pub spans : s ≡ option_map with_total (nanoseconds_of (span_of a))
 
 -- what is divided in nanoseconds
 abbrev pub in_nanos : Float → ℤ → Span → Divided
@@ -148,6 +132,6 @@ lost_by (Some r) = lost_in r.offset || lost_in r.span
 abbrev pub hairline_from : Limits → Divided → Hairline
 hairline_from l q = let p = l.low +ℤ cut q.x in record { pixel = p; exact = exact_by l p q.ratio; lost = lost_by q.ratio }
 
--- what was asked once, and the scale where nothing was refused
-abbrev pub ReadyFor : Axis → Limits → Result Scale Refusal → Type 0
-ReadyFor a l m = m ≡ asked (scale_questions a l) (Ok (scale_of a l))
+-- what was asked once, of an axis and limits, and both where nothing was refused
+abbrev pub ReadyFor : Axis → Limits → Result (Axis × Limits) Refusal → Type 0
+ReadyFor a l m = m ≡ asked (scale_questions a l) (Ok (a, l))

@@ -3,13 +3,15 @@
 #![tactic(auto)]
 
 ghost use Rattle.std.specs.Prelude.{◌≡◌, true, false, Ok};
-ghost use Rattle.asking.specs.Asking.{asked};
+ghost use Rattle.asking.specs.Asking.{asked, and_then};
 ghost use Rattle.values.specs.Values.{is_duration};
 ghost use Rattle.floats.specs.Rounding.{quotient_of};
+ghost use Rattle.axis.specs.declared.Axis.{Axis};
+ghost use Rattle.axis.specs.declared.Limits.{Limits};
 ghost use Rattle.axis.specs.Questions.{ends, pixels, value_on};
 ghost use Rattle.mapping.specs.Hairlines.{hairline_at};
-ghost use Rattle.mapping.specs.Mapping.{map_coord, map_duration, hairline, with_total, scale_of, limits_of};
-ghost use Rattle.mapping.specs.Mapping.{OnPage, ScaleFor, in_nanos, nudged, in_days, hairline_from};
+ghost use Rattle.mapping.specs.Mapping.{map_coord, map_duration, hairline, with_total};
+ghost use Rattle.mapping.specs.Mapping.{ScaleFor, in_nanos, nudged, in_days, hairline_from};
 ghost use Rattle.mapping.specs.Mapping.{scale_questions, map_value_questions, mapped, mapped_by, ReadyFor};
 
 use asking::{Refusal, ask};
@@ -23,14 +25,15 @@ pub struct Span {
     pub total: f64,
 }
 
-// What all values on an axis share, worked out once for an axis and its limits: these, the width as f64, and the span, where it
-// fits nanoseconds.
+// What all values on an axis share, worked out once for an axis of question 3 and its limits: these, the width as f64, and the
+// span, where it fits nanoseconds.
 #[derive(Clone, Copy)]
 pub struct Scale {
-    pub low: i64,
-    pub high: i64,
+    pub axis: Axis,
+    pub limits: Limits,
     pub width: f64,
     pub span: Option<Span>,
+    ghost ready: { ScaleFor axis limits width span },
 }
 
 // A pixel, whether it is the exact position, and whether an offset or a span that was divided had lost something. The flags
@@ -70,12 +73,13 @@ fn with_total(n: i64) -> Span
 // The width is below 2^53, so that `as` loses nothing of it.
 pub fn scale_of(a: Axis, l: Limits) -> Scale
     requires { (ends a ≡ true) × (pixels l ≡ true) }
-    ensures { result ≡ scale_of a l }
+    ensures axis { result.axis ≡ a }
+    ensures limits { result.limits ≡ l }
 {
     let width = l.high - l.low;
     Scale {
-        low: l.low,
-        high: l.high,
+        axis: a,
+        limits: l,
         width: width as f64,
         span: axis::span(a).map(with_total),
     }
@@ -88,46 +92,16 @@ fn quotient(width: f64, offset: i64, total: f64) -> f64
     width * floats::from_i64(offset).value / total
 }
 
-// Zero whole days are nothing to divide by.
-fn in_days(s: Scale, a: Axis, v: Value) -> Divided
-    requires { ScaleFor a s × (ends a ≡ true) × (value_on a v ≡ true) }
-    ensures { result ≡ in_days a (limits_of s) v }
-{
-    let days = axis::offset_days(a, v);
-    let span = axis::span_days(a);
-    Divided {
-        x: quotient(s.width, days, floats::from_i64(span).value),
-        ratio: (span != 0).then_some(Ratio {
-            offset: days,
-            span: span,
-        }),
-    }
-}
-
 // An offset in nanoseconds, divided.
-fn in_nanos(s: Scale, offset: i64, span: Span) -> Divided
-    ensures { result ≡ in_nanos s.width offset span }
+fn in_nanos(width: f64, offset: i64, span: Span) -> Divided
+    ensures { result ≡ in_nanos width offset span }
 {
     Divided {
-        x: quotient(s.width, offset, span.total),
+        x: quotient(width, offset, span.total),
         ratio: Some(Ratio {
             offset: offset,
             span: span.nanoseconds,
         }),
-    }
-}
-
-// All kinds but 7, as TimeValue::map_coord: nanoseconds if the span and the offset fit, else whole days.
-pub fn map_coord(s: Scale, a: Axis, v: Value) -> Divided
-    requires { ScaleFor a s × (is_duration a.kind ≡ false) × (ends a ≡ true) × (value_on a v ≡ true) }
-    ensures { hairline_from (limits_of s) result ≡ hairline_at a (limits_of s) v (map_coord a (limits_of s) v) }
-{
-    let Some(span) = s.span else {
-        return in_days(s, a, v);
-    };
-    match axis::offset(a, v) {
-        Some(offset) => in_nanos(s, offset, span),
-        None => in_days(s, a, v),
     }
 }
 
@@ -141,64 +115,6 @@ fn nudged(q: Divided) -> Divided
     }
 }
 
-// Kind 7, as RangedDuration::map: nudged, and where the span fits nanoseconds and the offset does not, the answer is the high
-// limit.
-pub fn map_duration(s: Scale, a: Axis, v: Value) -> Divided
-    requires { ScaleFor a s × (is_duration a.kind ≡ true) × (ends a ≡ true) × (value_on a v ≡ true) }
-    ensures { hairline_from (limits_of s) result ≡ hairline_at a (limits_of s) v (map_duration a (limits_of s) v) }
-{
-    let Some(span) = s.span else {
-        return nudged(in_days(s, a, v));
-    };
-    let Some(offset) = axis::offset(a, v) else {
-        return Divided {
-            x: s.width,
-            ratio: None,
-        };
-    };
-    nudged(in_nanos(s, offset, span))
-}
-
-// Either, by the kind.
-fn divide(s: Scale, a: Axis, v: Value) -> Divided
-    requires { ScaleFor a s × (ends a ≡ true) × (value_on a v ≡ true) }
-    ensures { hairline_from (limits_of s) result ≡ hairline a (limits_of s) v }
-{
-    if a.kind.is_duration() {
-        return map_duration(s, a, v);
-    }
-    map_coord(s, a, v)
-}
-
-// The low limit and the position, cut toward zero. It is exact where W × offset is its product with the span.
-fn from_low(s: Scale, q: Divided) -> Hairline
-    requires { OnPage s }
-    ensures { result ≡ hairline_from (limits_of s) q }
-{
-    let position = floats::to_i32(q.x) as i64;
-    let pixel = s.low + position;
-    let Some(r) = q.ratio else {
-        return Hairline {
-            pixel: pixel,
-            exact: false,
-            lost: false,
-        };
-    };
-    Hairline {
-        pixel: pixel,
-        exact: products::same_products(s.high - s.low, r.offset, position, r.span),
-        lost: floats::either_loses(r.offset, r.span),
-    }
-}
-
-// The pixel of a value with a ready scale.
-pub fn pixel_by(s: Scale, a: Axis, v: Value) -> Hairline
-    requires { ScaleFor a s × (ends a ≡ true) × (value_on a v ≡ true) }
-    ensures { result ≡ hairline a (limits_of s) v }
-{
-    from_low(s, divide(s, a, v))
-}
-
 // The questions of a value.
 fn ask_value(a: Axis, v: Value) -> Result<(), Refusal>
     ensures { result ≡ asked (map_value_questions a v) (Ok tt) }
@@ -207,15 +123,104 @@ fn ask_value(a: Axis, v: Value) -> Result<(), Refusal>
     ask(Refusal::Length, axis::mappable(a, v))
 }
 
-// The pixel of any numbers with a ready scale.
-fn map_by(s: Scale, a: Axis, v: Value) -> Result<Hairline, Refusal>
-    requires { ScaleFor a s × (ends a ≡ true) }
-    ensures { result ≡ mapped_by a (limits_of s) v }
-{
-    ask_value(a, v)?;
-    let h = pixel_by(s, a, v);
-    ask(Refusal::Range, axis::fits_i32(h.pixel))?;
-    Ok(h)
+impl Scale {
+    // Zero whole days are nothing to divide by.
+    fn in_days(self, v: Value) -> Divided
+        requires { value_on self.axis v ≡ true }
+        ensures { result ≡ in_days self.axis self.limits v }
+    {
+        let days = axis::offset_days(self.axis, v);
+        let span = axis::span_days(self.axis);
+        Divided {
+            x: quotient(self.width, days, floats::from_i64(span).value),
+            ratio: (span != 0).then_some(Ratio {
+                offset: days,
+                span: span,
+            }),
+        }
+    }
+
+    // All kinds but 7, as TimeValue::map_coord: nanoseconds if the span and the offset fit, else whole days.
+    pub fn map_coord(self, v: Value) -> Divided
+        requires { (is_duration self.axis.kind ≡ false) × (value_on self.axis v ≡ true) }
+        ensures { hairline_from self.limits result ≡ hairline_at self.axis self.limits v (map_coord self.axis self.limits v) }
+    {
+        let Some(span) = self.span else {
+            return self.in_days(v);
+        };
+        match axis::offset(self.axis, v) {
+            Some(offset) => in_nanos(self.width, offset, span),
+            None => self.in_days(v),
+        }
+    }
+
+    // Kind 7, as RangedDuration::map: nudged, and where the span fits nanoseconds and the offset does not, the answer is the
+    // high limit.
+    pub fn map_duration(self, v: Value) -> Divided
+        requires { (is_duration self.axis.kind ≡ true) × (value_on self.axis v ≡ true) }
+        ensures { hairline_from self.limits result ≡ hairline_at self.axis self.limits v (map_duration self.axis self.limits v) }
+    {
+        let Some(span) = self.span else {
+            return nudged(self.in_days(v));
+        };
+        let Some(offset) = axis::offset(self.axis, v) else {
+            return Divided {
+                x: self.width,
+                ratio: None,
+            };
+        };
+        nudged(in_nanos(self.width, offset, span))
+    }
+
+    // Either, by the kind.
+    fn divide(self, v: Value) -> Divided
+        requires { value_on self.axis v ≡ true }
+        ensures { hairline_from self.limits result ≡ hairline self.axis self.limits v }
+    {
+        if self.axis.kind.is_duration() {
+            return self.map_duration(v);
+        }
+        self.map_coord(v)
+    }
+
+    // The low limit and the position, cut toward zero. It is exact where W × offset is its product with the span.
+    fn from_low(self, q: Divided) -> Hairline
+        ensures { result ≡ hairline_from self.limits q }
+    {
+        let l = self.limits;
+        let position = floats::to_i32(q.x) as i64;
+        let pixel = l.low + position;
+        let Some(r) = q.ratio else {
+            return Hairline {
+                pixel: pixel,
+                exact: false,
+                lost: false,
+            };
+        };
+        Hairline {
+            pixel: pixel,
+            exact: products::same_products(l.high - l.low, r.offset, position, r.span),
+            lost: floats::either_loses(r.offset, r.span),
+        }
+    }
+
+    // The pixel of a value.
+    pub fn pixel_by(self, v: Value) -> Hairline
+        requires { value_on self.axis v ≡ true }
+        ensures { result ≡ hairline self.axis self.limits v }
+    {
+        self.from_low(self.divide(v))
+    }
+
+    // The pixel of any numbers.
+    fn map_by(self, v: Value) -> Result<Hairline, Refusal>
+        ensures { result ≡ mapped_by self.axis self.limits v }
+    {
+        ask_value(self.axis, v)?;
+        let h = self.pixel_by(v);
+        ask(Refusal::Range, axis::fits_i32(h.pixel))?;
+        Ok(h)
+    }
 }
 
 // The questions of the axis and the limits.
@@ -230,26 +235,20 @@ fn ask_scale(a: Axis, l: Limits) -> Result<(), Refusal>
 pub fn map(a: Axis, l: Limits, v: Value) -> Result<Hairline, Refusal>
     ensures { result ≡ mapped a l v }
 {
-    map_ready(prepare(a, l), a, l, v)
+    map_ready(prepare(a, l), v)
 }
 
 // Asks what all values share, and makes their scale.
 pub fn prepare(a: Axis, l: Limits) -> Result<Scale, Refusal>
-    ensures { ReadyFor a l result }
+    ensures { ReadyFor a l (and_then result (λ s. Ok (s.axis, s.limits))) }
 {
     ask_scale(a, l)?;
     Ok(scale_of(a, l))
 }
 
 // One of many values.
-pub fn map_ready(
-    m: Result<Scale, Refusal>,
-    a: Axis,
-    l: Limits,
-    v: Value,
-) -> Result<Hairline, Refusal>
-    requires { ReadyFor a l m }
-    ensures { result ≡ mapped a l v }
+pub fn map_ready(m: Result<Scale, Refusal>, v: Value) -> Result<Hairline, Refusal>
+    ensures { (a : Axis) → (l : Limits) → ReadyFor a l (and_then m (λ s. Ok (s.axis, s.limits))) → result ≡ mapped a l v }
 {
-    map_by(m?, a, v)
+    m?.map_by(v)
 }

@@ -10,7 +10,7 @@ use Rattle.std.specs.Prelude.{Option}
 use Rattle.std.specs.Option.{option_map}
 use Rattle.laws.proofs.Signed.{read_sub}
 use Rattle.axis.proofs.PixelRanges.{limits_are, between_fits}
-use Rattle.mapping.specs.Mapping.{with_total, scale_of}
+use Rattle.mapping.specs.Mapping.{with_total}
 use Rattle.mapping.proofs.Ranges.{width_in}
 use Rattle.mapping.proofs.scale_of.Goals as goal
 use Rattle.mapping.proofs.scale_of.Goals.{After-map, Start}
@@ -40,12 +40,13 @@ int_to_float-result c = rw (width_is (goal.at.int_to_float-result c).Start) (wid
 spans : (c : After-map) → c.map.result ≡ option_map with_total c.span.result
 spans c = search rules
 
-pub returns : goal.returns
-unfolding scale_of
-returns c =
-    λ i. record {
-      low = to_z-of_z (low_fits (goal.at.returns c).Start) i;
-      high = to_z-of_z (high_fits (goal.at.returns c).Start) i;
-      width = ap (of_int binary64) (width_is (goal.at.returns c).Start) i;
-      span = (spans (goal.at.returns c).After-map ∙ ap (λ (n : Option ℤ). option_map with_total n) c.span.ensures) i;
+pub invariant_of-result : goal.invariant_of-result
+invariant_of-result c = let s = (goal.at.invariant_of-result c).Start in
+    record {
+      ready = record {
+        real = c.requires.0;
+        on_page = c.requires.1;
+        wide = ap (of_int binary64) (width_is s);
+        spans = spans (goal.at.invariant_of-result c).After-map ∙ ap (λ (n : Option ℤ). option_map with_total n) c.span.ensures;
+      };
     }

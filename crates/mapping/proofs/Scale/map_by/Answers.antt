@@ -1,4 +1,4 @@
--- `mapping::map_by` meets its contract: the questions of the value, and question 10 of the pixel. Assumes nothing.
+-- `mapping::Scale::map_by` meets its contract: the questions of the value, and question 10 of the pixel. Assumes nothing.
 use borrow.Author.Rules.{rules}
 use mathlib.Core.Path.{◌≡◌, sym, ◌∙◌, ap}
 use mathlib.Core.Bool.{Bool}
@@ -15,15 +15,15 @@ use Rattle.axis.specs.declared.Axis.{Axis}
 use Rattle.axis.specs.declared.Limits.{Limits}
 use Rattle.axis.specs.Questions.{fits_i32}
 use Rattle.mapping.specs.declared.Hairline.{Hairline}
-use Rattle.mapping.specs.Mapping.{limits_of, map_value_questions, placed, hairline, mapped_by}
+use Rattle.mapping.specs.Mapping.{map_value_questions, placed, hairline, mapped_by}
 use Rattle.mapping.proofs.Answers.{value_refused, range_asked}
-use Rattle.mapping.proofs.map_by.Goals as goal
-use Rattle.mapping.proofs.map_by.Goals.{After-fits_i32, In_ok-ask_value}
+use Rattle.mapping.proofs.Scale.map_by.Goals as goal
+use Rattle.mapping.proofs.Scale.map_by.Goals.{After-fits_i32, In_ok-ask_value}
 
 pub returns-in_err-ask_value : goal.returns-in_err-ask_value
 returns-in_err-ask_value c = let x = c.args in
     let p = err_from_is_err_and c.from_residual.result c.from_residual.ensures.1 in
-    rw (p.1, p.2) (value_refused x.a (limits_of x.s) x.v _ tt (sym c.in_err-ask_value.ensures))
+    rw (p.1, p.2) (value_refused x.self.axis x.self.limits x.v _ tt (sym c.in_err-ask_value.ensures))
 
 placed_as : (a : Axis) (l : Limits) (v : Value) (h : Hairline) → h ≡ hairline a l v → h.pixel ≡ placed a l v
 unfolding hairline
@@ -31,22 +31,22 @@ placed_as a l v h e = ap (λ (k : Hairline). k.pixel) e
 
 -- question 10, as the code asks it
 range : (c : After-fits_i32) → let x = c.args in
-    asked (ask refusal.Range c.fits_i32.result ∷ []) (Ok (hairline x.a (limits_of x.s) x.v)) ≡ mapped_by x.a (limits_of x.s) x.v
+    asked (ask refusal.Range c.fits_i32.result ∷ []) (Ok (hairline x.self.axis x.self.limits x.v)) ≡ mapped_by x.self.axis x.self.limits x.v
 range c = let x = c.args in
-    let l = limits_of x.s in
+    let l = x.self.limits in
     let p = goal.at.After-fits_i32 c in
-    let pixel = to_z-of_z {w = w64} {z = c.pixel_by-h.result.pixel} (search rules) ∙ placed_as x.a l x.v _ c.pixel_by-h.ensures in
-    ap (λ (b : Bool). asked (ask refusal.Range b ∷ []) (Ok (hairline x.a l x.v))) (c.fits_i32.ensures ∙ ap fits_i32 pixel)
-    ∙ range_asked x.a l x.v (all_pass (map_value_questions x.a x.v) tt (sym c.in_ok-ask_value.ensures))
+    let pixel = to_z-of_z {w = w64} {z = c.pixel_by-h.result.pixel} (search rules) ∙ placed_as x.self.axis l x.v _ c.pixel_by-h.ensures in
+    ap (λ (b : Bool). asked (ask refusal.Range b ∷ []) (Ok (hairline x.self.axis l x.v))) (c.fits_i32.ensures ∙ ap fits_i32 pixel)
+    ∙ range_asked x.self.axis l x.v (all_pass (map_value_questions x.self.axis x.v) tt (sym c.in_ok-ask_value.ensures))
 
 pub returns-in_err-ask : goal.returns-in_err-ask
 returns-in_err-ask c = let x = c.args in
     let p = err_from_is_err_and c.from_residual-in_err-ask.result c.from_residual-in_err-ask.ensures.1 in
-    rw (p.1, p.2) (refused (ask refusal.Range c.fits_i32.result ∷ []) tt (Ok (hairline x.a (limits_of x.s) x.v)) _
+    rw (p.1, p.2) (refused (ask refusal.Range c.fits_i32.result ∷ []) tt (Ok (hairline x.self.axis x.self.limits x.v)) _
     (sym c.in_err-ask.ensures) ∙ range (goal.at.returns-in_err-ask c).After-fits_i32)
 
 pub returns : goal.returns
 returns c = let x = c.args in
     let row = ask refusal.Range c.fits_i32.result ∷ [] in
-    ap Ok c.pixel_by-h.ensures ∙ passed row (Ok (hairline x.a (limits_of x.s) x.v)) (all_pass row tt (sym c.in_ok-ask.ensures))
+    ap Ok c.pixel_by-h.ensures ∙ passed row (Ok (hairline x.self.axis x.self.limits x.v)) (all_pass row tt (sym c.in_ok-ask.ensures))
     ∙ range (goal.at.returns c).After-fits_i32

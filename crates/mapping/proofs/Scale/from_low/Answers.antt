@@ -1,4 +1,4 @@
--- `mapping::from_low` meets its contract: a cut float fits, and so does its sum with a pixel. Assumes nothing.
+-- `mapping::Scale::from_low` meets its contract: a cut float fits, and so does its sum with a pixel. Assumes nothing.
 use borrow.Author.Rules.{rules}
 use mathlib.Core.Path.{◌≡◌, refl, sym, ◌∙◌, ap}
 use mathlib.Core.Bool.{◌||◌}
@@ -12,11 +12,11 @@ use Rattle.axis.proofs.PixelRanges.{limits_are, between_fits}
 use Rattle.floats.specs.Rounding.{cut}
 use Rattle.floats.specs.Losses.{lost_in}
 use Rattle.mapping.specs.Position.{width}
-use Rattle.mapping.specs.Mapping.{limits_of, exact_by, lost_by}
+use Rattle.mapping.specs.Mapping.{exact_by, lost_by}
 use Rattle.mapping.proofs.Ranges.{wider, cut_fits, sum_fits}
 use Rattle.mapping.proofs.Positions.{low_off}
-use Rattle.mapping.proofs.from_low.Goals as goal
-use Rattle.mapping.proofs.from_low.Goals.{After-to_i32-position, Start}
+use Rattle.mapping.proofs.Scale.from_low.Goals as goal
+use Rattle.mapping.proofs.Scale.from_low.Goals.{After-to_i32-position, Start}
 
 -- the cut, as the code reads it back
 back_32 : (c : After-to_i32-position) → to_z w32 (of_z w32 c.to_i32-position.result) ≡ cut c.args.q.x
@@ -26,15 +26,15 @@ back : (c : After-to_i32-position) → to_z w64 (of_z w64 (to_z w32 (of_z w32 c.
 back c = ap (λ (z : ℤ). to_z w64 (of_z w64 z)) (back_32 c)
     ∙ to_z-of_z (wider (cut c.args.q.x) (cut_fits c.args.q.x))
 
-low_fits : (c : Start) → SFits w64 c.args.s.low
+low_fits : (c : Start) → SFits w64 c.args.self.limits.low
 low_fits c = search rules
 
-high_fits : (c : Start) → SFits w64 c.args.s.high
+high_fits : (c : Start) → SFits w64 c.args.self.limits.high
 high_fits c = search rules
 
 -- the pixel
-fits : (c : Start) → SFits w64 (c.args.s.low +ℤ cut c.args.q.x)
-fits c = sum_fits c.args.s.low (cut c.args.q.x) (limits_are (limits_of c.args.s) c.requires.on_page).0
+fits : (c : Start) → SFits w64 (c.args.self.limits.low +ℤ cut c.args.q.x)
+fits c = sum_fits c.args.self.limits.low (cut c.args.q.x) (limits_are c.args.self.limits c.args.self.ready.on_page).0
     (cut_fits c.args.q.x)
 
 pub overflow_add-pixel : goal.overflow_add-pixel
@@ -43,38 +43,38 @@ overflow_add-pixel c = let p = goal.at.overflow_add-pixel c in
 
 -- as the code reads it back
 pixel_is : (c : After-to_i32-position) →
-    to_z w64 (of_z w64 (to_z w64 (of_z w64 c.args.s.low) +ℤ to_z w64 (of_z w64 (to_z w32 (of_z w32 c.to_i32-position.result)))))
-    ≡ c.args.s.low +ℤ cut c.args.q.x
+    to_z w64 (of_z w64 (to_z w64 (of_z w64 c.args.self.limits.low) +ℤ to_z w64 (of_z w64 (to_z w32 (of_z w32 c.to_i32-position.result)))))
+    ≡ c.args.self.limits.low +ℤ cut c.args.q.x
 pixel_is c = let p = (goal.at.After-to_i32-position c).Start in
     ap (λ (z : ℤ). to_z w64 (of_z w64 z)) (λ j. to_z-of_z (low_fits p) j +ℤ back c j) ∙ to_z-of_z (fits p)
 
 pub returns-in_default : goal.returns-in_default
 returns-in_default c = let x = c.args in
-    let p = x.s.low +ℤ cut x.q.x in
+    let p = x.self.limits.low +ℤ cut x.q.x in
     let is = sym c.in_default.is in
     λ i. record {
       pixel = pixel_is (goal.at.returns-in_default c).After-to_i32-position i;
-      exact = exact_by (limits_of x.s) p (is i);
+      exact = exact_by x.self.limits p (is i);
       lost = lost_by (is i);
     }
 
 -- the width
-width_fits : (c : Start) → SFits w64 (c.args.s.high -ℤ c.args.s.low)
-width_fits c = let (p, q) = limits_are (limits_of c.args.s) c.requires.on_page in
-    between_fits c.args.s.high c.args.s.low q p
+width_fits : (c : Start) → SFits w64 (c.args.self.limits.high -ℤ c.args.self.limits.low)
+width_fits c = let (p, q) = limits_are c.args.self.limits c.args.self.ready.on_page in
+    between_fits c.args.self.limits.high c.args.self.limits.low q p
 
-width_is : (c : Start) → to_z w64 (of_z w64 (to_z w64 (of_z w64 c.args.s.high) -ℤ to_z w64 (of_z w64 c.args.s.low)))
-    ≡ c.args.s.high -ℤ c.args.s.low
-width_is c = read_sub c.args.s.high c.args.s.low (high_fits c) (low_fits c) (width_fits c)
+width_is : (c : Start) → to_z w64 (of_z w64 (to_z w64 (of_z w64 c.args.self.limits.high) -ℤ to_z w64 (of_z w64 c.args.self.limits.low)))
+    ≡ c.args.self.limits.high -ℤ c.args.self.limits.low
+width_is c = read_sub c.args.self.limits.high c.args.self.limits.low (high_fits c) (low_fits c) (width_fits c)
 
-pub overflow_sub-s : goal.overflow_sub-s
-overflow_sub-s c = let p = (goal.at.overflow_sub-s c).Start in
+pub overflow_sub-l : goal.overflow_sub-l
+overflow_sub-l c = let p = (goal.at.overflow_sub-l c).Start in
     rw (to_z-of_z (high_fits p), to_z-of_z (low_fits p)) (width_fits p)
 
 pub returns : goal.returns
 returns c = let x = c.args in
     let p = goal.at.returns c in
-    let low = x.s.low in
+    let low = x.self.limits.low in
     let at = cut x.q.x in
     let r = c.in-Some.r in
     let of : SFits w64 r.offset = search rules in
@@ -84,7 +84,7 @@ returns c = let x = c.args in
       pixel = pixel_is p.After-to_i32-position i;
       exact = (c.same_products.ensures
           ∙ (λ j. equal (width_is p.Start j *ℤ to_z-of_z of j) (back p.After-to_i32-position j *ℤ to_z-of_z sf j))
-          ∙ ap (λ (z : ℤ). equal (width (limits_of x.s) *ℤ r.offset) (z *ℤ r.span)) (sym (low_off low at (low +ℤ at) refl))
-          ∙ ap (exact_by (limits_of x.s) (low +ℤ at)) is) i;
+          ∙ ap (λ (z : ℤ). equal (width x.self.limits *ℤ r.offset) (z *ℤ r.span)) (sym (low_off low at (low +ℤ at) refl))
+          ∙ ap (exact_by x.self.limits (low +ℤ at)) is) i;
       lost = (c.either_loses.ensures ∙ (λ j. lost_in (to_z-of_z of j) || lost_in (to_z-of_z sf j)) ∙ ap lost_by is) i;
     }

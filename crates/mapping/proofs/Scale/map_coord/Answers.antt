@@ -1,0 +1,45 @@
+-- `mapping::Scale::map_coord` meets its contract: each branch is one of the definition's. Assumes nothing.
+use borrow.Author.Rules.{rules}
+use mathlib.Core.Path.{◌≡◌, ◌∙◌, ap}
+use mathlib.Core.Bool.{Bool, ◌&&◌, true}
+use mir.Syntax.{w64}
+use mir.Val.{SFits}
+use mir.Facts.{to_z-of_z}
+use Rattle.values.specs.Differences.{fits_i64}
+use Rattle.values.proofs.Fits.{answer_none, answer_some}
+use Rattle.axis.specs.Axes.{span_of, offset_of}
+use Rattle.mapping.specs.Hairlines.{in_nanoseconds, hairline_at}
+use Rattle.mapping.specs.Mapping.{hairline_from}
+use Rattle.mapping.proofs.Placing.{coord_near, coord_far}
+use Rattle.mapping.proofs.Hairlines.{span_none, span_some, nanos_are, near_from, days_from, days_of}
+use Rattle.mapping.proofs.Scale.map_coord.Goals as goal
+use Rattle.laws.proofs.Tests.{and_false}
+
+pub returns-in_default : goal.returns-in_default
+returns-in_default c = let x = c.args in
+    let l = x.self.limits in
+    let far = ap (λ (b : Bool). b && fits_i64 (offset_of x.self.axis x.v)) (span_none x.self.ready c.in_default.is) in
+    ap (hairline_from l) c.in_days.ensures
+    ∙ days_from x.self.axis l x.v _ far (days_of x.self.axis c.requires.0) x.self.ready.real c.requires.1
+    ∙ ap (hairline_at x.self.axis l x.v) (coord_far x.self.axis l x.v far)
+
+pub returns-in-None : goal.returns-in-None
+returns-in-None c = let x = c.args in
+    let l = x.self.limits in
+    let none = answer_none (offset_of x.self.axis x.v) c.offset.result c.offset.ensures c.in-None.is in
+    let far = ap (λ (b : Bool). fits_i64 (span_of x.self.axis) && b) none ∙ and_false (fits_i64 (span_of x.self.axis)) in
+    ap (hairline_from l) c.in_days-in-None.ensures
+    ∙ days_from x.self.axis l x.v _ far (days_of x.self.axis c.requires.0) x.self.ready.real c.requires.1
+    ∙ ap (hairline_at x.self.axis l x.v) (coord_far x.self.axis l x.v far)
+
+pub returns-in-Some-offset : goal.returns-in-Some-offset
+returns-in-Some-offset c = let x = c.args in
+    let l = x.self.limits in
+    let s = span_some x.self.ready c.in-Some.span c.in-Some.is in
+    let o = answer_some (offset_of x.self.axis x.v) c.offset.result c.offset.ensures c.in-Some-offset.offset c.in-Some-offset.is in
+    let of : SFits w64 c.in-Some-offset.offset = search rules in
+    let near : in_nanoseconds x.self.axis x.v ≡ true = λ i. s.0 i && o.0 i in
+    ap (hairline_from l) (c.in_nanos.ensures
+    ∙ nanos_are x.self.ready x.v _ c.in-Some.span (to_z-of_z of ∙ o.1) s.1)
+    ∙ near_from x.self.axis l x.v _ near
+    ∙ ap (hairline_at x.self.axis l x.v) (coord_near x.self.axis l x.v near)
