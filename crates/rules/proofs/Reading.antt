@@ -3,108 +3,144 @@ use mathlib.Core.Path.{◌≡◌, refl, sym, ap, ◌∙◌, subst}
 use mathlib.Core.Bool.{Bool, true, false, cond, ◌&&◌}
 use mathlib.Core.List.{List, [], ◌∷◌, ◌++◌, append-nil, append_assoc}
 use Prim.Native.Nat.{ℕ, zero, suc, ◌+◌, ◌-◌, ◌≤◌, ◌<◌}
-use native.Mathlib.Decide.{dec_le}
 use native.Mathlib.Omega.{arith}
-use borrow.Author.Tests.{leb-true, le-leb, lt-leb, ne_eqb}
+use borrow.Author.Tests.{eqb-true, leb-true, le-leb, lt-leb, ne_eqb}
 use lib.Dec.{leb, eqb}
 use lib.IntN.{ℤ, pos, negsuc}
-use lib.ListN.{length, take, drop, length-append}
+use lib.ListN.{length, take, drop, get_or}
 use lib.Signed.{le_z, lt_z}
+use lib.Pointwise.{pointwise}
 use Rattle.std.specs.Prelude.{⊤, Option, None, Some}
+use Rattle.std.specs.List.{slice_split, onto_first}
+use Rattle.std.proofs.Math.ListN.{drop_of_length-le}
+use Rattle.std.proofs.lemmas.Iterator.{YieldsList}
+use Rattle.std.proofs.lemmas.List.{drop_more, take-append-drop}
+use Rattle.std.proofs.lemmas.List.Splits.{length-slice_split}
 use Rattle.laws.specs.Numbers.{pos_part, neg_part}
 use Rattle.laws.proofs.Signed.{le_true, is_ge}
 use Rattle.laws.proofs.Tests.{both_true, and_false}
 use Rattle.text_read.specs.Bytes.{line_feed}
-use Rattle.text_read.specs.Fields.{until_of, SplitAt, field_of, read_number}
-use Rattle.text_read.specs.Lines.{lines_of, in_form, fields_from}
-use Rattle.text_read.proofs.Lines.{lines_none, lines_some}
+use Rattle.text_read.specs.Fields.{field_of, read_number}
+use Rattle.text_read.specs.Lines.{Lines, byte_before, lines_of, in_form, fields_from}
 use Rattle.rules.specs.declared.Unit.{Unit}
 use Rattle.rules.specs.declared.Row.{Row}
 use Rattle.rules.specs.declared.Typed.{Typed}
 use Rattle.rules.specs.Rows.{unit_of, in_range, row_read, row_from, read_row, zeros, InRange, AllInRange}
-use Rattle.rules.specs.Table.{is_names, row_before, rows_of_lines, rows_from, lines_rows, table_from, table_of}
+use Rattle.rules.specs.Table.{is_names, row_before, rows_of_lines, rows_from, table_from, table_of}
 
 -- ---- rows, and then others
 abbrev pub before : List Row → Option (List Row) → Option (List Row)
 before ws (Some vs) = Some (ws ++ vs)
 before ws None = None
 
-none_before : (o : Option (List Row)) → before [] o ≡ o
-none_before (Some ws) = refl
-none_before None = refl
+-- ---- the lines of a text, cut at each LF
+-- where the text ends in LF, its lines are the parts of what stands before it
+pub cut_lines : (t : List ℕ) →
+    lines_of (t ++ (line_feed ∷ [])) ≡ record { lines = slice_split (λ b. eqb b line_feed) t; left = [] }
+unfolding lines_of
+cut_lines [] = refl
+cut_lines (b ∷ t) =
+    go (eqb b line_feed) (slice_split (λ b. eqb b line_feed) t) (λ z. omega (arith, length-slice_split (λ b. eqb b line_feed) t)) (cut_lines t)
+  where
+    go : (c : Bool) (ls : List (List ℕ)) → (length ls ≡ 0 → ⊥) → {more : Lines} → more ≡ record { lines = ls; left = [] }
+        → cond c (record { lines = [] ∷ more.lines; left = more.left }) (byte_before b more.lines more.left)
+        ≡ record { lines = cond c ([] ∷ ls) (onto_first b ls); left = [] }
+    go true ls n e = rw e refl
+    go false [] n e = absurd (n refl)
+    go false (l ∷ ls) n e = rw e refl
 
-all_before : (ws : List Row) → before ws (Some []) ≡ Some ws
-all_before ws = ap Some (append-nil ws)
+-- else something is left
+left_over : (s : List ℕ) → 0 < length s → pointwise eqb (drop (length s - 1) s) (line_feed ∷ []) ≡ false
+    → 0 < length (lines_of s).left
+unfolding lines_of
+left_over [] h e = absurd (let z : ⊥ = omega arith in z)
+left_over (b ∷ []) h e = go (eqb b line_feed) e
+  where
+    go : (c : Bool) → c && true ≡ false
+        → 0 < length (cond {A = Lines} c (record { lines = [] ∷ []; left = [] }) (record { lines = []; left = b ∷ [] })).left
+    go true e = absurd (let z : ⊥ = cc in z)
+    go false e = omega arith
+left_over (b ∷ d ∷ t) h e = go (eqb b line_feed) (lines_of (d ∷ t)).lines (lines_of (d ∷ t)).left (left_over (d ∷ t) (omega arith) last)
+  where
+    last : pointwise eqb (drop (length (d ∷ t) - 1) (d ∷ t)) (line_feed ∷ []) ≡ false
+    last = let n : length (b ∷ d ∷ t) - 1 ≡ suc (length (d ∷ t) - 1) = omega arith in rw n at e
 
-one_more : (ws : List Row) (w : Row) (o : Option (List Row)) → before ws (before (w ∷ []) o) ≡ before (ws ++ (w ∷ [])) o
-one_more ws w (Some vs) = ap Some (sym (append_assoc ws (w ∷ []) vs))
-one_more ws w None = refl
+    go : (c : Bool) (ls : List (List ℕ)) (left : List ℕ) → 0 < length left
+        → 0 < length (cond {A = Lines} c (record { lines = [] ∷ ls; left = left }) (byte_before b ls left)).left
+    go true ls left h = h
+    go false [] left h = omega arith
+    go false (l ∷ ls) left h = h
 
--- ---- a line more
-no_text : (most : ℕ) → lines_rows most [] ≡ Some []
-unfolding lines_rows lines_of rows_of_lines
-no_text most = rw (le-leb 0 most (omega arith)) refl
+-- a table's last line ends in LF
+pub no_end : (s : List ℕ) → pointwise eqb (drop (length s - 1) s) (line_feed ∷ []) ≡ false → table_of s ≡ None
+unfolding table_of lines_of
+no_end [] e = refl
+no_end (b ∷ s) e = go (lines_of (b ∷ s)).lines (lines_of (b ∷ s)).left (left_over (b ∷ s) (omega arith) e)
+  where
+    named : (c : Bool) (ls : List (List ℕ)) (left : List ℕ) → 0 < length left → cond c (rows_from 64 ls left) None ≡ None
+    named true ls left h = rw (ne_eqb (length left) 0 (λ z. omega arith), and_false (leb (length ls) 64)) refl
+    named false ls left h = refl
 
-module _ (most : ℕ) (s : List ℕ) where
-  -- bytes after the last LF
-  no_end : 0 < length s → until_of line_feed s ≡ length s → lines_rows most s ≡ None
-  unfolding lines_rows
-  no_end h e = rw (lines_none s e, ne_eqb (length s) 0 (λ z. omega arith), and_false (leb 0 most)) refl
+    go : (ls : List (List ℕ)) (left : List ℕ) → 0 < length left → table_from ls left ≡ None
+    go [] left h = refl
+    go (l ∷ ls) left h = named (is_names l) ls left h
 
-  abbrev k : ℕ
-  k = until_of line_feed s
+-- ---- the names
+module _ (s l : List ℕ) (ls : List (List ℕ)) (e : lines_of s ≡ record { lines = l ∷ ls; left = [] }) where
+  pub wrong_names : is_names l ≡ false → table_of s ≡ None
+  unfolding table_of
+  wrong_names n = rw (e, n) refl
 
-  module _ (h : k < length s) where
-    unread_line : read_row (take k s) ≡ None → lines_rows most s ≡ None
-    unfolding lines_rows rows_of_lines
-    unread_line e =
-        let t = lines_of (drop (k + 1) s) in
-        rw (lines_some s h, e) (either (leb (suc (length t.lines)) most && eqb (length t.left) 0))
+  module _ (n : is_names l ≡ true) where
+    pub too_many : 64 < length ls → table_of s ≡ None
+    unfolding table_of
+    too_many h = rw (e, n, lt-leb (length ls) 64 h) refl
+
+    pub unread_line : rows_of_lines ls ≡ None → table_of s ≡ None
+    unfolding table_of
+    unread_line r = rw (e, n, r) (either (leb (length ls) 64))
       where
-        either : (b : Bool) → ◌≡◌ {A = Option (List Row)} (cond b None None) None
+        either : (b : Bool) → ◌≡◌ {A = Option (List Row)} (cond (b && true) None None) None
         either true = refl
         either false = refl
 
-    too_many : most ≡ 0 → lines_rows most s ≡ None
-    unfolding lines_rows
-    too_many e = let l = lt-leb (suc (length (lines_of (drop (k + 1) s)).lines)) most (omega arith) in rw (lines_some s h, l) refl
-
-    read_line : {w : Row} → read_row (take k s) ≡ Some w → 1 ≤ most →
-        lines_rows most s ≡ before (w ∷ []) (lines_rows (most - 1) (drop (k + 1) s))
-    unfolding lines_rows rows_of_lines
-    read_line {w} e m =
-        let t = lines_of (drop (k + 1) s) in
-        rw (lines_some s h, e, less (length t.lines))
-        (go (leb (length t.lines) (most - 1) && eqb (length t.left) 0) (rows_of_lines t.lines))
-      where
-        less : (n : ℕ) → leb (suc n) most ≡ leb n (most - 1)
-        less n = elim (dec_le n (most - 1)) [
-          | yes l ↦ rw (le-leb n (most - 1) l, le-leb (suc n) most (omega arith)) refl
-          | no l ↦ rw (lt-leb n (most - 1) (omega arith), lt-leb (suc n) most (omega arith)) refl
-        ]
-
-        go : (b : Bool) (o : Option (List Row)) → cond b (row_before (Some w) o) None ≡ before (w ∷ []) (cond b o None)
-        go true (Some ws) = refl
-        go true None = refl
-        go false o = refl
-
--- ---- the names
-module _ (s : List ℕ) where
-  pub no_names : until_of line_feed s ≡ length s → table_of s ≡ None
-  unfolding table_of
-  no_names e = rw (lines_none s e) refl
-
-  module _ (h : until_of line_feed s < length s) where
-    abbrev line : List ℕ
-    line = take (until_of line_feed s) s
-
-    pub wrong_names : is_names line ≡ false → table_of s ≡ None
+    pub all_read : length ls ≤ 64 → table_of s ≡ rows_of_lines ls
     unfolding table_of
-    wrong_names e = rw (lines_some s h, e) refl
+    all_read h = rw (e, n, le-leb (length ls) 64 h) refl
 
-    pub after_names : is_names line ≡ true → table_of s ≡ lines_rows 64 (drop (until_of line_feed s + 1) s)
-    unfolding table_of lines_rows
-    after_names e = rw (lines_some s h, e) refl
+-- ---- a loop over the other lines: ws are the rows of the lines before place k
+abbrev pub row_lines : List ℕ → List (List ℕ)
+row_lines s = drop 1 (lines_of s).lines
+
+abbrev pub going : List Row → List (List ℕ) → Option (List Row)
+going ws ls = before ws (rows_of_lines ls)
+
+pub begun : (ls : List (List ℕ)) → rows_of_lines ls ≡ going [] ls
+begun ls = go (rows_of_lines ls)
+  where
+    go : (o : Option (List Row)) → o ≡ before [] o
+    go (Some ws) = refl
+    go None = refl
+
+pub over : (ws : List Row) (ls : List (List ℕ)) (k : ℕ) → length ls ≤ k → going ws (drop k ls) ≡ Some ws
+unfolding rows_of_lines
+over ws ls k h = rw (drop_of_length-le ls h) (ap Some (append-nil ws))
+
+module _ (ws : List Row) (ls : List (List ℕ)) (k : ℕ) (l : List ℕ) (h : k < length ls) (e : l ≡ get_or ls k l) where
+  at : drop k ls ≡ l ∷ drop (k + 1) ls
+  at = drop_more ls k l h ∙ ap (λ (x : List ℕ). x ∷ drop (k + 1) ls) (sym e)
+
+  pub stop_unread : read_row l ≡ None → going ws (drop k ls) ≡ None
+  unfolding rows_of_lines
+  stop_unread r = rw (at, r) refl
+
+  pub go_on : {w : Row} → read_row l ≡ Some w → going ws (drop k ls) ≡ going (ws ++ (w ∷ [])) (drop (k + 1) ls)
+  unfolding rows_of_lines
+  go_on {w} r = rw (at, r) (go (rows_of_lines (drop (k + 1) ls)))
+    where
+      go : (o : Option (List Row)) → before ws (row_before (Some w) o) ≡ before (ws ++ (w ∷ [])) o
+      go (Some vs) = ap Some (sym (append_assoc ws (w ∷ []) vs))
+      go None = refl
 
 -- ---- the numbers of a row that was read
 pub a_count : (a : ℤ) (n : ℕ) → le_z (pos n) a ≡ true → lt_z a (pos 0) ≡ false
@@ -248,36 +284,28 @@ module _ (s : List ℕ) (ws : List Row) where
       go [] left e = absurd (let z : ⊥ = cc in z)
       go (l ∷ ls) left e = named (is_names l) ls left e
 
--- ---- a loop over the lines
--- the rows of a text of which the lines before s have given ws
-abbrev pub going : List Row → List ℕ → Option (List Row)
-going ws s = before ws (lines_rows (64 - length ws) s)
+-- ---- what std says of the lines
+-- a text that ends in LF
+pub before_LF : (s x : List ℕ) → pointwise eqb (drop (length s - 1) s) (line_feed ∷ []) ≡ true → x ≡ take (length s - 1) s
+    → s ≡ x ++ (line_feed ∷ [])
+before_LF s x e f =
+    sym (take-append-drop (length s - 1) s) ∙ rw (← f, one_byte (drop (length s - 1) s) e) refl
+  where
+    one_byte : (t : List ℕ) → pointwise eqb t (line_feed ∷ []) ≡ true → t ≡ line_feed ∷ []
+    one_byte [] e = absurd (let z : ⊥ = cc in z)
+    one_byte (b ∷ []) e = ap (λ (x : ℕ). x ∷ []) (eqb-true b line_feed (both_true _ _ e).0)
+    one_byte (b ∷ d ∷ t) e = let q : false ≡ true = (both_true (eqb b line_feed) false e).1 in absurd (let z : ⊥ = cc in z)
 
-pub begun : (s : List ℕ) → lines_rows 64 s ≡ going [] s
-begun s = sym (none_before (lines_rows 64 s))
+pub first_line : (s l : List ℕ) (all : List (List ℕ)) → lines_of s ≡ record { lines = all; left = [] } → all ≡ l ∷ drop 1 all
+    → lines_of s ≡ record { lines = l ∷ row_lines s; left = [] }
+first_line s l all e f =
+    e ∙ ap (λ (x : List (List ℕ)). record { lines = x; left = [] }) (f ∙ ap (λ (t : Lines). l ∷ drop 1 t.lines) (sym e))
 
-pub over : (ws : List Row) (s : List ℕ) → length s ≡ 0 → going ws s ≡ Some ws
-over ws [] h = rw (no_text (64 - length ws)) (all_before ws)
-over ws (b ∷ s) h = absurd (let z : ⊥ = omega arith in z)
-
-module _ (ws : List Row) (s : List ℕ) where
-  none_from : lines_rows (64 - length ws) s ≡ None → going ws s ≡ None
-  none_from e = rw e refl
-
-  pub no_LF : (length s ≡ 0 → ⊥) → until_of line_feed s ≡ length s → going ws s ≡ None
-  no_LF h e = none_from (no_end (64 - length ws) s (omega (arith, h)) e)
-
-  module _ {line more : List ℕ} (p : SplitAt line_feed s line more) where
-    pub stop_unread : read_row line ≡ None → going ws s ≡ None
-    stop_unread u = none_from (unread_line (64 - length ws) s p.inside (ap read_row (sym p.front) ∙ u))
-
-    -- a line too many
-    pub stop_full : length ws ≡ 64 → going ws s ≡ None
-    stop_full f = none_from (too_many (64 - length ws) s p.inside (omega arith))
-
-    pub go_on : {w : Row} → length ws < 64 → read_row line ≡ Some w → going ws s ≡ going (ws ++ (w ∷ [])) more
-    go_on {w} l u =
-        let r = read_line (64 - length ws) s p.inside (ap read_row (sym p.front) ∙ u) (omega arith) in
-        let n : 64 - length ws - 1 ≡ 64 - length (ws ++ (w ∷ [])) = omega (arith, length-append ws (w ∷ [])) in
-        ap (before ws) r ∙ one_more ws w (lines_rows (64 - length ws - 1) (drop (until_of line_feed s + 1) s))
-        ∙ rw (n, p.rest) refl
+-- an iterator after its first item
+module _ {S A B : Type 0} {steps : S → Option A → S → Type 0} {v : A → B} {s : S} where
+  pub after_first : (all : List B) → YieldsList steps v s all → (r : Option A) (x : A) (u : S) → r ≡ Some x → steps s r u
+      → (all ≡ v x ∷ drop 1 all) × YieldsList steps v u (drop 1 all)
+  after_first [] road r x u e p = absurd (road.runs x u (subst (λ o. steps s o u) e p))
+  after_first (y ∷ ys) road r x u e p =
+      let (f, g) = road.runs.1 x u (subst (λ o. steps s o u) e p) in
+      (ap (λ (z : B). z ∷ ys) (sym f), record { runs = g })

@@ -34,10 +34,6 @@ rows_of_lines (l ∷ ls) = row_before (read_row l) (rows_of_lines ls)
 abbrev pub rows_from : ℕ → List (List ℕ) → List ℕ → Option (List Row)
 rows_from most ls left = cond (leb (length ls) most && eqb (length left) 0) (rows_of_lines ls) None
 
--- the rows of a text without names
-unfoldable pub lines_rows : ℕ → List ℕ → Option (List Row)
-lines_rows most s = rows_from most (lines_of s).lines (lines_of s).left
-
 -- the names first
 abbrev pub table_from : List (List ℕ) → List ℕ → Option (List Row)
 table_from [] left = None

@@ -2,13 +2,13 @@
 // questions 12, 15 and 16, and the row of a length.
 #![tactic(auto)]
 
-ghost use Rattle.std.specs.Prelude.{◌≡◌, [], ◌∷◌, ◌≤◌, Ok, length};
+ghost use Rattle.std.specs.Prelude.{◌≡◌, [], ◌∷◌, Ok};
 ghost use Rattle.std.specs.Option.{option_map};
-ghost use Rattle.std.specs.Result.{result_map_both};
+ghost use Rattle.std.specs.Result.{result_map_both, result_ok};
 ghost use Rattle.asking.specs.Asking.{asked};
 ghost use Rattle.rules.specs.Rows.{unit_of, in_range, row_read, read_row, AllInRange};
 ghost use Rattle.rules.specs.Cover.{rows_of, is_for, row_for, lacking};
-ghost use Rattle.rules.specs.Table.{lines_rows, table_of, sizes, length_questions, table_questions, rows_in, rules_answer};
+ghost use Rattle.rules.specs.Table.{table_of, sizes, length_questions, table_questions, rows_in, rules_answer};
 
 use arrayvec::ArrayVec;
 use asking::{Refusal, ask};
@@ -38,6 +38,13 @@ pub struct Row {
 // The rows of a table lie in the value itself: nothing is allocated.
 pub type Rules = ArrayVec<Row, 64>;
 
+// A table that reads: the numbers of its rows are in range.
+#[derive(Drop)]
+struct Table {
+    rows: Rules,
+    ghost in_range: { AllInRange (rows_of rows) },
+}
+
 // A row's numbers as they are typed.
 #[derive(Clone, Copy)]
 struct Typed {
@@ -48,14 +55,18 @@ struct Typed {
 }
 
 // ---- a row's text
-fn unit_of(w: &[u8]) -> Option<Unit>
-    ensures { result ≡ unit_of w.now }
-{
-    match w {
-        b"day" => Some(Unit::Day),
-        b"month" => Some(Unit::Month),
-        b"year" => Some(Unit::Year),
-        _ => None,
+impl TryFrom<&[u8]> for Unit {
+    type Error = Refusal;
+
+    ghost try_from_gives = { λ w r. result_ok r ≡ unit_of w.now };
+
+    fn try_from(word: &[u8]) -> Result<Unit, Refusal> {
+        match word {
+            b"day" => Ok(Unit::Day),
+            b"month" => Ok(Unit::Month),
+            b"year" => Ok(Unit::Year),
+            _ => Err(Refusal::Table),
+        }
     }
 }
 
@@ -91,7 +102,7 @@ fn read_row(s: &[u8]) -> Option<Row>
     let d = text_read::rest_of(c);
     let from = text_read::number(s)?;
     let to = text_read::number(b)?;
-    let unit = unit_of(text_read::field(c))?;
+    let unit = Unit::try_from(text_read::field(c)).ok()?;
     let step = text_read::number(d)?;
     row_read(Typed {
         from,
@@ -102,30 +113,19 @@ fn read_row(s: &[u8]) -> Option<Row>
 }
 
 // ---- the table's text
-// The rows of the lines after the names, at most 64. Each ends in LF.
-fn read_rows(s: &[u8]) -> Option<Rules>
-    ensures { option_map rows_of result ≡ lines_rows 64 s.now }
+// The names line, and the rows, at most 64. Each line ends in LF.
+fn read_table(s: &[u8]) -> Option<Table>
+    ensures { option_map (λ t. rows_of t.rows) result ≡ table_of s.now }
 {
-    let mut rules = Rules::new();
-    let mut rest = s;
-    // no index is counted: each turn takes a line off
-    while !rest.is_empty() {
-        let (line, more) = text_read::split_once(rest, b'\n')?;
-        rules.try_push(read_row(line)?).ok()?;
-        rest = more;
-    }
-    Some(rules)
-}
-
-// The names line, and the rows.
-fn read_table(s: &[u8]) -> Option<Rules>
-    ensures { option_map rows_of result ≡ table_of s.now }
-{
-    let (names, rows) = text_read::split_once(s, b'\n')?;
-    if names != NAMES {
+    let mut lines = s.strip_suffix(b"\n")?.split(|b| *b == b'\n');
+    if lines.next()? != NAMES {
         return None;
     }
-    read_rows(rows)
+    let mut rows = Rules::new();
+    for line in lines {
+        rows.try_push(read_row(line)?).ok()?;
+    }
+    Some(Table { rows })
 }
 
 // ---- the row of a length
@@ -143,52 +143,51 @@ pub fn row_for(rows: &[Row], days: u64) -> Option<Row>
 }
 
 // ---- the questions
-// Question 15: has some length no row? From 0 on, the length behind a row's last is asked next. A row is met at most once, so
-// no more rows are met than there are.
-fn is_lacking(rows: &[Row]) -> bool
-    requires { AllInRange rows.now }
-    ensures { result ≡ lacking rows.now }
-{
-    let mut at: u64 = 0;
-    // no iterator goes from length to length as the rows say
-    while at < LENGTHS {
-        let Some(w) = row_for(rows, at) else {
-            return true;
-        };
-        at = w.to + 1;
+impl Table {
+    // Question 15: has some length no row? From 0 on, the length behind a row's last is asked next. A row is met at most
+    // once, so no more rows are met than there are.
+    fn is_lacking(&self) -> bool
+        ensures { result ≡ lacking (rows_of self.now.rows) }
+    {
+        let mut at: u64 = 0;
+        // no iterator goes from length to length as the rows say
+        while at < LENGTHS {
+            let Some(w) = row_for(self.rows.as_slice(), at) else {
+                return true;
+            };
+            at = w.to + 1;
+        }
+        false
     }
-    false
-}
 
-// How many lengths each row is for, all together.
-fn sizes(rows: &[Row]) -> u64
-    requires { (length rows.now ≤ 64) × AllInRange rows.now }
-    ensures { result ≡ sizes rows.now }
-{
-    // a loop: what a sum asks of each row in turn does not follow from AllInRange
-    let mut n: u64 = 0;
-    for w in rows {
-        n += w.to + 1 - w.from;
+    // How many lengths each row is for, all together.
+    fn sizes(&self) -> u64
+        ensures { result ≡ sizes (rows_of self.now.rows) }
+    {
+        // a loop: what a sum asks of each row in turn does not follow from AllInRange
+        let mut n: u64 = 0;
+        for w in self.rows.as_slice() {
+            n += w.to + 1 - w.from;
+        }
+        n
     }
-    n
-}
 
-// Where no length lacks a row, the rows are for more lengths than there are just where some length has two.
-fn ask_lengths(rows: &[Row]) -> Result<(), Refusal>
-    requires { (length rows.now ≤ 64) × AllInRange rows.now }
-    ensures { result ≡ asked (length_questions rows.now) (Ok tt) }
-{
-    ask(Refusal::Gap, !is_lacking(rows))?;
-    ask(Refusal::Overlap, sizes(rows) <= LENGTHS)
+    // Where no length lacks a row, the rows are for more lengths than there are just where some length has two.
+    fn ask_lengths(&self) -> Result<(), Refusal>
+        ensures { result ≡ asked (length_questions (rows_of self.now.rows)) (Ok tt) }
+    {
+        ask(Refusal::Gap, !self.is_lacking())?;
+        ask(Refusal::Overlap, self.sizes() <= LENGTHS)
+    }
 }
 
 // A table, read and asked.
 pub fn checked(s: &[u8]) -> Result<Rules, Refusal>
     ensures { result_map_both rows_of (λ q. q) result ≡ asked (table_questions s.now) (Ok (rows_in s.now)) }
 {
-    let rules = read_table(s).ok_or(Refusal::Table)?;
-    ask_lengths(rules.as_slice())?;
-    Ok(rules)
+    let table = read_table(s).ok_or(Refusal::Table)?;
+    table.ask_lengths()?;
+    Ok(table.rows)
 }
 
 // How many rows an accepted table has.

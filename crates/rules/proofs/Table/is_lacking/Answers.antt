@@ -1,4 +1,4 @@
--- `rules::is_lacking` meets its contract: every length before the one that is asked has a row. Assumes nothing.
+-- `rules::Table::is_lacking` meets its contract: every length before the one that is asked has a row. Assumes nothing.
 use mathlib.Core.Path.{◌≡◌, sym, ◌∙◌}
 use mathlib.Core.Bool.{true}
 use Prim.Native.Nat.{ℕ, ◌≤◌, ◌<◌}
@@ -6,11 +6,11 @@ use native.Mathlib.Decide.{dec_le}
 use native.Mathlib.Omega.{arith}
 use lib.ListN.{length}
 use Rattle.rules.specs.Rows.{row_at}
-use Rattle.rules.specs.Cover.{lengths, is_for, first_for}
+use Rattle.rules.specs.Cover.{rows_of, lengths, is_for, first_for}
 use Rattle.rules.proofs.Lengths.{ends, between, has_row, met, no_row}
 use Rattle.rules.proofs.Judged.{is_lacking_law, not_lacking}
-use Rattle.rules.proofs.is_lacking.Goals as goal
-use Rattle.rules.proofs.is_lacking.Goals.{In-Some}
+use Rattle.rules.proofs.Table.is_lacking.Goals as goal
+use Rattle.rules.proofs.Table.is_lacking.Goals.{In-Some}
 
 below : {l : ℕ} → l < 3652059 → l < lengths
 unfolding lengths
@@ -22,21 +22,22 @@ reached h k = omega arith
 
 pub returns-in_default : goal.returns-in_default
 returns-in_default c = let at = c.loop-at.at in
-    sym (is_lacking_law c.args.rows.now (
+    sym (is_lacking_law (rows_of c.args.self.now.rows) (
       at,
       below (omega (arith, c.loop-at-test.true)),
-      no_row c.args.rows.now at (sym c.row_for.ensures ∙ c.in_default.is),
+      no_row (rows_of c.args.self.now.rows) at (sym (rw c.as_slice.ensures.value at c.row_for.ensures) ∙ c.in_default.is),
     ))
 
 -- the row that is met is for the length that is asked
-one : (c : In-Some) → let ws = c.args.rows.now in
+one : (c : In-Some) → let ws = rows_of c.args.self.now.rows in
     let at = c.loop-at.at in
     let w = c.in-Some.w in
     (first_for ws at < length ws) × (w ≡ row_at ws (first_for ws at)) × (is_for w at ≡ true)
-one c = met c.args.rows.now c.loop-at.at c.in-Some.w (sym c.row_for.ensures ∙ c.in-Some.is)
+one c = met (rows_of c.args.self.now.rows) c.loop-at.at c.in-Some.w
+    (sym (rw c.as_slice.ensures.value at c.row_for.ensures) ∙ c.in-Some.is)
 
 last : (c : In-Some) → c.in-Some.w.to ≤ 3652058
-last c = let (h, e, f) = one c in rw e (c.requires _ h).last
+last c = let (h, e, f) = one c in rw e (c.args.self.now.in_range _ h).last
 
 pub overflow_add-at : goal.overflow_add-at
 overflow_add-at c = omega (arith, last (goal.at.overflow_add-at c).In-Some)
@@ -46,7 +47,7 @@ loop-at-smaller c = let (h, e, f) = one (goal.at.loop-at-smaller c).In-Some in
     omega (arith, ends c.in-Some.w c.loop-at.at f, last (goal.at.loop-at-smaller c).In-Some)
 
 pub loop-at-preserved : goal.loop-at-preserved
-loop-at-preserved c m l = let ws = c.args.rows.now in
+loop-at-preserved c m l = let ws = rows_of c.args.self.now.rows in
     let (h, e, f) = one (goal.at.loop-at-preserved c).In-Some in
     elim (dec_le c.loop-at.at m) [
       | yes y ↦ has_row ws m (first_for ws c.loop-at.at) h
@@ -57,4 +58,4 @@ loop-at-preserved c m l = let ws = c.args.rows.now in
 pub returns : goal.returns
 returns c =
     let end : 3652059 ≤ c.loop-at.at = omega (arith, c.loop-at-test.false) in
-    sym (not_lacking c.args.rows.now (λ k h. c.loop-at.invariant k (reached h end)))
+    sym (not_lacking (rows_of c.args.self.now.rows) (λ k h. c.loop-at.invariant k (reached h end)))
