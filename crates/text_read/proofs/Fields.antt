@@ -17,7 +17,7 @@ use Rattle.std.specs.Prelude.{Option, None, Some}
 use Rattle.std.specs.List.{position_or_len, position}
 use Rattle.std.specs.Option.{unwrap_or}
 use Rattle.std.proofs.lemmas.List.Recursion.{is_position_or_len}
-use borrow.Author.Tests.{eqb-true, eq-eqb, ne_eqb, lt-ltb, le-ltb, ltb-true, ltb-false, leb-true}
+use borrow.Author.Tests.{eqb-true, eq-eqb, ne_eqb, lt-ltb, le-ltb, ltb-false, leb-true}
 use Rattle.laws.proofs.Tests.{both_true, and_true}
 use Rattle.text_read.specs.Bytes.{space_byte, minus_byte, point_byte, zero_byte, nine_byte}
 use Rattle.text_read.specs.Fields.{until_of, field_of, is_digit, digits_from, digits_of, times, nanos_of, fraction_of, stamp_read}
@@ -46,15 +46,6 @@ found c s = rw (← until_position c s) (either (ltb (until_of c s) (length s)) 
         → unwrap_or (cond t (Some (until_of c s)) None) (length s) ≡ until_of c s
     either true h = refl
     either false h = let z : length s ≤ until_of c s = h refl in omega (arith, until_le c s)
-
--- where there is a c
-pub found_at : (c : ℕ) (s : List ℕ) (k : ℕ) → Some k ≡ position (λ b. eqb b c) s → (k ≡ until_of c s) × (k < length s)
-found_at c s k e = either (ltb (until_of c s) (length s)) (ltb-true (until_of c s) (length s)) (rw (← until_position c s) at e)
-  where
-    either : (t : Bool) → (t ≡ true → until_of c s < length s) → Some k ≡ cond t (Some (until_of c s)) None
-        → (k ≡ until_of c s) × (k < length s)
-    either true h e = let u : k ≡ until_of c s = cc in let l : until_of c s < length s = h refl in (u, omega arith)
-    either false h e = absurd (let z : ⊥ = cc in z)
 
 module _ (s : List ℕ) (i : ℕ) (h : i < length s) where
   pub digit_on : (n : ℕ) → is_digit (get_or s i 0) ≡ true

@@ -2,8 +2,8 @@
 // where the field has not the form. A field ends before the next space, or where the line ends.
 #![tactic(auto)]
 
-ghost use Rattle.std.specs.Prelude.{◌≡◌, ◌+◌, ◌≤◌, ◌==◌, length, take, position, MatchOption};
-ghost use Rattle.text_read.specs.Lines.{occurrences, in_form, rest_of};
+ghost use Rattle.std.specs.Prelude.{◌≡◌, ◌+◌, ◌≤◌, length, take, MatchOption};
+ghost use Rattle.text_read.specs.Lines.{in_form, rest_of};
 ghost use Rattle.text_read.specs.Fields.{until_of, field_of, digits_of, read_number, triple_of, read_date};
 ghost use Rattle.text_read.specs.Fields.{nanos_of, fraction_of, read_stamp, seconds_of, read_span};
 ghost use Rattle.text_read.specs.Fields.{SplitAt, Digits, TypedThree, TypedDate, TypedStamp, TypedSpan};
@@ -35,41 +35,27 @@ pub struct Duration {
     pub nano: u64,
 }
 
-// Where the first c stands.
-fn place(s: &[u8], c: u8) -> Option<usize>
-    ensures { result ≡ position (λ b. b == c) s.now }
-{
-    s.iter().position(|b| *b == c)
-}
-
 // How many bytes stand before the first c, or all of them.
 pub fn until(s: &[u8], c: u8) -> usize
     ensures value { result ≡ until_of c s.now }
     ensures upper_bound { (result ≤ length s.now) × (result ≡ length (take result s.now)) }
 {
-    place(s, c).unwrap_or(s.len())
+    s.iter().position(|b| *b == c).unwrap_or(s.len())
 }
 
 // What stands before the first c, and what stands behind it.
 pub fn split_once(s: &[u8], c: u8) -> Option<(&[u8], &[u8])>
     ensures { MatchOption result (until_of c s.now ≡ length s.now) (λ p. SplitAt c s.now p.0.now p.1.now) }
 {
-    let k = place(s, c)?;
-    Some((&s[..k], &s[k + 1..]))
-}
-
-// How often c stands in s.
-fn occurrences(s: &[u8], c: u8) -> usize
-    ensures { result ≡ occurrences c s.now }
-{
-    s.iter().filter(|b| **b == c).count()
+    let k = until(s, c);
+    Some((&s[..k], s.get(k + 1..)?))
 }
 
 // At most 120 bytes, and so many spaces.
 pub fn in_form(s: &[u8], spaces: usize) -> bool
     ensures { result ≡ in_form spaces s.now }
 {
-    (s.len() <= 120) & (occurrences(s, b' ') == spaces)
+    (s.len() <= 120) & (s.iter().filter(|b| **b == b' ').count() == spaces)
 }
 
 // The field at the front.
