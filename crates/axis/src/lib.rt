@@ -142,7 +142,6 @@ pub fn closed(a: Axis) -> Axis
 
 // From start to end, in nanoseconds.
 pub fn span(a: Axis) -> Option<i64>
-    requires { ends a ≡ true }
     ensures { result ≡ nanoseconds_of (span_of a) }
 {
     values::nanoseconds_between(a.kind, a.start, a.end)
@@ -158,7 +157,6 @@ pub fn span_days(a: Axis) -> i64
 
 // From start to v, in nanoseconds.
 pub fn offset(a: Axis, v: Value) -> Option<i64>
-    requires { (ends a ≡ true) × (value_on a v ≡ true) }
     ensures { result ≡ nanoseconds_of (offset_of a v) }
 {
     values::nanoseconds_between(a.kind, a.start, v)

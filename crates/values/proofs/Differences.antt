@@ -1,19 +1,19 @@
 -- Two values of a kind: how far apart their heads, their tails and their nanoseconds are. Assumes nothing.
 use mathlib.Core.Path.{◌≡◌, refl, sym, ◌∙◌, ap}
 use mathlib.Core.Bool.{Bool, true, false}
-use Prim.Native.Nat.{ℕ, ◌+◌, ◌*◌, ◌≤◌, ◌<◌}
+use mathlib.Core.Logic.{inl, inr}
+use Prim.Native.Nat.{ℕ, ◌+◌, ◌*◌, ◌^◌, ◌≤◌, ◌<◌}
 use native.Mathlib.Omega.{arith}
-use lib.IntN.{ℤ, pos, negsuc, ◌+ℤ◌, ◌-ℤ◌, ◌*ℤ◌, +ℤ_idr}
+use lib.IntN.{ℤ, pos, nat_abs, ◌+ℤ◌, ◌-ℤ◌, ◌*ℤ◌, +ℤ_idr}
 use lib.Signed.{quot_z}
 use mir.Syntax.{w64}
 use mir.Val.{SFits}
 use Rattle.laws.specs.Numbers.{pos_part, neg_part}
-use Rattle.laws.proofs.Signed.{add, sub, mul_up, mul_dn, quot_up, quot_dn, fits, same}
+use Rattle.laws.proofs.Signed.{add, sub, mul_up, mul_dn, quot_up, quot_dn, up_fits, dn_fits, abs, one_is_zero, fits, same}
 use Rattle.values.specs.declared.Kind.{Kind}
 use Rattle.values.specs.declared.Value.{Value}
 use Rattle.values.specs.Values.{over_dates, is_duration, is_value, Both, earlier}
 use Rattle.values.specs.Differences.{unit, nanoseconds, difference, whole_days}
-use Rattle.values.specs.Parts.{day, second, Of}
 use Rattle.values.proofs.Numbers.{bounded, not_below}
 use Rattle.values.proofs.Joining.{joint, Before, is_earlier, not_earlier, order}
 use Rattle.values.proofs.Values.{dates_no_duration, date_value, day_value, duration_value}
@@ -101,49 +101,27 @@ module _ (kind : Kind) (a b : Value) where
   unfolding difference
   durations_apart e = rw e (sym (apart_by a b 1000000000 (omega (arith, sub b.head a.head))))
 
--- ---- the parts of a difference
-module _ (kind : Kind) (a b : Value) (v : Both kind a b) where
-  pub days_of : is_duration kind ≡ false → Of kind a b (record {
-    heads = b.head -ℤ a.head;
-    tails = b.tail -ℤ a.tail;
-    unit = pos 86400000000000;
-    most = record { head = pos 106751; tail = pos 85636854775807 };
-    least = record { head = negsuc 106750; tail = negsuc 85636854775807 };
-  })
-  days_of e =
-      let n = days_near kind a b v e in
-      record {
-        sound = record {
-          known = day;
-          tails_up = n.tails_up;
-          tails_dn = n.tails_dn;
-          heads_up = omega arith;
-          heads_dn = omega arith;
-        };
-        unit_is = rw e;
-        sum_is = sym (days_apart kind a b e);
-      }
+  -- of either form
+  pub heads_and_tails : difference kind a b ≡ (b.head -ℤ a.head) *ℤ pos (unit kind) +ℤ (b.tail -ℤ a.tail)
+  heads_and_tails = go (is_duration kind) refl
+    where
+      go : (d : Bool) → is_duration kind ≡ d → difference kind a b ≡ (b.head -ℤ a.head) *ℤ pos (unit kind) +ℤ
+          (b.tail -ℤ a.tail)
+      go true e = rw e (durations_apart e)
+      go false e = rw e (days_apart e)
 
-  pub seconds_of : is_duration kind ≡ true → Of kind a b (record {
-    heads = b.head -ℤ a.head;
-    tails = b.tail -ℤ a.tail;
-    unit = pos 1000000000;
-    most = record { head = pos 9223372036; tail = pos 854775807 };
-    least = record { head = negsuc 9223372035; tail = negsuc 854775807 };
-  })
-  seconds_of e =
-      let n = durations_near kind a b v e in
-      record {
-        sound = record {
-          known = second;
-          tails_up = n.tails_up;
-          tails_dn = n.tails_dn;
-          heads_up = n.heads_up;
-          heads_dn = n.heads_dn;
-        };
-        unit_is = rw e;
-        sum_is = sym (durations_apart kind a b e);
-      }
+pub tails_few : (t u : ℤ) → SFits w64 t → SFits w64 u → nat_abs (u -ℤ t) < 2 ^ 64
+tails_few t u f g = elim (one_is_zero (u -ℤ t)) [
+  | inl e ↦ omega (arith, abs (u -ℤ t), sub u t, up_fits t f, dn_fits t f, up_fits u g, dn_fits u g)
+  | inr e ↦ omega (arith, abs (u -ℤ t), sub u t, up_fits t f, dn_fits t f, up_fits u g, dn_fits u g)
+]
+
+pub unit_range : (kind : Kind) → (4 ≤ unit kind) × (unit kind ≤ 86400000000000)
+unit_range kind = go (is_duration kind) refl
+  where
+    go : (d : Bool) → is_duration kind ≡ d → (4 ≤ unit kind) × (unit kind ≤ 86400000000000)
+    go true e = rw e (omega arith, omega arith)
+    go false e = rw e (omega arith, omega arith)
 
 -- ---- whole days of a duration: by whole seconds
 pub by_seconds : (x : ℤ) → quot_z (quot_z x (pos 1000000000)) (pos 86400) ≡ quot_z x (pos 86400000000000)
@@ -193,6 +171,16 @@ tail_range kind v e = go (is_duration kind) refl
     go false f = let x = day_value kind v e f in rw f (x.tail_dn, omega (arith, x.tail_most))
 
 module _ (kind : Kind) (a b : Value) (v : Both kind a b) where
+  -- tails are less than a head apart
+  pub tails_less : nat_abs (b.tail -ℤ a.tail) < unit kind
+  tails_less =
+      let (x, y) = tail_range kind a v.first in
+      let (z, w) = tail_range kind b v.second in
+      elim (one_is_zero (b.tail -ℤ a.tail)) [
+        | inl e ↦ omega (arith, abs (b.tail -ℤ a.tail), sub b.tail a.tail)
+        | inr e ↦ omega (arith, abs (b.tail -ℤ a.tail), sub b.tail a.tail)
+      ]
+
   ordered : (s : ℕ) → s ≤ 1 → Before a b s → neg_part (difference kind a b) + s ≤ pos_part (difference kind a b)
   unfolding difference
   ordered s l o =

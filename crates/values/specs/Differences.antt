@@ -1,6 +1,6 @@
 -- How far apart two values of a kind are, in exact nanoseconds: as a signed 64-bit number where it is one, and in whole
 -- days. Definitions only.
-use Rattle.std.specs.Prelude.{Bool, cond, Option, Some, None, ℕ, ℤ, pos, ◌+ℤ◌, ◌-ℤ◌, ◌*ℤ◌}
+use Rattle.std.specs.Prelude.{◌≡◌, Bool, cond, Option, Some, None, ℕ, ◌<◌, ℤ, pos, nat_abs, ◌+ℤ◌, ◌-ℤ◌, ◌*ℤ◌}
 use Rattle.std.specs.Int.Signed.{quot_z}
 use Rattle.laws.specs.Numbers.{minus, within}
 use Rattle.laws.specs.Units.{per_second, per_day, seconds_per_day}
@@ -33,6 +33,11 @@ nanoseconds_of d = cond (fits_i64 d) (Some d) None
 -- cut toward zero
 abbrev pub whole_days : ℤ → ℤ
 whole_days d = quot_z d (pos per_day)
+
+-- ---- heads and tails
+-- n is the whole heads of both together, cut toward zero, where the tails are less than a head
+abbrev pub Cut : ℤ → ℤ → ℤ → Type 0
+Cut heads tails n = (k : ℕ) → nat_abs tails < k → quot_z (heads *ℤ pos k +ℤ tails) (pos k) ≡ n
 
 -- ---- durations
 -- num_days(): the whole days of one, cut toward zero

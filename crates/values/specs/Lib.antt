@@ -1,4 +1,3 @@
 -- What the crate's contracts cite.
 pub mod Values
 pub mod Differences
-pub mod Parts

@@ -1,12 +1,9 @@
 // Values of an axis: which numbers are a value of a kind, the order of values, and how far apart two of them are.
-// Whether a difference fits a signed 64-bit number of nanoseconds is decided on heads and tails, before any product.
 #![tactic(auto)]
 
-ghost use Rattle.std.specs.Prelude.{◌≡◌};
-ghost use Rattle.std.specs.Int.Signed.{quot_z};
+ghost use Rattle.std.specs.Prelude.{◌≡◌, pos};
 ghost use Rattle.values.specs.Values.{kind_of, over_dates, is_duration, is_value, Both};
-ghost use Rattle.values.specs.Differences.{difference, nanoseconds_of, whole_days};
-ghost use Rattle.values.specs.Parts.{Bounded, TowardZero, Of, sum};
+ghost use Rattle.values.specs.Differences.{unit, difference, nanoseconds_of, whole_days, Cut};
 
 use asking::Refusal;
 
@@ -52,17 +49,6 @@ pub struct Value {
     pub tail: i64,
 }
 
-// A difference as heads and tails, of unit nanoseconds a head. So are the ends of the signed 64-bit numbers: most is
-// 2^63 - 1 nanoseconds, and least is -2^63, both cut toward zero.
-#[derive(Clone, Copy)]
-struct Parts {
-    heads: i64,
-    tails: i64,
-    unit: i64,
-    most: Value,
-    least: Value,
-}
-
 impl Kind {
     // Is the kind over dates?
     pub fn over_dates(self) -> bool
@@ -76,6 +62,17 @@ impl Kind {
         ensures { result ≡ is_duration self }
     {
         self == Kind::Span
+    }
+
+    // The nanoseconds of one of a value's head: of a second, or of a day.
+    fn unit(self) -> i64
+        ensures { result ≡ pos (unit self) }
+    {
+        if self.is_duration() {
+            1000000000
+        } else {
+            86400000000000
+        }
     }
 }
 
@@ -98,116 +95,26 @@ pub fn is_value(kind: Kind, v: Value) -> bool
     }
 }
 
-// The parts of the difference from a to b.
-fn split(kind: Kind, a: Value, b: Value) -> Parts
-    requires { Both kind a b }
-    ensures { Of kind a b result }
+// The whole heads, cut toward zero: where the tails go the other way than the heads, one head goes to them.
+fn toward_zero(heads: i64, tails: i64) -> i64
+    ensures { Cut heads tails result }
 {
-    let heads = b.head - a.head;
-    let tails = b.tail - a.tail;
-    if kind.is_duration() {
-        return Parts {
-            heads,
-            tails,
-            unit: 1000000000,
-            most: Value {
-                head: 9223372036,
-                tail: 854775807,
-            },
-            least: Value {
-                head: -9223372036,
-                tail: -854775808,
-            },
-        };
+    if (0 < heads) & (tails < 0) {
+        return heads - 1;
     }
-    Parts {
-        heads,
-        tails,
-        unit: 86400000000000,
-        most: Value {
-            head: 106751,
-            tail: 85636854775807,
-        },
-        least: Value {
-            head: -106751,
-            tail: -85636854775808,
-        },
+    if (heads < 0) & (0 < tails) {
+        return heads + 1;
     }
+    heads
 }
 
-// The parts cut toward zero: where the tails go the other way than the heads, one head goes to them.
-fn toward_zero(p: Parts) -> Value
-    requires { Bounded p }
-    ensures { TowardZero p.unit (sum p) result }
-{
-    if (0 < p.heads) & (p.tails < 0) {
-        return Value {
-            head: p.heads - 1,
-            tail: p.tails + p.unit,
-        };
-    }
-    if (p.heads < 0) & (0 < p.tails) {
-        return Value {
-            head: p.heads + 1,
-            tail: p.tails - p.unit,
-        };
-    }
-    Value {
-        head: p.heads,
-        tail: p.tails,
-    }
-}
-
-// The parts as one number: cut toward zero, they are compared with the ends before any product.
-fn far(p: Parts) -> Option<i64>
-    requires { Bounded p }
-    ensures { result ≡ nanoseconds_of (sum p) }
-{
-    let v = toward_zero(p);
-    if (v < p.least) | (p.most < v) {
-        return None;
-    }
-    Some(v.head * p.unit + v.tail)
-}
-
-// The same, quicker where there are fewer heads than in the ends: these fit with any tails.
-fn within(p: Parts) -> Option<i64>
-    requires { Bounded p }
-    ensures { result ≡ nanoseconds_of (sum p) }
-{
-    if (p.heads < p.most.head) && (p.least.head < p.heads) {
-        return Some(p.heads * p.unit + p.tails);
-    }
-    far(p)
-}
-
-// The same, quicker still where the heads are fewer than the days of the ends, as those of most charts are: they fit in either
-// unit.
-fn joined(p: Parts) -> Option<i64>
-    requires { Bounded p }
-    ensures { result ≡ nanoseconds_of (sum p) }
-{
-    if (p.heads < 106751) && (-106751 < p.heads) {
-        return Some(p.heads * p.unit + p.tails);
-    }
-    within(p)
-}
-
-// The whole heads, cut toward zero.
-fn whole(p: Parts) -> i64
-    requires { Bounded p }
-    ensures { result ≡ quot_z (sum p) p.unit }
-{
-    let v = toward_zero(p);
-    v.head
-}
-
-// From a to b, in nanoseconds.
+// From a to b, in nanoseconds. Heads that are further apart than 64 bits say are so in nanoseconds too, with any tails.
 pub fn nanoseconds_between(kind: Kind, a: Value, b: Value) -> Option<i64>
-    requires { Both kind a b }
     ensures { result ≡ nanoseconds_of (difference kind a b) }
 {
-    joined(split(kind, a, b))
+    let heads = b.head.checked_sub(a.head)?;
+    let tails = i128::from(b.tail) - i128::from(a.tail);
+    i64::try_from(i128::from(heads) * i128::from(kind.unit()) + tails).ok()
 }
 
 // From a to b, in whole days cut toward zero.
@@ -215,7 +122,7 @@ pub fn whole_days_between(kind: Kind, a: Value, b: Value) -> i64
     requires { Both kind a b }
     ensures { result ≡ whole_days (difference kind a b) }
 {
-    let n = whole(split(kind, a, b));
+    let n = toward_zero(b.head - a.head, b.tail - a.tail);
     if kind.is_duration() {
         return n / 86400;
     }

@@ -1,15 +1,10 @@
 -- `values::is_value` meets its contract. Assumes nothing.
 use borrow.Author.Rules.{rules}
-use mathlib.Core.Path.{◌≡◌, sym}
-use mathlib.Core.Logic.{◌⊎◌, inl, inr}
-use mathlib.Core.Bool.{true}
+use mathlib.Core.Path.{sym}
 use native.Mathlib.Omega.{arith}
 use lib.IntN.{pos}
 use mir.Facts.{to_z-of_z}
 use Rattle.laws.proofs.Signed.{count_fits}
-use Rattle.values.specs.declared.Kind.{Kind}
-use Rattle.values.specs.declared.Kind.TheVariants as kind
-use Rattle.values.specs.Values.{over_dates, over_date_times}
 use Rattle.values.proofs.Values.{InRange, in_dates, in_times, of_dates, of_date_times, of_durations}
 use Rattle.values.proofs.Order.{tested_equal}
 use Rattle.values.proofs.is_value.Goals as goal
