@@ -211,6 +211,14 @@ module _ (v : Value) (n : ℤ) (t : a_date_time v ≡ true) (f : SFits w64 n) wh
   left_is : rem_z nano (pos 86400000000000) ≡ pos (pos_part nano % 86400000000000)
   left_is = (from_0 nano nano_dn).1
 
+  -- a nanosecond of the day
+  pub left_in_day : within (pos 0) (rem_z nano (pos 86400000000000)) (pos 86399999999999) ≡ true
+  left_in_day = rw (
+    left_is,
+    is_le (pos 0) (pos (pos_part nano % 86400000000000)) (omega arith),
+    is_le (pos (pos_part nano % 86400000000000)) (pos 86399999999999) (omega arith),
+  )
+
   pub carry_fits : SFits w64 (quot_z nano (pos 86400000000000))
   carry_fits = quot_fits nano (pos 86400000000000) nano_fits refl
 

@@ -7,12 +7,13 @@ use mir.Syntax.{w64}
 use mir.Val.{SFits, to_z, of_z}
 use mir.Facts.{to_z-of_z}
 use Rattle.laws.proofs.Signed.{read_sub}
-use Rattle.values.specs.Differences.{nanoseconds}
 use Rattle.axis.specs.Axes.{span_of}
 use Rattle.axis.specs.Questions.{is_pixel, differ}
 use Rattle.axis.proofs.Questions.{unmap_parts}
 use Rattle.unmapping.specs.Unmapping.{moved_by, unmap_coord}
 use Rattle.unmapping.specs.Moves.{OnWidth, date_time_answer}
+use Rattle.unmapping.proofs.Moves.{start_value, start_is}
+use Rattle.axis.proofs.Axes.{both_ends}
 use Rattle.axis.proofs.PixelRanges.{limits_are, between_fits, between_few, width_some}
 use Rattle.unmapping.proofs.unmap_coord.Goals as goal
 use Rattle.unmapping.proofs.unmap_coord.Goals.{Start}
@@ -60,11 +61,15 @@ module _ (c : Start) where
       }
 
 pub invariant_of-o : goal.invariant_of-o
-invariant_of-o c = let s = (goal.at.invariant_of-o c).Start in record { on_width = rw (pixels_are s, width_is s) (on_width s) }
+invariant_of-o c = let s = (goal.at.invariant_of-o c).Start in record {
+  real = start_value c.args.a.kind c.args.a.start (both_ends c.args.a c.requires.real).first c.requires.dated;
+  on_width = rw (pixels_are s, width_is s) (on_width s);
+}
 
 pub returns : goal.returns
 unfolding unmap_coord date_time_answer
 returns c = let a = c.args.a in
     let s = (goal.at.returns c).Start in
-    c.date_time_at.ensures
-    ∙ (λ i. date_time_answer (nanoseconds a.kind a.start +ℤ moved_by (span_of a) (width_is s i) (pixels_are s i)))
+    c.over.ensures
+    ∙ (λ i. date_time_answer (start_is a.kind a.start c.requires.dated i
+    +ℤ moved_by (span_of a) (width_is s i) (pixels_are s i)))

@@ -1,4 +1,4 @@
--- `unmapping::days_away` meets its contract. Assumes nothing.
+-- `unmapping::Offset::days_away` meets its contract. Assumes nothing.
 use borrow.Author.Rules.{rules}
 use mathlib.Core.Path.{◌≡◌, ◌∙◌, ap}
 use mathlib.Core.Bool.{true}
@@ -12,17 +12,17 @@ use Rattle.calendar.specs.Questions.{is_day}
 use Rattle.values.proofs.Values.{InRange}
 use Rattle.unmapping.specs.Moves.{date_time_answer}
 use Rattle.unmapping.proofs.Moves.{at, saturated, days_sum}
-use Rattle.unmapping.proofs.days_away.Goals as goal
-use Rattle.unmapping.proofs.days_away.Goals.{Start}
+use Rattle.unmapping.proofs.Offset.days_away.Goals as goal
+use Rattle.unmapping.proofs.Offset.days_away.Goals.{Start}
 
-in_range_law : (c : Start) → InRange c.args.v
+in_range_law : (c : Start) → InRange c.args.self.from
 in_range_law c = search rules
 
 pub returns : goal.returns
-returns c = let v = c.args.v in
+returns c = let v = c.args.self.from in
     let r = in_range_law (goal.at.returns c).Start in
     let t : within (pos 0) v.tail (pos 86399999999999) ≡ true =
-    (both_true (is_day v.head) (within (pos 0) v.tail (pos 86399999999999)) c.requires).1 in
+    (both_true (is_day v.head) (within (pos 0) v.tail (pos 86399999999999)) c.args.self.real).1 in
     let s : c.saturating_add.result ≡ saturate_signed w64 (v.head +ℤ c.args.n) =
     rw (to_z-of_z r.head, to_z-of_z c.ranges.n) at c.saturating_add.ensures in
     let e : c.on_calendar.result ≡ date_time_answer (at v.tail c.saturating_add.result) =

@@ -1,11 +1,11 @@
--- `unmapping::product_fits` meets its contract. Assumes nothing.
+-- `unmapping::Offset::product_fits` meets its contract. Assumes nothing.
 use borrow.Author.Rules.{rules}
-use mathlib.Core.Path.{◌≡◌, refl, sym, ◌∙◌}
+use mathlib.Core.Path.{◌≡◌, refl, sym, ◌∙◌, ap}
 use mathlib.Core.Bool.{false}
 use lib.IntN.{pos}
 use lib.Signed.{quot_z, rem_z}
 use mir.Syntax.{w64}
-use mir.Val.{SFits}
+use mir.Val.{SFits, to_z}
 use mir.Facts.{to_z-of_z}
 use borrow.Author.Tests.{ne_eqb}
 use Rattle.laws.specs.Numbers.{is_number}
@@ -13,18 +13,27 @@ use Rattle.laws.proofs.Signed.{rem_fits, count_fits}
 use Rattle.values.proofs.Order.{tested_equal}
 use Rattle.unmapping.proofs.Moves.{quot_abs_fits}
 use native.Mathlib.Omega.{arith}
-use Rattle.unmapping.proofs.product_fits.Goals as goal
-use Rattle.unmapping.proofs.product_fits.Goals.{Start}
+use Rattle.unmapping.proofs.Offset.product_fits.Goals as goal
+use Rattle.unmapping.proofs.Offset.product_fits.Goals.{Start}
 
 module _ (c : Start) where
-  pixels_fit : SFits w64 c.args.o.pixels
+  pixels_fit : SFits w64 c.args.self.pixels
   pixels_fit = search rules
 
-  width_fits : SFits w64 c.args.o.width
+  width_fits : SFits w64 c.args.self.width
   width_fits = search rules
 
+pub returns-then-factor-eq0 : goal.returns-then-factor-eq0
+returns-then-factor-eq0 c = let o = c.args.self in
+    let s = c.args.s in
+    let w = to_z-of_z (width_fits (goal.at.returns-then-factor-eq0 c).Start) in
+    let q = quot_abs_fits s o.width c.ranges.s c.requires in
+    let h = rw (w, to_z-of_z c.ranges.s) at c.if-factor-eq0.true in
+    let z : quot_z s o.width ≡ pos 0 = sym (to_z-of_z q) ∙ ap (to_z w64) h in
+    rw z
+
 pub returns : goal.returns
-returns c = let o = c.args.o in
+returns c = let o = c.args.self in
     let s = c.args.s in
     let w = to_z-of_z (width_fits (goal.at.returns c).Start) in
     let q = quot_abs_fits s o.width c.ranges.s c.requires in

@@ -1,4 +1,4 @@
--- `unmapping::by_nanoseconds` meets its contract. Assumes nothing.
+-- `unmapping::Offset::by_nanoseconds` meets its contract. Assumes nothing.
 use borrow.Author.Rules.{rules}
 use mathlib.Core.Path.{◌≡◌}
 use lib.IntN.{ℤ, ◌+ℤ◌, ◌*ℤ◌}
@@ -9,21 +9,21 @@ use mir.Facts.{to_z-of_z}
 use Rattle.laws.proofs.Signed.{rem_fits}
 use Rattle.unmapping.specs.Moves.{OnWidth}
 use Rattle.unmapping.proofs.Moves.{quot_abs_fits, product_fits_law, rest_product_fits, quotient_fits, sum_fits, divisor}
-use Rattle.unmapping.proofs.by_nanoseconds.Goals as goal
-use Rattle.unmapping.proofs.by_nanoseconds.Goals.{Start}
+use Rattle.unmapping.proofs.Offset.by_nanoseconds.Goals as goal
+use Rattle.unmapping.proofs.Offset.by_nanoseconds.Goals.{Start}
 
 module _ (c : Start) where
   abbrev s : ℤ
   s = c.args.s
 
   abbrev w : ℤ
-  w = c.args.o.width
+  w = c.args.self.width
 
   abbrev o : ℤ
-  o = c.args.o.pixels
+  o = c.args.self.pixels
 
   abbrev on : OnWidth o w
-  on = c.args.o.on_width
+  on = c.args.self.on_width
 
   -- what the code has read
   pixels_is : to_z w64 (of_z w64 o) ≡ o
@@ -39,35 +39,35 @@ module _ (c : Start) where
   span_is = to_z-of_z c.ranges.s
 
   factor_is : to_z w64 (of_z w64 (quot_z s w)) ≡ quot_z s w
-  factor_is = to_z-of_z (quot_abs_fits s w c.ranges.s c.requires.1)
+  factor_is = to_z-of_z (quot_abs_fits s w c.ranges.s c.requires.0)
 
   rest_is : to_z w64 (of_z w64 (rem_z s w)) ≡ rem_z s w
   rest_is = to_z-of_z (rem_fits s w c.ranges.s)
 
   product_fits : SFits w64 (o *ℤ quot_z s w)
-  product_fits = product_fits_law s w o on.pixels_most on.width_most on.width_some c.requires.2
+  product_fits = product_fits_law s w o on.pixels_most on.width_most on.width_some c.requires.1
 
   rest_fits : SFits w64 (rem_z s w *ℤ o)
-  rest_fits = rest_product_fits s w o on.pixels_most on.width_most on.width_some c.requires.2
+  rest_fits = rest_product_fits s w o on.pixels_most on.width_most on.width_some c.requires.1
 
   more_fits : SFits w64 (quot_z (rem_z s w *ℤ o) w)
-  more_fits = quotient_fits s w o on.pixels_most on.width_most on.width_some c.requires.2
+  more_fits = quotient_fits s w o on.pixels_most on.width_most on.width_some c.requires.1
 
   all_fits : SFits w64 (o *ℤ quot_z s w +ℤ quot_z (rem_z s w *ℤ o) w)
-  all_fits = sum_fits s w o on.pixels_most on.width_most on.width_some c.requires.2
+  all_fits = sum_fits s w o on.pixels_most on.width_most on.width_some c.requires.1
 
-pub overflow_mul-o : goal.overflow_mul-o
-overflow_mul-o c = let p = (goal.at.overflow_mul-o c).Start in
+pub overflow_mul-n : goal.overflow_mul-n
+overflow_mul-n c = let p = (goal.at.overflow_mul-n c).Start in
     rw (pixels_is p, span_is p, width_is p, factor_is p) (product_fits p)
 
-pub nonzero_div-s-2 : goal.nonzero_div-s-2
-nonzero_div-s-2 c = let p = (goal.at.nonzero_div-s-2 c).Start in (
-  divisor (w p) (width_fits p) c.args.o.on_width.width_some,
+pub nonzero_div-n-2 : goal.nonzero_div-n-2
+nonzero_div-n-2 c = let p = (goal.at.nonzero_div-n-2 c).Start in (
+  divisor (w p) (width_fits p) c.args.self.on_width.width_some,
   rw (pixels_is p, span_is p, width_is p, rest_is p, to_z-of_z (rest_fits p)) (more_fits p),
 )
 
-pub overflow_add-o : goal.overflow_add-o
-overflow_add-o c = let p = (goal.at.overflow_add-o c).Start in
+pub overflow_add-n : goal.overflow_add-n
+overflow_add-n c = let p = (goal.at.overflow_add-n c).Start in
     rw (
       pixels_is p,
       span_is p,
