@@ -17,12 +17,12 @@ use Rattle.counting.specs.Counting.{Dated, from_day, to_day}
 use Rattle.counting.proofs.Counting.{from_range, to_range}
 use Rattle.period.specs.Ladders.{first_fit}
 use Rattle.period.proofs.Fits.{fit_above, fit_most, fit_room}
-use Rattle.steps.specs.Months.{first_day, InMonth, FromMonth}
+use Rattle.steps.specs.Months.{first_day, month_of, whole_month, InMonth, FromMonth}
 use Rattle.steps.specs.Progression.{fitting}
 use Rattle.steps.proofs.Months.{first_days, in_month, from_month_law}
 use Rattle.steps.proofs.Fitting.{few_steps}
 use Rattle.steps.proofs.Demand.{Kept}
-use Rattle.plans.specs.Months.{from_month, to_month, year_step, month_step}
+use Rattle.plans.specs.Months.{from_month, to_month, year_step, month_step, months_by, month_plan, year_plan}
 use Rattle.plans.proofs.Cases.{choose}
 
 -- ---- the months of the years 1 to 9999, and the one after them
@@ -93,7 +93,7 @@ months_kept m e n k w =
     let room : e + 1 - m ≤ (n + 1) * k = omega (arith, w.0, w.1) in
     record { stride = w.0; all = refl; few = few_steps (e + 1 - m) k n w.0 room }
 
--- what the plans of months and of years know: few months, and steps above 0
+-- ---- what the plans of months and of years know: few months, and steps above 0
 pub few_months : (a : Axis) → Dated a → to_month a - from_month a < 120000
 few_months a d = omega (arith, last_most a d)
 
@@ -103,4 +103,24 @@ month_above t n h = (month_wide t n h).0
 pub year_above : (t n : ℕ) → t < 120000 → 0 < year_step t n
 year_above t n h = (year_wide t n h).0
 
-pub ruleset steps_wide = (few_months, month_above, year_above)
+-- and the months that they list
+pub month_plan_is : (a : Axis) (n : ℕ) →
+    months_by (from_month a) (to_month a) (month_step (to_month a - from_month a) n) ≡ month_plan a n
+unfolding month_plan
+month_plan_is a n = refl
+
+pub year_plan_is : (a : Axis) (n : ℕ) →
+    months_by (from_month a) (to_month a) (year_step (to_month a - from_month a) n) ≡ year_plan a n
+unfolding year_plan
+year_plan_is a n = refl
+
+-- ---- what the months of an axis know
+pub from_month_is : (a : Axis) → whole_month (from_day a) ≡ from_month a
+unfolding from_month
+from_month_is a = refl
+
+pub to_month_is : (a : Axis) → month_of (to_day a) ≡ to_month a
+unfolding to_month
+to_month_is a = refl
+
+pub ruleset months_of_axis = (from_range, to_range, from_month_is, to_month_is)

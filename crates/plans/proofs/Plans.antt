@@ -1,17 +1,22 @@
 -- A property of the plan of an axis, by the plan that its kind has. Assumes nothing.
 use mathlib.Core.Path.{◌≡◌, refl}
 use mathlib.Core.Bool.{true, false}
-use Prim.Native.Nat.{ℕ}
+use Prim.Native.Nat.{ℕ, ◌≤◌}
+use native.Mathlib.Omega.{arith}
 use Rattle.values.specs.declared.Kind.{Kind}
 use Rattle.values.specs.declared.Kind.TheVariants as kind
 use Rattle.values.specs.Values.{over_dates, is_duration}
 use Rattle.axis.specs.declared.Axis.{Axis}
 use Rattle.axis.specs.Questions.{has_period}
+use Rattle.calendar.specs.Questions.{last_day}
+use Rattle.counting.specs.Counting.{Dated, from_day}
+use Rattle.counting.proofs.Counting.{date_from, starts}
 use Rattle.steps.specs.declared.Steps.{Steps}
 use Rattle.plans.specs.Days.{day_plan}
 use Rattle.plans.specs.Weeks.{week_plan}
 use Rattle.plans.specs.Months.{month_plan, year_plan}
 use Rattle.plans.specs.Plans.{period_plan, plan_of_kind, plan_of}
+use Rattle.plans.proofs.Months.{few_months, month_above, year_above, month_plan_is, year_plan_is}
 
 pub by_plan : (P : Steps → Type 0) (a : Axis) (n : ℕ) → (over_dates a.kind ≡ true → P (day_plan a n)) →
     (is_duration a.kind ≡ false → P (month_plan a n)) → (is_duration a.kind ≡ false → P (year_plan a n)) →
@@ -29,3 +34,10 @@ by_plan P a n days months years weeks period = go a.kind refl
     go kind.StampYear e = years (rw e)
     go kind.Span e = period (rw e) (rw e)
     go kind.Week e = weeks (rw e)
+
+-- the first day of an axis over dates is one of the calendar's
+pub day_known : (a : Axis) → Dated a → over_dates a.kind ≡ true → from_day a ≤ last_day
+day_known a d e = omega (arith, date_from a d.real e, (starts a d).head_most)
+
+-- what the plan of a kind knows
+pub ruleset by_kind = (day_known, few_months, month_above, year_above, month_plan_is, year_plan_is)

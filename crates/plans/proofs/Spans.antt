@@ -30,6 +30,11 @@ use Rattle.laws.proofs.Tests.{bit}
 use Rattle.period.specs.Periods.{period_of, power_of}
 use Rattle.period.proofs.Periods as period
 use Rattle.period.proofs.Periods.{any_step, Spaced, spaced}
+use Rattle.counting.proofs.Counting.{no_less}
+use Rattle.values.proofs.Fits.{value_is, answer_none, answer_some}
+use Rattle.values.proofs.Order.{same_is_equal}
+use Rattle.period.proofs.Fits.{fit_above, fit_most}
+use Rattle.plans.proofs.Times.{zero_value, from_zero}
 use Rattle.plans.specs.Times.{shift, period_in, Timed, first_second, seconds_left, Long}
 use Rattle.plans.specs.Plans.{Accepted}
 use Rattle.plans.proofs.Cases.{choose, by_test}
@@ -298,3 +303,15 @@ module _ (a : Axis) (l : Long a) where
   left_last =
       let b = bit (lt_z (pos 0) a.end.tail) in
       (omega arith, λ e. rw (is_ge (pos 0) a.end.tail (omega arith)) (omega arith))
+
+pub ruleset times_of_axis = (tail_range, shift_small, span_from_0, no_less, value_is, answer_some)
+
+pub ruleset shift_of_axis = (tail_range, start_seven, near_start, zero_value, from_zero, no_less, value_is, fits_yes)
+
+pub ruleset whole_seconds = (second_fits, later_fits, duration_value, same_is_equal)
+
+pub ruleset left_of_axis = (left_dn, left_fits, left_small, no_less)
+
+pub ruleset days_of_span = (start_seven, end_seven, total_dn, total_range, no_less, fit_above, fit_most)
+
+pub ruleset period_of_axis = (no_period, some_period, span_from_0, no_less, answer_none, answer_some)

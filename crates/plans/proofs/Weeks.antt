@@ -6,6 +6,8 @@ use native.Mathlib.Omega.{arith}
 use Rattle.steps.specs.Progression.{fitting}
 use Rattle.steps.proofs.Fitting.{few_steps}
 use Rattle.steps.proofs.Demand.{Kept}
+use Rattle.counting.proofs.Counting.{from_range, to_range}
+use Rattle.weeks.proofs.Mondays.{first_monday_law}
 use Rattle.plans.specs.Weeks.{week_step}
 
 -- n + 1 steps reach past c Mondays, and a step is at most c + 1 of them
@@ -31,3 +33,6 @@ module _ (f e n : ℕ) where
 
   pub weeks_kept : Kept stride (fitting (e + 1 - f) stride) n (e + 1 - f)
   weeks_kept = let (p, q, r) = week_wide in record { stride = p; all = refl; few = few_steps (e + 1 - f) stride n p q }
+
+-- what a plan of weeks knows
+pub ruleset weeks_of_axis = (from_range, to_range, first_monday_law, week_room)

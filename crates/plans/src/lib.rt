@@ -113,6 +113,7 @@ fn week_step(c: u64, n: u64) -> u64
 }
 
 // From the first Monday on, which may lie behind the last day.
+#[tactic(auto, using(crate::proofs::Weeks::weeks_of_axis), unfolding(crate::specs::Weeks::week_plan))]
 fn week_plan(d: DateAxis, n: u64) -> Steps
     requires { (from_day d.axis ≤ last_day) × (n ≤ 4096) }
     ensures { result ≡ week_plan d.axis n }
@@ -167,6 +168,7 @@ pub fn months_by(m: MonthRange, k: u64) -> Steps
     }
 }
 
+#[tactic(auto, using(crate::proofs::Months::months_of_axis))]
 pub fn months_on(d: DateAxis) -> MonthRange
     ensures { result ≡ record { first = from_month d.axis; last = to_month d.axis } }
 {
@@ -213,6 +215,7 @@ fn shift_of(z: i64, k: u64) -> u64
 }
 
 // From the start to the first tick.
+#[tactic(auto, using(crate::proofs::Spans::shift_of_axis), unfolding(crate::specs::Times::shift))]
 fn shift(a: Axis, k: u64) -> u64
     requires { Timed a k }
     ensures { result ≡ shift a k }
@@ -239,6 +242,7 @@ fn unit(kind: Kind) -> u64
 }
 
 // Ticks a period apart.
+#[tactic(auto, using(crate::proofs::Spans::times_of_axis), unfolding(crate::specs::Times::time_plan))]
 fn time_plan(a: Axis, k: u64) -> Steps
     requires { Timed a k }
     ensures { result ≡ time_plan a k }
@@ -267,6 +271,7 @@ fn days_in(v: Value) -> i64
 }
 
 // The first tick of whole days, in seconds.
+#[tactic(auto, using(crate::proofs::Spans::whole_seconds), unfolding(crate::specs::Times::first_second))]
 fn first_second(v: Value) -> i64
     requires { is_value Span v ≡ true }
     ensures { result ≡ first_second v }
@@ -280,6 +285,7 @@ fn first_second(v: Value) -> i64
 }
 
 // From the first tick to the end, which is left out.
+#[tactic(auto, using(crate::proofs::Spans::left_of_axis), unfolding(crate::specs::Times::seconds_left))]
 fn seconds_left(a: Axis, first: i64) -> u64
     requires { Long a × (first ≡ first_second a.start) }
     ensures { result ≡ seconds_left a }
@@ -289,6 +295,7 @@ fn seconds_left(a: Axis, first: i64) -> u64
 }
 
 // Whole days of a duration.
+#[tactic(auto, using(crate::proofs::Spans::days_of_span), unfolding(crate::specs::Times::span_days_plan))]
 fn span_days_plan(a: Axis, n: u64) -> Steps
     requires { Long a }
     ensures { result ≡ span_days_plan a n }
@@ -309,6 +316,7 @@ fn span_days_plan(a: Axis, n: u64) -> Steps
 
 impl Hinted {
     // The period of kinds 4 and 7, if there is one: else days are listed.
+    #[tactic(auto, using(crate::proofs::Spans::period_of_axis))]
     pub fn period(self) -> Option<u64>
         requires { 1 ≤ self.n }
         ensures { result ≡ period_in self.axis self.n }
@@ -328,6 +336,7 @@ impl Hinted {
     }
 
     // The plan of kinds 4 and 7: days where there is no period.
+    #[tactic(auto, using(crate::proofs::Spans::timed, crate::proofs::Spans::long), unfolding(crate::specs::Plans::period_plan))]
     fn period_plan(self) -> Steps
         requires { 1 ≤ self.n }
         ensures { result ≡ period_plan self.axis self.n }
@@ -340,7 +349,7 @@ impl Hinted {
     }
 
     // The plan of a kind.
-    #[tactic(auto, using(crate::proofs::Months::steps_wide))]
+    #[tactic(auto, using(crate::proofs::Plans::by_kind), unfolding(crate::specs::Plans::plan_of))]
     pub fn plan(self) -> Steps
         ensures { result ≡ plan_of self.axis self.n }
     {

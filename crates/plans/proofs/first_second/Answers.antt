@@ -32,11 +32,6 @@ same_test c =
     c.eq.ensures ∙ (same_is_equal c.args.v (record { head = h; tail = pos 0 })
     ∙ rw (product (goal.at.After-eq c).After-days_in-whole))
 
-pub overflow_mul-whole : goal.overflow_mul-whole
-overflow_mul-whole c =
-    rw (whole (goal.at.overflow_mul-whole c).After-days_in-whole)
-    (second_fits c.args.v (value (goal.at.overflow_mul-whole c).Start))
-
 pub returns-then-eq : goal.returns-then-eq
 unfolding first_second
 returns-then-eq c =

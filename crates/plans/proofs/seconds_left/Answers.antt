@@ -7,9 +7,8 @@ use mir.Syntax.{w64}
 use mir.Val.{SFits, to_z, of_z}
 use mir.Facts.{to_z-of_z}
 use Rattle.laws.specs.Numbers.{pos_part}
-use Rattle.counting.proofs.Counting.{no_less}
 use Rattle.plans.specs.Times.{first_second, seconds_left}
-use Rattle.plans.proofs.Spans.{left_dn, left_fits, left_small}
+use Rattle.plans.proofs.Spans.{left_fits}
 use Rattle.plans.proofs.seconds_left.Goals as goal
 use Rattle.plans.proofs.seconds_left.Goals.{After-as_count-whole, Start}
 
@@ -27,18 +26,6 @@ counted : (c : After-as_count-whole) → let a = c.args.a in
     c.as_count-whole.result ≡ pos_part (a.end.head -ℤ first_second a.start)
 counted c =
     c.as_count-whole.ensures ∙ rw (ends_at (goal.at.After-as_count-whole c).Start, to_z-of_z (left_fits c.args.a c.requires.0))
-
-pub overflow_sub-a : goal.overflow_sub-a
-overflow_sub-a c = rw (ends_at (goal.at.overflow_sub-a c).Start) (left_fits c.args.a c.requires.0)
-
-pub as_count-whole-requires : goal.as_count-whole-requires
-as_count-whole-requires c = let a = c.args.a in
-    rw (ends_at (goal.at.as_count-whole-requires c).Start, to_z-of_z (left_fits a c.requires.0))
-    (no_less (a.end.head -ℤ first_second a.start) (left_dn a c.requires.0))
-
-pub overflow_add-result : goal.overflow_add-result
-overflow_add-result c =
-    omega (arith, counted (goal.at.overflow_add-result c).After-as_count-whole, left_small c.args.a c.requires.0)
 
 pub returns-then-a-gt0 : goal.returns-then-a-gt0
 unfolding seconds_left

@@ -1,17 +1,15 @@
 -- `plans::span_days_plan` meets its contract. Assumes nothing.
 use borrow.Author.Rules.{rules}
 use mathlib.Core.Path.{◌≡◌, ◌∙◌}
-use native.Mathlib.Omega.{arith}
 use lib.IntN.{◌-ℤ◌}
 use mir.Syntax.{w64}
 use mir.Val.{to_z, of_z}
 use mir.Facts.{to_z-of_z}
 use Rattle.laws.specs.Numbers.{pos_part}
 use Rattle.counting.proofs.Counting.{no_less}
-use Rattle.period.proofs.Fits.{fit_above, fit_most}
 use Rattle.plans.specs.Times.{first_second, span_days_plan}
 use Rattle.values.specs.Differences.{days_in}
-use Rattle.plans.proofs.Spans.{start_seven, end_seven, total_dn, total_range}
+use Rattle.plans.proofs.Spans.{total_dn, total_range}
 use Rattle.plans.proofs.span_days_plan.Goals as goal
 use Rattle.plans.proofs.span_days_plan.Goals.{After-as_count, After-days_in-2, After-first_second-first}
 
@@ -34,38 +32,10 @@ counted : (c : After-as_count) → let a = c.args.a in
 counted c =
     c.as_count.ensures ∙ rw (between (goal.at.After-as_count c).After-days_in-2, to_z-of_z (total_range c.args.a c.requires).1)
 
-pub first_second-first-requires : goal.first_second-first-requires
-first_second-first-requires c = start_seven c.args.a c.requires.real c.requires.duration
-
-pub days_in-requires : goal.days_in-requires
-days_in-requires c = end_seven c.args.a c.requires.real c.requires.duration
-
-pub days_in-requires-2 : goal.days_in-requires-2
-days_in-requires-2 c = start_seven c.args.a c.requires.real c.requires.duration
-
-pub overflow_sub-d : goal.overflow_sub-d
-overflow_sub-d c = rw (between (goal.at.overflow_sub-d c).After-days_in-2) (total_range c.args.a c.requires).1
-
 pub as_count-requires : goal.as_count-requires
 as_count-requires c = let a = c.args.a in
     rw (between (goal.at.as_count-requires c).After-days_in-2, to_z-of_z (total_range a c.requires).1)
     (no_less (days_in a.end -ℤ days_in a.start) (total_dn a c.requires))
-
-pub overflow_mul-step : goal.overflow_mul-step
-overflow_mul-step c = omega (
-  arith,
-  c.first_fit-step.ensures,
-  fit_most c.as_count.result
-      c.args.n,
-)
-
-pub even_plan-requires : goal.even_plan-requires
-even_plan-requires c = omega (
-  arith,
-  c.first_fit-step.ensures,
-  fit_above c.as_count.result
-      c.args.n,
-)
 
 pub returns : goal.returns
 unfolding span_days_plan

@@ -9,13 +9,13 @@ use mir.Facts.{to_z-of_z}
 use Rattle.laws.specs.Numbers.{pos_part}
 use Rattle.values.specs.Values.{is_duration}
 use Rattle.values.specs.Differences.{fits_i64}
-use Rattle.values.proofs.Fits.{answer_none, answer_some}
+use Rattle.values.proofs.Fits.{answer_some}
 use Rattle.axis.specs.Axes.{span_of}
 use Rattle.axis.proofs.Axes.{span_from_0}
 use Rattle.counting.proofs.Counting.{no_less}
 use Rattle.period.specs.Periods.{period_of}
 use Rattle.plans.specs.Times.{period_in}
-use Rattle.plans.proofs.Spans.{no_period, some_period}
+use Rattle.plans.proofs.Spans.{some_period}
 use Rattle.plans.proofs.Hinted.period.Goals as goal
 use Rattle.plans.proofs.Hinted.period.Goals.{In_ok-span, After-compute_period_per_point}
 
@@ -36,10 +36,6 @@ asked c =
     ap (λ (k : ℕ). period_of k c.args.self.n (not c.is_duration-sub_daily.result)) counted
     ∙ ap (λ (b : Bool). period_of (pos_part (span_of a)) c.args.self.n (not b)) kind
     ∙ some_period a c.args.self.n f
-
-pub returns-in_err-span : goal.returns-in_err-span
-returns-in_err-span c = let a = c.args.self.axis in
-    search (rules, no_period a c.args.self.n (answer_none (span_of a) _ c.in_err-span.ensures refl))
 
 pub as_count-requires : goal.as_count-requires
 as_count-requires c = rw (span (goal.at.as_count-requires c).In_ok-span).1
