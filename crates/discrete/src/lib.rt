@@ -326,7 +326,7 @@ pub fn next(a: Axis, v: Value) -> Result<Option<Value>, Refusal>
     next_in(d, v)
 }
 
-// The value before a value.
+// The value before a value. A function for both would take the last call as a parameter, and its contract what that call gives.
 pub fn previous(a: Axis, v: Value) -> Result<Option<Value>, Refusal>
     ensures { result ≡ previous_answer a v }
 {

@@ -1,6 +1,8 @@
 -- `discrete::next` meets its contract. Assumes nothing.
 use borrow.Author.Rules.{rules}
 use mathlib.Core.Path.{◌≡◌, sym, ◌∙◌, ap}
+use mathlib.Core.Bool.{true}
+use Rattle.asking.specs.Asking.{passes}
 use Rattle.asking.proofs.Asked.{passed, refused}
 use Rattle.axis.specs.declared.Axis.{Axis}
 use Rattle.axis.specs.Axes.{closed}
@@ -8,6 +10,7 @@ use Rattle.axis.specs.Questions.{checked_if}
 use Rattle.discrete.specs.Answers.{value_questions, next_in, next_answer}
 use Rattle.discrete.proofs.Answers.{axis_asked, value_asked}
 use Rattle.discrete.proofs.next.Goals as goal
+use Rattle.discrete.proofs.next.Goals.{In_ok-d}
 
 pub returns-in_err-d : goal.returns-in_err-d
 unfolding next_answer
@@ -16,14 +19,16 @@ returns-in_err-d c = let x = c.args in
     (sym c.in_err-d.ensures) in
     search rules
 
+counts : (c : In_ok-d) → (passes (value_questions c.args.a c.args.v) ≡ true) × (c.in_ok-d.d.axis ≡ closed c.args.a)
+counts c = axis_asked (value_questions c.args.a c.args.v) (closed c.args.a) c.in_ok-d.d.axis c.in_ok-d.ensures
+
 pub next_in-requires : goal.next_in-requires
-next_in-requires c = let x = c.args in
-    let (pass, is) = axis_asked (value_questions x.a x.v) (closed x.a) c.in_ok-d.d.axis c.in_ok-d.ensures in
-    rw is (value_asked x.a x.v pass).1
+next_in-requires c = let (pass, is) = counts (goal.at.next_in-requires c).In_ok-d in
+    rw is (value_asked c.args.a c.args.v pass).1
 
 pub returns : goal.returns
 unfolding next_answer
 returns c = let x = c.args in
-    let (pass, is) = axis_asked (value_questions x.a x.v) (closed x.a) c.in_ok-d.d.axis c.in_ok-d.ensures in
+    let (pass, is) = counts (goal.at.returns c).In_ok-d in
     c.next_in.ensures ∙ ap (λ (b : Axis). checked_if (next_in b x.v)) is
     ∙ passed (value_questions x.a x.v) (checked_if (next_in (closed x.a) x.v)) pass

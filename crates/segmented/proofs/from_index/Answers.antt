@@ -1,11 +1,12 @@
 -- `segmented::from_index` meets its contract. Assumes nothing.
 use borrow.Author.Rules.{rules}
-use mathlib.Core.Path.{sym, ◌∙◌}
+use mathlib.Core.Path.{◌≡◌, sym, ◌∙◌}
+use mathlib.Core.Bool.{true}
 use mathlib.Core.List.{[], ◌∷◌}
 use mir.Facts.{to_z-of_z}
 use Rattle.laws.specs.Numbers.{pos_part}
 use Rattle.asking.specs.declared.Refusal.TheVariants as refusal
-use Rattle.asking.specs.Asking.{ask}
+use Rattle.asking.specs.Asking.{ask, passes}
 use Rattle.asking.proofs.Asked.{passed, refused, refused_first, passed_first}
 use Rattle.axis.specs.Axes.{closed}
 use Rattle.axis.specs.Questions.{is_index}
@@ -13,7 +14,7 @@ use Rattle.discrete.specs.Answers.{size_questions, index_questions}
 use Rattle.discrete.proofs.Answers.{Indexed, axis_asked, index_after}
 use Rattle.segmented.specs.Answers.{segment_at, segment_checked, segment_from_answer}
 use Rattle.segmented.proofs.from_index.Goals as goal
-use Rattle.segmented.proofs.from_index.Goals.{In_ok-k}
+use Rattle.segmented.proofs.from_index.Goals.{In_ok-d, In_ok-k}
 
 pub returns-in_err-d : goal.returns-in_err-d
 unfolding segment_from_answer
@@ -22,10 +23,13 @@ returns-in_err-d c = let x = c.args in
     (segment_checked (segment_at (closed x.a) (pos_part x.i))) c.in_err-d.field-0.0 (sym c.in_err-d.ensures) in
     search rules
 
+counts : (c : In_ok-d) → (passes (size_questions c.args.a) ≡ true) × (c.in_ok-d.d.axis ≡ closed c.args.a)
+counts c = axis_asked (size_questions c.args.a) (closed c.args.a) c.in_ok-d.d.axis c.in_ok-d.ensures
+
 pub returns-in_err-k : goal.returns-in_err-k
 unfolding segment_from_answer
 returns-in_err-k c = let x = c.args in
-    let (pass, is) = axis_asked (size_questions x.a) (closed x.a) c.in_ok-d.d.axis c.in_ok-d.ensures in
+    let (pass, is) = counts (goal.at.returns-in_err-k c).In_ok-d in
     let answer = segment_checked (segment_at (closed x.a) (pos_part x.i)) in
     let e = refused (ask refusal.Value (is_index x.i) ∷ []) (pos_part x.i) answer c.in_err-k.field-0.0
     (rw (to_z-of_z c.ranges.i) at (sym c.in_err-k.ensures))
@@ -34,7 +38,7 @@ returns-in_err-k c = let x = c.args in
 
 indexed : (c : In_ok-k) → Indexed c.args.a c.args.i c.in_ok-k.k
 indexed c = let x = c.args in
-    index_after x.a x.i c.in_ok-k.k (axis_asked (size_questions x.a) (closed x.a) c.in_ok-d.d.axis c.in_ok-d.ensures).0
+    index_after x.a x.i c.in_ok-k.k (counts (goal.at.In_ok-k c).In_ok-d).0
     (rw (to_z-of_z c.ranges.i) at c.in_ok-k.ensures)
 
 pub segment_at-requires : goal.segment_at-requires
@@ -44,7 +48,7 @@ pub returns : goal.returns
 unfolding segment_from_answer
 returns c = let x = c.args in
     let k = indexed (goal.at.returns c).In_ok-k in
-    let is = (axis_asked (size_questions x.a) (closed x.a) c.in_ok-d.d.axis c.in_ok-d.ensures).1 in
+    let is = (counts (goal.at.returns c).In_ok-d).1 in
     c.segment_at.ensures
     ∙ (λ j. segment_checked (segment_at (is j) (k.count j)))
     ∙ passed (index_questions x.a x.i) (segment_checked (segment_at (closed x.a) (pos_part x.i))) k.row
