@@ -34,7 +34,7 @@ fn list_rows(number: u64, a: Axis, l: Limits, list: &[i64], out: &mut Output)
             head: tick[0],
             tail: tick[1],
         };
-        let p = mapping::map_ready(m, a, l, v);
+        let p = mapping::map_ready(m, v);
         text_write::row(out, number, shown, a.kind, v, p);
     }
 }

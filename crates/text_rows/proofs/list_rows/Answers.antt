@@ -71,7 +71,8 @@ loop-tick-preserved c =
     let p = goal.at.loop-tick-preserved c in
     let i = length c.loop-tick.yielded in
     let n : length (c.loop-tick.yielded ++ (c.in-Some.tick ∷ [])) ≡ i + 1 = length-append c.loop-tick.yielded _ in
-    let pixel = rw (read p.After-v-in-loop-tick-1) at c.map_ready-p.ensures in
+    let mapped = c.map_ready-p.ensures c.args.a c.args.l c.prepare-m.ensures in
+    let pixel = rw (read p.After-v-in-loop-tick-1) at mapped in
     let row = rw (read p.After-v-in-loop-tick-1, pixel, c.shows_fractions-shown.ensures) at c.row.ensures in
     record {
       can_next = search rules;

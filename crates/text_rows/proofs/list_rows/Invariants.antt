@@ -9,5 +9,5 @@ abbrev pub invariant-loop-tick : goal.invariant-loop-tick
 invariant-loop-tick l = record {
   can_next : (goal.iterator-loop-tick).can_next l.tick-iterator;
   finite : (goal.iterator-loop-tick).is_finite l.tick-iterator;
-  wrote : Wrote (75 * length l.yielded) (ticks_text l.number l.a l.l l.list (length l.yielded)) l.initial.out l.out;
+  wrote : Wrote (75 * length l.yielded) (ticks_text l.number l.a l.fn.l l.list (length l.yielded)) l.initial.out l.out;
 }
