@@ -14,14 +14,10 @@ use Rattle.floats.specs.Rounding.{with_sign, half_up}
 use Rattle.floats.proofs.Values.{below_zero}
 use Rattle.floats.proofs.Quotients.{half_up_le, ratio_round}
 use Rattle.values.proofs.Numbers.{is_le}
-use Rattle.axis.specs.declared.Axis.{Axis}
 use Rattle.axis.specs.declared.Limits.{Limits}
 use Rattle.axis.specs.Questions.{is_pixel, pixels}
 use Rattle.axis.proofs.Questions.{pixel_range}
 use Rattle.axis.proofs.PixelRanges.{limits_are, between_few}
-use Rattle.mapping.specs.declared.Scale.{Scale}
-use Rattle.mapping.specs.Mapping.{scale_of, ScaleFor}
-use Rattle.mapping.proofs.Ranges.{scale_for}
 use Rattle.segmented.specs.Segments.{SomeSize, margin_of, inner}
 
 -- no further than W, and to its side
@@ -84,8 +80,3 @@ module _ (size : ℕ) (l : Limits) (s : SomeSize size) (p : pixels l ≡ true) w
       let (u, d) = back in
       let e : is_pixel z ≡ true = is_pixel_law z u d in
       rw (x, e)
-
--- the scale of a segmented axis, as the code has it
-pub inner_for : (a : Axis) (size : ℕ) (l : Limits) (s : Scale) → SomeSize size → pixels l ≡ true → s ≡ scale_of a (inner size l) →
-    ScaleFor a s
-inner_for a size l s some p e = scale_for a (inner size l) s e (inner_pixels size l some p)

@@ -8,7 +8,6 @@ ghost use Rattle.asking.specs.declared.Refusal.TheVariants as refusal;
 ghost use Rattle.calendar.specs.Questions.{last_day};
 ghost use Rattle.axis.specs.Axes.{closed};
 ghost use Rattle.axis.specs.Questions.{ends, pixels, value_on};
-ghost use Rattle.mapping.specs.Mapping.{scale_of};
 ghost use Rattle.segmented.specs.Segments.{segment_on, SegmentOn, segment_of, segments, segment_mappable, SomeSize};
 ghost use Rattle.segmented.specs.Segments.{margin_of, inner, half, even};
 ghost use Rattle.segmented.specs.Segments.{alone, between, beside, segment_worked, pixel_checked};
@@ -207,7 +206,8 @@ impl Segments {
 
     // The scale of all values.
     fn scale(self) -> Scale
-        ensures { result ≡ scale_of self.axis (inner self.size self.limits) }
+        ensures axis { result.axis ≡ self.axis }
+        ensures limits { result.limits ≡ inner self.size self.limits }
     {
         mapping::scale_of(self.axis, self.inner())
     }
@@ -218,9 +218,9 @@ impl Segments {
         ensures { result ≡ pixel_checked (segment_worked self.axis self.limits (SegmentValue.CenterOf v)) }
     {
         let s = self.scale();
-        let left = mapping::pixel_by(s, self.axis, v);
+        let left = s.pixel_by(v);
         match discrete::next_in(self.dates, v)? {
-            Some(w) => between(left, mapping::pixel_by(s, self.axis, w)),
+            Some(w) => between(left, s.pixel_by(w)),
             None => beside(left, self.margin_of()),
         }
     }
@@ -230,7 +230,7 @@ impl Segments {
         ensures { result ≡ pixel_checked (segment_worked self.axis self.limits v) }
     {
         match v {
-            SegmentValue::Exact(w) => alone(mapping::pixel_by(self.scale(), self.axis, w)),
+            SegmentValue::Exact(w) => alone(self.scale().pixel_by(w)),
             SegmentValue::CenterOf(w) => self.centre(w),
             SegmentValue::Last => Ok(Hairline {
                 pixel: self.limits.high,

@@ -9,34 +9,27 @@ use Rattle.std.proofs.lemmas.Result.{err_from_is_err_and}
 use Rattle.asking.specs.declared.Refusal.{Refusal}
 use Rattle.values.specs.declared.Value.{Value}
 use Rattle.axis.specs.declared.Axis.{Axis}
-use Rattle.axis.specs.declared.Limits.{Limits}
 use Rattle.axis.specs.Axes.{closed}
 use Rattle.axis.specs.Questions.{checked_if}
 use Rattle.mapping.specs.declared.Hairline.{Hairline}
-use Rattle.mapping.specs.Mapping.{limits_of, ScaleFor, hairline}
-use Rattle.mapping.proofs.Ranges.{limits_of_law}
+use Rattle.mapping.specs.Mapping.{hairline}
 use Rattle.counting.proofs.Counting.{value_on_law}
 use Rattle.discrete.specs.Answers.{next_in}
 use Rattle.discrete.proofs.Laws.{next_on}
 use Rattle.segmented.specs.declared.SegmentValue.TheVariants.{CenterOf}
 use Rattle.segmented.specs.Segments.{segments, margin_of, inner, beside, between, segment_worked, pixel_checked}
-use Rattle.segmented.proofs.Margins.{inner_for}
 use Rattle.segmented.proofs.Pixels.{onward, onward_is}
 use Rattle.segmented.proofs.Segments.centre.Goals as goal
 use Rattle.segmented.proofs.Segments.centre.Goals.{After-scale-s, After-next_in, After-pixel_by-left, Start}
 
--- the scale and its limits are those of the definition
-scaled : (c : After-scale-s) → ScaleFor c.args.self.axis c.scale-s.result
-scaled c = let x = c.args.self in inner_for x.axis x.size x.limits c.scale-s.result x.some x.page c.scale-s.ensures
-
-limits_is : (c : After-scale-s) → let x = c.args.self in
-    limits_of c.scale-s.result ≡ inner (segments x.axis) x.limits
-limits_is c = let x = c.args.self in
-    limits_of_law x.axis (inner x.size x.limits) c.scale-s.result c.scale-s.ensures
-    ∙ ap (λ (n : ℕ). inner n x.limits) x.sized
+-- the pixel of a value with the scale, whose axis and limits are those of the definition
+by_scale : (c : After-scale-s) (w : Value) → let x = c.args in
+    hairline c.scale-s.result.axis c.scale-s.result.limits w ≡ hairline x.self.axis (inner (segments x.self.axis) x.self.limits) w
+by_scale c w = let e = c.scale-s.ensures in
+    λ i. hairline (e.axis i) ((e.limits ∙ ap (λ (n : ℕ). inner n c.args.self.limits) c.args.self.sized) i) w
 
 pub pixel_by-left-requires : goal.pixel_by-left-requires
-pixel_by-left-requires c = (scaled (goal.at.pixel_by-left-requires c).After-scale-s, c.args.self.real, c.requires)
+pixel_by-left-requires c = rw c.scale-s.ensures.axis c.requires
 
 abbrev left : Start → Hairline
 left s = hairline s.args.self.axis (inner (segments s.args.self.axis) s.args.self.limits) s.args.v
@@ -44,8 +37,7 @@ left s = hairline s.args.self.axis (inner (segments s.args.self.axis) s.args.sel
 -- the pixel of v
 left_is : (c : After-pixel_by-left) → c.pixel_by-left.result ≡ left (goal.at.After-pixel_by-left c).Start
 left_is c = let x = c.args in
-    c.pixel_by-left.ensures ∙ ap (λ (y : Limits). hairline x.self.axis y x.v)
-    (limits_is (goal.at.After-pixel_by-left c).After-scale-s)
+    c.pixel_by-left.ensures ∙ by_scale (goal.at.After-pixel_by-left c).After-scale-s x.v
 
 pub next_in-requires : goal.next_in-requires
 next_in-requires c = rw c.args.self.counted (value_on_law c.args.self.axis c.args.v ∙ c.requires)
@@ -57,13 +49,11 @@ next_is c = let x = c.args in
 
 pub pixel_by-requires : goal.pixel_by-requires
 pixel_by-requires c = let w = c.in-Some.w in
-    let p = goal.at.pixel_by-requires c in (
-      scaled p.After-scale-s,
-      c.args.self.real,
-      sym (value_on_law c.args.self.axis w)
-          ∙ next_on (closed c.args.self.axis) c.args.v w (rw c.args.self.counted at c.args.self.dates.dated)
-          (sym (next_is p.After-next_in) ∙ c.in_ok-w.was ∙ ap Ok c.in-Some.is),
-    )
+    let p = goal.at.pixel_by-requires c in
+    rw c.scale-s.ensures.axis
+    (sym (value_on_law c.args.self.axis w)
+    ∙ next_on (closed c.args.self.axis) c.args.v w (rw c.args.self.counted at c.args.self.dates.dated)
+    (sym (next_is p.After-next_in) ∙ c.in_ok-w.was ∙ ap Ok c.in-Some.is))
 
 -- the answer, by what the code learnt of the next value
 by : (c : After-next_in) (n : Result (Option Value) Refusal) → c.next_in.result ≡ n → let x = c.args.self in
@@ -90,7 +80,7 @@ pub returns-in-Some : goal.returns-in-Some
 returns-in-Some c = let x = c.args in
     let p = goal.at.returns-in-Some c in
     let right : c.pixel_by.result ≡ hairline x.self.axis (inner (segments x.self.axis) x.self.limits) c.in-Some.w =
-    c.pixel_by.ensures ∙ ap (λ (y : Limits). hairline x.self.axis y c.in-Some.w) (limits_is p.After-scale-s) in
+    c.pixel_by.ensures ∙ by_scale p.After-scale-s c.in-Some.w in
     c.between.ensures
     ∙ (λ j. pixel_checked (between (left_is p.After-pixel_by-left j) (right j)))
     ∙ by p.After-next_in _ (c.in_ok-w.was ∙ ap Ok c.in-Some.is)

@@ -8,13 +8,10 @@ use mir.Syntax.{w64}
 use mir.Val.{SFits}
 use mir.Facts.{to_z-of_z}
 use Rattle.std.specs.Prelude.{Ok}
-use Rattle.axis.specs.declared.Limits.{Limits}
 use Rattle.mapping.specs.declared.Hairline.{Hairline}
 use Rattle.mapping.specs.Mapping.{hairline}
-use Rattle.mapping.proofs.Ranges.{limits_of_law}
 use Rattle.segmented.specs.declared.SegmentValue.{SegmentValue}
 use Rattle.segmented.specs.Segments.{SegmentOn, alone, inner, segment_worked, pixel_checked}
-use Rattle.segmented.proofs.Margins.{inner_for}
 use Rattle.segmented.proofs.Segments.segment_pixel.Goals as goal
 use Rattle.segmented.proofs.Segments.segment_pixel.Goals.{Start}
 
@@ -22,11 +19,7 @@ high_fits : (s : Start) → SFits w64 s.args.self.limits.high
 high_fits s = search rules
 
 pub pixel_by-requires : goal.pixel_by-requires
-pixel_by-requires c = let x = c.args.self in (
-  inner_for x.axis x.size x.limits c.scale.result x.some x.page c.scale.ensures,
-  x.real,
-  subst (λ (y : SegmentValue). SegmentOn x.axis y) c.in-Exact.is c.requires,
-)
+pixel_by-requires c = rw c.scale.ensures.axis (subst (λ (y : SegmentValue). SegmentOn c.args.self.axis y) c.in-Exact.is c.requires)
 
 pub returns-in-Exact : goal.returns-in-Exact
 unfolding segment_worked
@@ -34,9 +27,8 @@ returns-in-Exact c = let x = c.args.self in
     c.alone.ensures
     ∙ ap (λ (h : Hairline). pixel_checked (alone h))
     (c.pixel_by.ensures
-    ∙ ap (λ (y : Limits). hairline x.axis y c.in-Exact.w)
-    (limits_of_law x.axis (inner x.size x.limits) c.scale.result c.scale.ensures
-    ∙ ap (λ (m : ℕ). inner m x.limits) c.args.self.sized))
+    ∙ (λ i. hairline (c.scale.ensures.axis i)
+    ((c.scale.ensures.limits ∙ ap (λ (m : ℕ). inner m x.limits) c.args.self.sized) i) c.in-Exact.w))
     ∙ ap (λ (v : SegmentValue). pixel_checked (segment_worked x.axis x.limits v)) (sym c.in-Exact.is)
 
 pub returns-in-Last : goal.returns-in-Last
