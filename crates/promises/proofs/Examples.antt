@@ -64,7 +64,7 @@ first_centre : Holds rows.first_centre
 unfolding closed ieee.span ieee.climb ieee.size ieee.odd ieee.units ieee.round ieee.mul ieee.div ieee.of_int ieee.to_unsigned
     ieee.to_signed rounding.floor_f rounding.round_f rounding.quotient_of nanoseconds difference nanoseconds_of is_value
     earlier span_of offset_of asks.has_period asks.has_index asks.ends asks.in_order asks.excludable asks.pixels
-    asks.value_on asks.mappable asks.checked mapping.scale_of mapping.map_coord mapping.placed mapping.hairline count.monthly
+    asks.value_on asks.mappable asks.checked mapping.map_coord mapping.placed mapping.hairline count.monthly
     count.yearly count.weekly count.origin count.position count.size_of index.is_indexed index.index_of index.value_at
     discrete.next_in segments.segment_on segments.segment_of segments.segment_mappable segments.margin_of segments.inner
     segments.segment_worked segment_map_answer

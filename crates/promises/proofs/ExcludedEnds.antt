@@ -295,7 +295,7 @@ in_numbers k sh st eh et x = (changed k sh st eh et x day_earlier, changed k sh 
 -- ---- mapping goes to the end as written
 pub to_written_end : ToWrittenEnd
 unfolding is_value earlier span_of offset_of asks.ends asks.in_order asks.excludable asks.near_or_long asks.value_on
-    asks.mappable mapping.scale_of mapping.placed mapping.hairline mapping.mapped exact_at lost_at
+    asks.mappable mapping.placed mapping.hairline mapping.mapped exact_at lost_at
 to_written_end a l v =
     let w = to_written a in
     let p = mapping.placed a l v in
@@ -320,7 +320,7 @@ by_next a w b l left None p e = λ i. beside left (margin_of (size_of (e i)) l)
 
 -- a pixel does not look at whether the end is excluded
 same_pixel : (a : Axis) (m : Limits) (u : Value) → hairline a m u ≡ hairline (to_written a) m u
-unfolding span_of offset_of mapping.scale_of mapping.placed mapping.hairline exact_at lost_at
+unfolding span_of offset_of mapping.placed mapping.hairline exact_at lost_at
 same_pixel a m u = refl
 
 pub segments_mix : SegmentsMix
@@ -356,7 +356,7 @@ none_from_end a h d c i x e l = go (lt_z (last a).head t.head) refl
 pub days_share : AsManyPixels → ⊥
 unfolding closed ieee.span ieee.climb ieee.size ieee.odd ieee.units ieee.round ieee.mul ieee.div ieee.of_int ieee.to_signed
     rounding.quotient_of nanoseconds difference nanoseconds_of is_value earlier span_of offset_of asks.ends asks.in_order
-    asks.excludable asks.near_or_long asks.pixels asks.value_on asks.mappable mapping.scale_of mapping.map_coord
+    asks.excludable asks.near_or_long asks.pixels asks.value_on asks.mappable mapping.map_coord
     mapping.placed mapping.hairline mapping.mapped
 days_share f =
     let day : (i : ℤ) → within (pos 1) i (pos 2615) ≡ true → DayOf (before kind.Date 1 2616) i =
@@ -373,7 +373,7 @@ unfolding closed calendar.leap calendar.leap_day calendar.month_length calendar.
     calendar.day_number calendar.next_day calendar.days_later calendar.date_of ieee.span ieee.climb ieee.size ieee.odd
     ieee.units ieee.round ieee.mul ieee.div ieee.of_int ieee.to_unsigned ieee.to_signed rounding.round_f rounding.quotient_of
     nanoseconds difference nanoseconds_of is_value earlier span_of offset_of asks.has_period asks.has_index asks.ends
-    asks.in_order asks.excludable asks.near_or_long asks.bold_hint asks.pixels asks.value_on asks.mappable mapping.scale_of
+    asks.in_order asks.excludable asks.near_or_long asks.bold_hint asks.pixels asks.value_on asks.mappable
     mapping.map_coord mapping.placed mapping.hairline mapping.mapped counts.monthly counts.yearly counts.weekly
     counts.from_day counts.to_day counts.first_date counts.date_on counts.origin counts.position counts.size_of while
     months.start_of months.carried months.generate_key_points months.total_month months.months_from months.month_key_points

@@ -124,7 +124,7 @@ pub not_expected : NotExpected
 unfolding closed ieee.span ieee.climb ieee.size ieee.odd ieee.units ieee.round ieee.mul ieee.div ieee.of_int ieee.to_signed
     rounding.round_f rounding.quotient_of is_whole lost_in nanoseconds difference nanoseconds_of is_value earlier span_of
     offset_of asks.has_period asks.has_index asks.ends asks.in_order asks.excludable asks.near_or_long asks.pixels
-    asks.value_on asks.mappable asks.checked mapping.scale_of mapping.map_coord mapping.placed mapping.hairline
+    asks.value_on asks.mappable asks.checked mapping.map_coord mapping.placed mapping.hairline
     mapping.mapped exact_at lost_at cut_position count.monthly count.yearly count.weekly count.origin count.position
     count.size_of index.is_indexed index.index_of index.value_at discrete.next_in segments.segment_on segments.segment_of
     segments.segment_mappable segments.margin_of segments.inner segments.segment_worked segment_map_answer
@@ -141,7 +141,7 @@ pub hairlines_settled : AllHold hairline_table
 unfolding closed ieee.span ieee.climb ieee.size ieee.odd ieee.units ieee.round ieee.add ieee.mul ieee.div ieee.of_int
     ieee.to_signed rounding.round_f rounding.quotient_of is_whole lost_in nanoseconds difference nanoseconds_of is_value
     earlier span_of offset_of asks.has_period asks.has_index asks.ends asks.in_order asks.excludable asks.near_zero
-    asks.near_or_long asks.pixels asks.value_on asks.mappable asks.checked mapping.scale_of mapping.nudge mapping.map_coord
+    asks.near_or_long asks.pixels asks.value_on asks.mappable asks.checked mapping.nudge mapping.map_coord
     mapping.map_duration mapping.placed mapping.hairline mapping.mapped exact_at lost_at count.monthly count.yearly
     count.weekly count.origin count.position count.size_of index.is_indexed index.index_of index.value_at discrete.next_in
     segments.segment_on segments.segment_of segments.segment_mappable segments.margin_of segments.inner

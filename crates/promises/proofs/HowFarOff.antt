@@ -75,7 +75,7 @@ inside x y z = record { some_span = x; from_start = y; to_end = z }
 pub no_narrower : NoNarrower
 unfolding ieee.span ieee.climb ieee.size ieee.odd ieee.units ieee.round ieee.mul ieee.div ieee.of_int ieee.to_signed
     rounding.quotient_of nanoseconds difference nanoseconds_of is_value earlier span_of offset_of asks.ends asks.in_order
-    asks.excludable asks.near_or_long asks.pixels asks.value_on asks.mappable mapping.scale_of mapping.map_coord
+    asks.excludable asks.near_or_long asks.pixels asks.value_on asks.mappable mapping.map_coord
     mapping.placed mapping.hairline mapping.mapped cut_position
 no_narrower = record {
   always_cut = λ f.

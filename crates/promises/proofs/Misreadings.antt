@@ -37,7 +37,7 @@ pub no_inverse : UnmapInverts → ⊥
 unfolding closed ieee.span ieee.climb ieee.size ieee.odd ieee.units ieee.round ieee.mul ieee.div ieee.of_int ieee.to_unsigned
     ieee.to_signed rounding.floor_f rounding.quotient_of nanoseconds difference nanoseconds_of is_value earlier span_of
     offset_of asks.has_period asks.has_unmap asks.ends asks.in_order asks.excludable asks.near_or_long asks.pixels
-    asks.differ asks.unmap_pixels asks.value_on asks.mappable asks.checked mapping.scale_of mapping.map_coord mapping.placed
+    asks.differ asks.unmap_pixels asks.value_on asks.mappable asks.checked mapping.map_coord mapping.placed
     mapping.hairline mapping.mapped count.weekly count.monthly count.yearly count.from_day count.size_of index.value_at
     index.index_at index.index_under discrete.value_under discrete.unmap_answer two_days
 no_inverse f =
@@ -67,7 +67,7 @@ week_less_one = axis_from kind.Stamp (at_nano (midnight (pos 1)) 1) (midnight (p
 pub not_exact : AlwaysExact → ⊥
 unfolding ieee.span ieee.climb ieee.size ieee.odd ieee.units ieee.round ieee.mul ieee.div ieee.of_int ieee.to_signed
     rounding.quotient_of nanoseconds difference nanoseconds_of is_value earlier span_of offset_of asks.ends asks.in_order
-    asks.excludable asks.near_or_long asks.pixels asks.value_on asks.mappable mapping.scale_of mapping.map_coord
+    asks.excludable asks.near_or_long asks.pixels asks.value_on asks.mappable mapping.map_coord
     mapping.placed mapping.hairline mapping.mapped cut_position week_less_one
 not_exact f =
     let e : pos 14 ≡ pos 15 =

@@ -94,7 +94,7 @@ unfolding closed calendar.leap calendar.leap_day calendar.month_length calendar.
     ieee.to_unsigned ieee.to_signed rounding.floor_f rounding.ceil_f rounding.ceil_of rounding.round_f rounding.quotient_of
     nanoseconds difference nanoseconds_of is_value earlier span_of offset_of asks.has_unmap asks.has_index asks.has_period
     asks.ends asks.in_order asks.excludable asks.near_or_long asks.bold_hint asks.light_hint asks.pixels asks.differ
-    asks.unmap_pixels asks.value_on asks.mappable asks.checked asks.checked_if mapping.scale_of mapping.map_coord
+    asks.unmap_pixels asks.value_on asks.mappable asks.checked asks.checked_if mapping.map_coord
     mapping.placed mapping.hairline mapping.mapped exact_at lost_at is_whole lost_in count.monthly count.yearly count.weekly
     count.from_day count.to_day count.first_date count.date_on count.origin count.position count.size_of while
     mondays.mondays_from mondays.every_after mondays.least_from mondays.weeks_per_point mondays.mondays_on
