@@ -2,8 +2,9 @@
 // The crate ordered_c exports them to C.
 #![tactic(auto)]
 
-ghost use Rattle.std.specs.Prelude.{◌≡◌, ◌^◌, ◌<◌, length};
-ghost use Rattle.std.specs.Result.{result_unwrap_or};
+ghost use Rattle.std.specs.Prelude.{◌≡◌, ◌^◌, ◌<◌, length, List, ℤ, Err};
+ghost use Rattle.std.specs.Borrow.{MutBor};
+ghost use Rattle.std.specs.Result.{result_unwrap_or, ForOk, ForErr};
 ghost use Rattle.calendar.specs.Questions.{number_of, date_at};
 ghost use Rattle.weeks.specs.Questions.{week_day_number, week_date_at};
 ghost use Rattle.asking.specs.Asking.{and_then};
@@ -22,12 +23,12 @@ ghost use Rattle.ordered.specs.Replies.{after, table_first, ruled_call};
 
 use asking::Refusal;
 use axis::{Axis, BoldPoints, Hint, LightPoints, Limits};
-use calendar::Ymd;
+use calendar::{Date, Ymd};
 use discrete::Cursor;
 use mapping::Hairline;
 use segmented::{Segment, SegmentValue};
 use values::Value;
-use weeks::Ywd;
+use weeks::{WeekDate, Ywd};
 
 // A day number, count, size or index.
 #[repr(C)]
@@ -99,42 +100,89 @@ pub struct OrderedWeekDate {
     pub weekday: i64,
 }
 
-// Answers in C's numbers. No count, index or period is beyond 63 bits.
-fn number_reply(answer: Result<u64, Refusal>) -> OrderedNumber
-    requires { result_unwrap_or answer 0 < 2 ^ 63 }
-    ensures { result ≡ number_reply answer }
-{
-    index_reply(answer.map(Some))
-}
+// Answers in C's numbers. `From` asks nothing of an answer: a reply is promised where its numbers are below 2^63, as all are here.
+impl From<Result<u64, Refusal>> for OrderedNumber {
+    ghost from_gives = { λ answer reply. result_unwrap_or answer 0 < 2 ^ 63 → reply ≡ number_reply answer };
 
-fn index_reply(answer: Result<Option<u64>, Refusal>) -> OrderedNumber
-    requires { number_in answer < 2 ^ 63 }
-    ensures { result ≡ index_reply answer }
-{
-    match answer {
-        Ok(Some(n)) => OrderedNumber {
-            status: 0,
-            value: n as i64,
-        },
-        Ok(None) => OrderedNumber {
-            status: -1,
-            value: 0,
-        },
-        Err(q) => OrderedNumber {
-            status: i64::from(q),
-            value: 0,
-        },
+    fn from(answer: Result<u64, Refusal>) -> OrderedNumber {
+        OrderedNumber::from(answer.map(Some))
     }
 }
 
-fn period_reply(answer: Result<Option<u64>, Refusal>) -> OrderedPeriod
-    requires { number_in answer < 2 ^ 63 }
-    ensures { result ≡ period_reply answer }
-{
-    let reply = index_reply(answer);
-    OrderedPeriod {
-        status: reply.status,
-        nanoseconds: reply.value,
+impl From<Result<Option<u64>, Refusal>> for OrderedNumber {
+    ghost from_gives = { λ answer reply. number_in answer < 2 ^ 63 → reply ≡ index_reply answer };
+
+    fn from(answer: Result<Option<u64>, Refusal>) -> OrderedNumber {
+        match answer {
+            Ok(Some(n)) => OrderedNumber {
+                status: 0,
+                value: n.cast_signed(),
+            },
+            Ok(None) => OrderedNumber {
+                status: -1,
+                value: 0,
+            },
+            Err(q) => OrderedNumber {
+                status: i64::from(q),
+                value: 0,
+            },
+        }
+    }
+}
+
+impl From<Result<Option<u64>, Refusal>> for OrderedPeriod {
+    ghost from_gives = { λ answer reply. number_in answer < 2 ^ 63 → reply ≡ period_reply answer };
+
+    fn from(answer: Result<Option<u64>, Refusal>) -> OrderedPeriod {
+        let reply = OrderedNumber::from(answer);
+        OrderedPeriod {
+            status: reply.status,
+            nanoseconds: reply.value,
+        }
+    }
+}
+
+impl From<Result<Date, Refusal>> for OrderedDate {
+    ghost from_gives = { λ answer reply.
+        ForOk answer (λ t. (t.year < 2 ^ 63) × (t.month < 2 ^ 63) × (t.day < 2 ^ 63)) → reply ≡ date_reply answer };
+
+    fn from(answer: Result<Date, Refusal>) -> OrderedDate {
+        match answer {
+            Ok(t) => OrderedDate {
+                status: 0,
+                year: t.year.cast_signed(),
+                month: t.month.cast_signed(),
+                day: t.day.cast_signed(),
+            },
+            Err(q) => OrderedDate {
+                status: i64::from(q),
+                year: 0,
+                month: 0,
+                day: 0,
+            },
+        }
+    }
+}
+
+impl From<Result<WeekDate, Refusal>> for OrderedWeekDate {
+    ghost from_gives = { λ answer reply.
+        ForOk answer (λ t. (t.year < 2 ^ 63) × (t.week < 2 ^ 63) × (t.weekday < 2 ^ 63)) → reply ≡ week_reply answer };
+
+    fn from(answer: Result<WeekDate, Refusal>) -> OrderedWeekDate {
+        match answer {
+            Ok(t) => OrderedWeekDate {
+                status: 0,
+                year: t.year.cast_signed(),
+                week: t.week.cast_signed(),
+                weekday: t.weekday.cast_signed(),
+            },
+            Err(q) => OrderedWeekDate {
+                status: i64::from(q),
+                year: 0,
+                week: 0,
+                weekday: 0,
+            },
+        }
     }
 }
 
@@ -257,30 +305,20 @@ impl From<Result<Option<SegmentValue>, Refusal>> for OrderedSegment {
     }
 }
 
+// The calls. C's interface: it has no Axis, Hint, Value or Segment, so an axis is six numbers and `kind` and `segment` are numbers,
+// and two calls that differ in one function of the crates below each have a name and a contract.
+
 pub fn ordered_day_number(year: i64, month: i64, day: i64) -> OrderedNumber
     ensures { result ≡ number_reply (number_of (record { year = year; month = month; day = day })) }
 {
     let t = Ymd { year, month, day };
-    number_reply(calendar::number_of(t))
+    OrderedNumber::from(calendar::number_of(t))
 }
 
 pub fn ordered_date_of(day_number: i64) -> OrderedDate
     ensures { result ≡ date_reply (date_at day_number) }
 {
-    match calendar::date_at(day_number) {
-        Ok(t) => OrderedDate {
-            status: 0,
-            year: t.year as i64,
-            month: t.month as i64,
-            day: t.day as i64,
-        },
-        Err(q) => OrderedDate {
-            status: i64::from(q),
-            year: 0,
-            month: 0,
-            day: 0,
-        },
-    }
+    OrderedDate::from(calendar::date_at(day_number))
 }
 
 pub fn ordered_week_day_number(year: i64, week: i64, weekday: i64) -> OrderedNumber
@@ -291,26 +329,14 @@ pub fn ordered_week_day_number(year: i64, week: i64, weekday: i64) -> OrderedNum
         week,
         weekday,
     };
-    number_reply(weeks::week_day_number(t))
+    OrderedNumber::from(weeks::week_day_number(t))
 }
 
+// C's interface: the twin of ordered_date_of answers a struct with other names.
 pub fn ordered_week_date_of(day_number: i64) -> OrderedWeekDate
     ensures { result ≡ week_reply (week_date_at day_number) }
 {
-    match weeks::week_date_at(day_number) {
-        Ok(t) => OrderedWeekDate {
-            status: 0,
-            year: t.year as i64,
-            week: t.week as i64,
-            weekday: t.weekday as i64,
-        },
-        Err(q) => OrderedWeekDate {
-            status: i64::from(q),
-            year: 0,
-            week: 0,
-            weekday: 0,
-        },
-    }
+    OrderedWeekDate::from(weeks::week_date_at(day_number))
 }
 
 pub fn ordered_map(
@@ -346,27 +372,23 @@ pub fn ordered_map(
 fn count_ticks(axis: Result<Axis, Refusal>, h: Hint, lent_len: u64) -> OrderedNumber
     ensures { result ≡ number_reply (and_then axis (λ a. ticks_answer a h lent_len)) }
 {
-    number_reply(axis.and_then(|a| ticks::count(a, h, lent_len)))
+    OrderedNumber::from(axis.and_then(|a| ticks::count(a, h, lent_len)))
 }
 
-// A list has a match where a count has and_then: of what a closure writes nothing is known after the call.
-fn list_ticks(axis: Result<Axis, Refusal>, h: Hint, lent: &mut [i64]) -> OrderedNumber
-    ensures value { result ≡ number_reply (and_then axis (λ a. ticks_answer a h (length lent.old))) }
-    ensures after_call { lent.new ≡ after axis (λ a. ticks_written a h lent.old) lent.old }
+// Of what a closure captures and writes nothing is known after the call, so a list's closure is handed the lent numbers.
+fn list_on<F: FnOnce(Axis, &mut [i64]) -> Result<u64, Refusal>>(
+    axis: Result<Axis, Refusal>,
+    lent: &mut [i64],
+    list: F,
+) -> Result<u64, Refusal>
+    requires { F.IsAlwaysCallable list }
+    ensures listed { ForOk axis
+        (λ a. (p q : MutBor (List ℤ)) × (p.now ≡ lent.old) × F.post list a p result q × (q.now ≡ lent.new)) }
+    ensures refused { ForErr axis (λ q. (result ≡ Err q) × (lent.new ≡ lent.old)) }
 {
     match axis {
-        Ok(a) => number_reply(ticks::list(a, h, lent)),
-        Err(q) => number_reply(Err(q)),
-    }
-}
-
-fn list_segment_ticks(axis: Result<Axis, Refusal>, h: Hint, lent: &mut [i64]) -> OrderedNumber
-    ensures value { result ≡ number_reply (and_then axis (λ a. segment_ticks_answer a h (length lent.old))) }
-    ensures after_call { lent.new ≡ after axis (λ a. segment_ticks_written a h lent.old) lent.old }
-{
-    match axis {
-        Ok(a) => number_reply(segmented::list(a, h, lent)),
-        Err(q) => number_reply(Err(q)),
+        Ok(a) => list(a, lent),
+        Err(q) => Err(q),
     }
 }
 
@@ -395,8 +417,8 @@ pub fn ordered_ticks_bold(
         end_tail,
         end_excluded,
     );
-    let h = BoldPoints { n };
-    list_ticks(axis, Hint::Bold(h), lent)
+    let h = Hint::Bold(BoldPoints { n });
+    OrderedNumber::from(list_on(axis, lent, |a, d| ticks::list(a, h, d)))
 }
 
 pub fn ordered_count_bold(
@@ -451,8 +473,8 @@ pub fn ordered_ticks_light(
         end_tail,
         end_excluded,
     );
-    let h = LightPoints { bold, n };
-    list_ticks(axis, Hint::Light(h), lent)
+    let h = Hint::Light(LightPoints { bold, n });
+    OrderedNumber::from(list_on(axis, lent, |a, d| ticks::list(a, h, d)))
 }
 
 pub fn ordered_count_light(
@@ -485,7 +507,7 @@ pub fn ordered_count_light(
 pub fn ordered_rules(table: &[u8]) -> OrderedNumber
     ensures { result ≡ number_reply (rules_answer table.now) }
 {
-    number_reply(rules::count(table))
+    OrderedNumber::from(rules::count(table))
 }
 
 // House rules: the table is asked before question 1.
@@ -504,17 +526,15 @@ fn ask_table_first(axis: Result<Axis, Refusal>, table: &[u8]) -> Result<Axis, Re
 fn count_ruled(axis: Result<Axis, Refusal>, table: &[u8], lent_len: u64) -> OrderedNumber
     ensures { result ≡ number_reply (ruled_call table.now axis lent_len) }
 {
-    number_reply(ask_table_first(axis, table).and_then(|a| ruled::count(a, table, lent_len)))
+    OrderedNumber::from(ask_table_first(axis, table).and_then(|a| ruled::count(a, table, lent_len)))
 }
 
 fn list_ruled(axis: Result<Axis, Refusal>, table: &[u8], lent: &mut [i64]) -> OrderedNumber
     ensures value { result ≡ number_reply (ruled_call table.now axis (length lent.old)) }
     ensures after_call { lent.new ≡ after axis (λ a. ruled_written table.now a lent.old) lent.old }
 {
-    match ask_table_first(axis, table) {
-        Ok(a) => number_reply(ruled::list(a, table, lent)),
-        Err(q) => number_reply(Err(q)),
-    }
+    let asked = ask_table_first(axis, table);
+    OrderedNumber::from(list_on(asked, lent, |a, d| ruled::list(a, table, d)))
 }
 
 pub fn ordered_ticks_ruled(
@@ -590,7 +610,7 @@ pub fn ordered_period_per_point(
         end_excluded,
     );
     let h = BoldPoints { n };
-    period_reply(axis.and_then(|a| ticks::period_per_point(a, h)))
+    OrderedPeriod::from(axis.and_then(|a| ticks::period_per_point(a, h)))
 }
 
 pub fn ordered_unmap(
@@ -640,7 +660,7 @@ pub fn ordered_size(
         end_tail,
         end_excluded,
     );
-    number_reply(axis.and_then(discrete::size))
+    OrderedNumber::from(axis.and_then(discrete::size))
 }
 
 pub fn ordered_index_of(
@@ -666,7 +686,7 @@ pub fn ordered_index_of(
         end_excluded,
     );
     let v = Value { head, tail };
-    index_reply(axis.and_then(|a| discrete::index_of(a, v)))
+    OrderedNumber::from(axis.and_then(|a| discrete::index_of(a, v)))
 }
 
 pub fn ordered_from_index(
@@ -719,6 +739,7 @@ pub fn ordered_next(
     OrderedValue::from(axis.and_then(|a| discrete::next(a, v)))
 }
 
+// C's interface: the twin of ordered_next, by discrete::previous.
 pub fn ordered_previous(
     kind: i64,
     start_head: i64,
@@ -804,6 +825,7 @@ pub fn ordered_segment_map(
     OrderedPixel::from(axis.and_then(|a| segmented::map(a, l, s)))
 }
 
+// C's interface: the twin of ordered_ticks_bold, by segmented::list.
 pub fn ordered_segment_ticks_bold(
     kind: i64,
     start_head: i64,
@@ -829,10 +851,11 @@ pub fn ordered_segment_ticks_bold(
         end_tail,
         end_excluded,
     );
-    let h = BoldPoints { n };
-    list_segment_ticks(axis, Hint::Bold(h), lent)
+    let h = Hint::Bold(BoldPoints { n });
+    OrderedNumber::from(list_on(axis, lent, |a, d| segmented::list(a, h, d)))
 }
 
+// C's interface: the twin of ordered_ticks_light, by segmented::list.
 pub fn ordered_segment_ticks_light(
     kind: i64,
     start_head: i64,
@@ -859,10 +882,11 @@ pub fn ordered_segment_ticks_light(
         end_tail,
         end_excluded,
     );
-    let h = LightPoints { bold, n };
-    list_segment_ticks(axis, Hint::Light(h), lent)
+    let h = Hint::Light(LightPoints { bold, n });
+    OrderedNumber::from(list_on(axis, lent, |a, d| segmented::list(a, h, d)))
 }
 
+// C's interface: the twin of ordered_size, by segmented::size.
 pub fn ordered_segment_size(
     kind: i64,
     start_head: i64,
@@ -883,7 +907,7 @@ pub fn ordered_segment_size(
         end_tail,
         end_excluded,
     );
-    number_reply(axis.and_then(segmented::size))
+    OrderedNumber::from(axis.and_then(segmented::size))
 }
 
 pub fn ordered_segment_index_of(
@@ -914,9 +938,10 @@ pub fn ordered_segment_index_of(
         head,
         tail,
     };
-    index_reply(axis.and_then(|a| segmented::index_of(a, s)))
+    OrderedNumber::from(axis.and_then(|a| segmented::index_of(a, s)))
 }
 
+// C's interface: the twin of ordered_from_index, which answers a value of a segment.
 pub fn ordered_segment_from_index(
     kind: i64,
     start_head: i64,

@@ -90,6 +90,7 @@ pub fn ticks_light(
     )
 }
 
+// C's interface: the twin of ticks_bold, since each call of C has a function with its claim, and the claim is the same.
 pub fn segment_ticks_bold(
     kind: i64,
     start_head: i64,
@@ -117,6 +118,7 @@ pub fn segment_ticks_bold(
     )
 }
 
+// C's interface: the twin of ticks_light, as above.
 pub fn segment_ticks_light(
     kind: i64,
     start_head: i64,

@@ -7,7 +7,8 @@ use Rattle.ticks.specs.Answers.{ticks_answer}
 use Rattle.ordered.proofs.Counts.{number_on, ticks_most}
 use Rattle.ordered.proofs.count_ticks.Goals as goal
 
-pub number_reply-requires : goal.number_reply-requires
-number_reply-requires c = let x = c.args.axis in
+pub returns : goal.returns
+returns c = let x = c.args.axis in
     let e : c.and_then.result ≡ and_then x (λ a. ticks_answer a c.args.h c.args.lent_len) = search rules in
-    number_on x _ _ e (λ a n. ticks_most a c.args.h c.args.lent_len n (omega arith))
+    let said = c.from.ensures (number_on x _ _ e (λ a n. ticks_most a c.args.h c.args.lent_len n (omega arith))) in
+    search rules

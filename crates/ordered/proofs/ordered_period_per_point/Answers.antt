@@ -7,8 +7,9 @@ use Rattle.ticks.specs.Answers.{period_answer}
 use Rattle.ordered.proofs.Counts.{index_on, period_most}
 use Rattle.ordered.proofs.ordered_period_per_point.Goals as goal
 
-pub period_reply-requires : goal.period_reply-requires
-period_reply-requires c = let x = c.axis_of-axis.result in
+pub returns : goal.returns
+returns c = let x = c.axis_of-axis.result in
     let h : BoldPoints = record { n = c.args.n } in
     let e : c.and_then.result ≡ and_then x (λ a. period_answer a h) = search rules in
-    index_on x _ _ e (λ a n. period_most a h n)
+    let said = c.from.ensures (index_on x _ _ e (λ a n. period_most a h n)) in
+    search rules

@@ -9,8 +9,9 @@ use Rattle.segmented.proofs.Answers.{segment_index_range}
 use Rattle.ordered.proofs.Counts.{index_on}
 use Rattle.ordered.proofs.ordered_segment_index_of.Goals as goal
 
-pub index_reply-requires : goal.index_reply-requires
-index_reply-requires c = let x = c.axis_of-axis.result in
+pub returns : goal.returns
+returns c = let x = c.axis_of-axis.result in
     let s : Segment = record { case = c.args.segment; head = c.args.head; tail = c.args.tail } in
     let e : c.and_then.result ≡ and_then x (λ a. segment_index_answer a s) = search rules in
-    index_on x _ _ e (λ a n p. omega (arith, segment_index_range a s n p))
+    let said = c.from.ensures (index_on x _ _ e (λ a n p. omega (arith, segment_index_range a s n p))) in
+    search rules

@@ -8,7 +8,8 @@ use Rattle.discrete.proofs.Laws.{size_range}
 use Rattle.ordered.proofs.Counts.{number_on}
 use Rattle.ordered.proofs.ordered_size.Goals as goal
 
-pub number_reply-requires : goal.number_reply-requires
-number_reply-requires c = let x = c.axis_of-axis.result in
+pub returns : goal.returns
+returns c = let x = c.axis_of-axis.result in
     let e : c.and_then.result ≡ and_then x size_answer = search rules in
-    number_on x size_answer _ e (λ a n p. omega (arith, size_range a n p))
+    let said = c.from.ensures (number_on x size_answer _ e (λ a n p. omega (arith, size_range a n p))) in
+    search rules
