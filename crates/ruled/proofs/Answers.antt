@@ -114,3 +114,6 @@ module _ (table : List ℕ) (a : Axis) (d : List ℤ) where
       by_row (ruled_questions table a) (listed_of (ruled_on table a) (length d))
       (λ (b : Bool) (r : Result ℕ Refusal). length (cond b (lent_after (ruled_on table a) d) d) ≡ length d)
       (length_after (ruled_on table a) d) (λ _. refl)
+
+-- what listing knows of the plan
+pub ruleset listing = (made_sound, made_answer, made_written, refused_written)

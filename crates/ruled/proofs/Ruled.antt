@@ -122,3 +122,8 @@ ruled_sound unit.Month step a d h l = months_sound a d (from_month a) step (firs
 ruled_sound unit.Year step a d h l =
     let f = first_most a d in
     months_sound a d (january (from_month a)) (12 * step) (omega arith) (omega arith) (omega arith)
+
+-- what a plan of days knows of an axis, and one of months
+pub ruleset days_of_axis = (from_range, to_range)
+
+pub ruleset months_of_axis = (first_most, last_most)

@@ -15,6 +15,7 @@ use rules::{Row, Unit};
 use steps::{Heads, Steps};
 
 // Every step-th day from the first on; the last is included.
+#[tactic(auto, using(crate::proofs::Ruled::days_of_axis), unfolding(crate::specs::Plans::ruled_plan))]
 fn days_by(d: DateAxis, step: u64) -> Steps
     requires { 1 ≤ step }
     ensures { result ≡ ruled_plan unit.Day step d.axis }
@@ -41,6 +42,7 @@ fn from_january(m: MonthRange) -> MonthRange
 }
 
 // The plan of a row.
+#[tactic(auto, using(crate::proofs::Ruled::months_of_axis), unfolding(crate::specs::Plans::ruled_plan))]
 fn plan_by(d: DateAxis, w: Row) -> Steps
     requires { (1 ≤ w.step) × (w.step ≤ 1000) }
     ensures { result ≡ ruled_plan w.unit w.step d.axis }
@@ -53,6 +55,7 @@ fn plan_by(d: DateAxis, w: Row) -> Steps
 }
 
 // Question 2.
+#[tactic(auto, unfolding(crate::specs::Answers::has_rules))]
 fn has_rules(a: Axis) -> bool
     ensures { result ≡ has_rules a }
 {
@@ -80,6 +83,7 @@ fn plan(a: Axis, table: &[u8]) -> Result<Steps, Refusal>
 }
 
 // How many ticks the table gives, where lent_len numbers are lent.
+#[tactic(auto, using(crate::proofs::Answers::made_answer))]
 pub fn count(a: Axis, table: &[u8], lent_len: u64) -> Result<u64, Refusal>
     ensures { result ≡ ruled_answer table.now a lent_len }
 {
@@ -87,6 +91,7 @@ pub fn count(a: Axis, table: &[u8], lent_len: u64) -> Result<u64, Refusal>
 }
 
 // How many ticks the table gives, and the list at the front of the lent numbers.
+#[tactic(auto, using(crate::proofs::Answers::listing))]
 pub fn list(a: Axis, table: &[u8], lent: &mut [i64]) -> Result<u64, Refusal>
     ensures value { result ≡ ruled_answer table.now a (length lent.old) }
     ensures after_call { lent.new ≡ ruled_written table.now a lent.old }
