@@ -40,13 +40,15 @@ struct Ours {
 };
 
 Ours ours_of(int kind, const Request &r) {
-    ready_scale s = ready_scale_of({kind, r.start_head, r.start_tail, r.end_head, r.end_tail, INCLUDED}, {r.low, r.high});
-    return {{s.low, s.high},
-            {s.width, s.total},
-            s.fits,
-            s.span,
-            {kind, r.start_head, r.start_tail, r.end_head, r.end_tail, INCLUDED},
-            {r.head, r.tail}};
+    Ours o = {{r.low, r.high},
+              {},
+              false,
+              0,
+              {kind, r.start_head, r.start_tail, r.end_head, r.end_tail, INCLUDED},
+              {r.head, r.tail}};
+    const ready_scale s = ready_scale_of(o.axis, o.limits);
+    o.floats[0] = s.width, o.floats[1] = s.total, o.fits = s.fits, o.span = s.span;
+    return o;
 }
 
 Theirs theirs_of(int kind, const Request &r) {

@@ -5,14 +5,7 @@
 
 #include <cstdint>
 
-struct ready_axis {
-    int64_t kind, start_head, start_tail, end_head, end_tail, end_excluded;
-};
-struct ready_limits {
-    int64_t low, high;
-};
 struct ready_scale {
-    int64_t low, high;
     double width;
     bool fits;
     int64_t span;
@@ -20,9 +13,10 @@ struct ready_scale {
 };
 
 extern "C" {
-ready_scale ready_scale_of(ready_axis axis, ready_limits limits);
+// axis: its six numbers in order; limits: low, high.
+ready_scale ready_scale_of(const int64_t axis[6], const int64_t limits[2]);
 
-// limits: low, high; floats: width, total; fits and span: the scale's; axis and value: their numbers in order.
+// floats: width, total; fits and span: the scale's; value: its numbers in order.
 int64_t ready_map(const int64_t limits[2], const double floats[2], bool fits, int64_t span, const int64_t axis[6],
                   const int64_t value[2]);
 }
