@@ -8,7 +8,7 @@ use std::io;
 use std::io::Read;
 use std::rt::Env;
 use text_plate::State;
-use text_rows::Lent;
+use text_rows::Printer;
 use text_write::Output;
 
 // What failed, a read or a write, and why.
@@ -51,14 +51,14 @@ fn eat(
     rt: &impl Print,
     s: &mut State,
     chunk: &[u8],
-    lent: &mut Lent,
-    out: &mut Output,
+    printer: &mut Printer,
 ) -> Result<bool, Failure> {
     let mut rest = chunk;
+    // a while: how much of the chunk is read at once, only `turns` says
     while !rest.is_empty() {
-        out.clear();
-        let left = text_plate::turns(s, rest, lent, out);
-        print(rt, out.as_slice())?;
+        printer.out.clear();
+        let left = s.turns(rest, printer);
+        print(rt, printer.out.as_slice())?;
         let Some(r) = left else {
             return Ok(false);
         };
@@ -71,23 +71,26 @@ fn eat(
 fn run(rt: &(impl Input + Print)) -> Result<(), Failure> {
     let mut input = rt.reader();
     let mut buf = [0u8; 65536];
-    let mut lent: Lent = [0; 8194];
-    let mut out = Output::new();
+    let mut printer = Printer {
+        lent: [0; 8194],
+        out: Output::new(),
+    };
     let mut s = State {
         number: 0,
         line: Line::new(),
     };
+    // counted, since every loop is proved to end: so many chunks no input has
     for _ in 0..u64::MAX {
         let n = input.read(&mut buf).map_err(|error| Failure {
             what: "read",
             error,
         })?;
         if n == 0 {
-            out.clear();
-            text_plate::ended(&s, &mut out);
-            return print(rt, out.as_slice());
+            printer.out.clear();
+            s.ended(&mut printer.out);
+            return print(rt, printer.out.as_slice());
         }
-        if !eat(rt, &mut s, &buf[..n], &mut lent, &mut out)? {
+        if !eat(rt, &mut s, &buf[..n], &mut printer)? {
             break;
         }
     }

@@ -10,7 +10,7 @@ ghost use Rattle.text_plate.specs.Turns.{finished_text, goes_on, ended_text, Tur
 
 use asking::Refusal;
 use feed::Line;
-use text_rows::Lent;
+use text_rows::Printer;
 use text_write::Output;
 
 // The number of the line that was begun, 0 for the names line, and what is kept of it.
@@ -37,64 +37,61 @@ fn no_names(out: &mut Output)
 }
 
 // Writes what a finished line prints. Is more read after it?
-fn finished(number: u64, text: &[u8], lent: &mut Lent, out: &mut Output) -> bool
-    requires { Room 307275 out.old }
+fn finished(number: u64, text: &[u8], printer: &mut Printer) -> bool
+    requires { Room 307275 printer.old.out }
     ensures value { result ≡ goes_on number text.now }
-    ensures wrote { Wrote 307275 (finished_text number text.now) out.old out.new }
+    ensures wrote { Wrote 307275 (finished_text number text.now) printer.old.out printer.new.out }
 {
     if 0 < number {
-        text_rows::rows(number, text, lent, out);
+        printer.rows(number, text);
         return true;
     }
     let named = text_line::is_names(text);
     if named {
-        output_names(out);
+        output_names(&mut printer.out);
     } else {
-        no_names(out);
+        no_names(&mut printer.out);
     }
     named
 }
 
-// What the end of the input prints, where a line was begun and has no LF.
-pub fn ended(s: &State, out: &mut Output)
-    requires { Room 81 out.old }
-    ensures { Wrote 81 (ended_text s.now.number s.now.line.items) out.old out.new }
-{
-    if s.number == 0 {
-        no_names(out);
-    } else if !s.line.is_empty() {
-        text_write::refusal_row(out, s.number, Refusal::Table);
+impl State {
+    // What the end of the input prints, where a line was begun and has no LF.
+    pub fn ended(&self, out: &mut Output)
+        requires { Room 81 out.old }
+        ensures { Wrote 81 (ended_text self.now.number self.now.line.items) out.old out.new }
+    {
+        if self.number == 0 {
+            no_names(out);
+        } else if !self.line.is_empty() {
+            text_write::refusal_row(out, self.number, Refusal::Table);
+        }
     }
-}
 
-// A turn over a chunk: what is left of it, or none where nothing more is printed.
-fn turn<'a>(s: &mut State, chunk: &'a [u8], lent: &mut Lent, out: &mut Output) -> Option<&'a [u8]>
-    requires { Room 307275 out.old }
-    ensures { Turned s.old chunk.now (option_copied result) s.new out.old out.new }
-{
-    let Some(rest) = feed::feed(&mut s.line, chunk) else {
-        return Some(&[]);
-    };
-    let goes = finished(s.number, s.line.as_slice(), lent, out);
-    s.number = s.number.saturating_add(1);
-    s.line.clear();
-    goes.then_some(rest)
-}
-
-// Turns over a chunk, while some of it is left, there is more to print, and there is room for what a line prints. The loop
-// counts nothing: a turn says what is left.
-pub fn turns<'a>(
-    s: &mut State,
-    chunk: &'a [u8],
-    lent: &mut Lent,
-    out: &mut Output,
-) -> Option<&'a [u8]>
-    requires { Room 307275 out.old }
-    ensures { Turned s.old chunk.now (option_copied result) s.new out.old out.new }
-{
-    let mut rest = turn(s, chunk, lent, out)?;
-    while !rest.is_empty() && 307275 <= out.remaining_capacity() {
-        rest = turn(s, rest, lent, out)?;
+    // A turn over a chunk: what is left of it, or none where nothing more is printed.
+    fn turn<'a>(&mut self, chunk: &'a [u8], printer: &mut Printer) -> Option<&'a [u8]>
+        requires { Room 307275 printer.old.out }
+        ensures { Turned self.old chunk.now (option_copied result) self.new printer.old.out printer.new.out }
+    {
+        let Some(rest) = feed::feed(&mut self.line, chunk) else {
+            return Some(&[]);
+        };
+        let goes = finished(self.number, self.line.as_slice(), printer);
+        self.number = self.number.saturating_add(1);
+        self.line.clear();
+        goes.then_some(rest)
     }
-    Some(rest)
+
+    // Turns over a chunk, while some of it is left, there is more to print, and there is room for what a line prints.
+    pub fn turns<'a>(&mut self, chunk: &'a [u8], printer: &mut Printer) -> Option<&'a [u8]>
+        requires { Room 307275 printer.old.out }
+        ensures { Turned self.old chunk.now (option_copied result) self.new printer.old.out printer.new.out }
+    {
+        let mut rest = self.turn(chunk, printer)?;
+        // a while: a turn says what is left, and goes on only where there is room, so no iterator over the chunk gives it
+        while !rest.is_empty() && 307275 <= printer.out.remaining_capacity() {
+            rest = self.turn(rest, printer)?;
+        }
+        Some(rest)
+    }
 }

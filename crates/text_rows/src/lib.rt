@@ -11,15 +11,19 @@ use text_line::Request;
 use text_write::Output;
 use values::Value;
 
-// The numbers that are lent to a list: room for every list.
-pub type Lent = [i64; 8194];
+// What lines are printed with: the numbers that are lent to a list, with room for every list, and the output.
+#[derive(Drop)]
+pub struct Printer {
+    pub lent: [i64; 8194],
+    pub out: Output,
+}
 
 // Has some tick of a list a fraction of a second?
 fn shows_fractions(list: &[i64]) -> bool
     ensures { result ≡ shows_fractions list.now }
 {
     list.chunks_exact(2)
-        .any(|tick| text_write::pos_part(tick[1]) % 1000000000 != 0)
+        .any(|tick| tick[1].max(0) as u64 % 1000000000 != 0)
 }
 
 // A line for each tick of a list. What mapping asks of the axis and the limits, and their scale, is the same for all.
@@ -39,28 +43,30 @@ fn list_rows(number: u64, a: Axis, l: Limits, list: &[i64], out: &mut Output)
     }
 }
 
-// An empty part does not tell a refusal from a list without ticks, so the questions are asked first.
-fn request_rows(number: u64, q: Request, lent: &mut Lent, out: &mut Output)
-    requires { Room 307275 out.old }
-    ensures { Wrote 307275 (request_text number q) out.old out.new }
-{
-    let h = Hint::Bold(q.hint);
-    match ticks::ask_ticks(q.axis, h) {
-        Ok(()) => {
-            let list = ticks::key_points(q.axis, h, lent);
-            list_rows(number, q.axis, q.limits, list, out)
+impl Printer {
+    // An empty part does not tell a refusal from a list without ticks, so the questions are asked first.
+    fn request_rows(&mut self, number: u64, q: Request)
+        requires { Room 307275 self.old.out }
+        ensures { Wrote 307275 (request_text number q) self.old.out self.new.out }
+    {
+        let h = Hint::Bold(q.hint);
+        match ticks::ask_ticks(q.axis, h) {
+            Ok(()) => {
+                let list = ticks::key_points(q.axis, h, &mut self.lent);
+                list_rows(number, q.axis, q.limits, list, &mut self.out)
+            }
+            Err(refusal) => text_write::refusal_row(&mut self.out, number, refusal),
         }
-        Err(refusal) => text_write::refusal_row(out, number, refusal),
     }
-}
 
-// The answer to the line of that number.
-pub fn rows(number: u64, text: &[u8], lent: &mut Lent, out: &mut Output)
-    requires { Room 307275 out.old }
-    ensures { Wrote 307275 (rows_of number text.now) out.old out.new }
-{
-    match text_line::read_line(text) {
-        Some(q) => request_rows(number, q, lent, out),
-        None => text_write::refusal_row(out, number, Refusal::Table),
+    // The answer to the line of that number.
+    pub fn rows(&mut self, number: u64, text: &[u8])
+        requires { Room 307275 self.old.out }
+        ensures { Wrote 307275 (rows_of number text.now) self.old.out self.new.out }
+    {
+        match text_line::read_line(text) {
+            Some(q) => self.request_rows(number, q),
+            None => text_write::refusal_row(&mut self.out, number, Refusal::Table),
+        }
     }
 }

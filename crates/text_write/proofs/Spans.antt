@@ -34,6 +34,9 @@ module _ (shown : Bool) (v : Value) (value : is_value Span v ≡ true) where
   pub tail_most : pos_part v.tail < per_second
   tail_most = omega (arith, duration_value Span v value refl)
 
+  pub tail_up : nat_abs v.tail ≡ pos_part v.tail
+  tail_up = let r = duration_value Span v value refl in omega (arith, abs v.tail)
+
   pub from_zero : (s q : ℕ) → lt_z v.head (pos 0) ≡ false → s ≡ nat_abs v.head → q ≡ pos_part v.tail →
       decimal_text s ++ fraction_text shown q ≡ span_text shown t
   unfolding nanoseconds

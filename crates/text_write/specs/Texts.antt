@@ -58,10 +58,14 @@ time_text s = triple_text 2 colon_byte (s / 3600) (s / 60 % 60) (s % 60)
 abbrev pub fraction_text : Bool → ℕ → List ℕ
 fraction_text shown q = cond shown ((point_byte ∷ []) ++ fixed_text 9 q) []
 
--- YYYY-MM-DDThh:mm:ss of a day number and a nanosecond of the day, and the fraction of its second
+-- YYYY-MM-DDThh:mm:ss of a date and a nanosecond of its day, and the fraction of its second
+abbrev pub stamp_text : Bool → Date → ℕ → List ℕ
+stamp_text shown d nano =
+    ymd_text d ++ (t_byte ∷ []) ++ time_text (nano / per_second) ++ fraction_text shown (nano % per_second)
+
+-- of a day number and a nanosecond of the day
 abbrev pub date_time_text : Bool → ℕ → ℕ → List ℕ
-date_time_text shown n nano =
-    date_text n ++ (t_byte ∷ []) ++ time_text (nano / per_second) ++ fraction_text shown (nano % per_second)
+date_time_text shown n nano = stamp_text shown (date_of n) nano
 
 -- of a span's nanoseconds: a minus where they are below 0, then how far from 0 they are, in whole seconds and a fraction
 abbrev pub span_text : Bool → ℤ → List ℕ

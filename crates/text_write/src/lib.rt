@@ -1,18 +1,17 @@
 // Writers of plate's text behind what an output holds: numbers, dates, ticks, pixels and the lines of the output.
 #![tactic(auto)]
 
-ghost use Rattle.std.specs.Prelude.{◌≡◌, true, ◌+◌, ◌≤◌, pos};
-ghost use Rattle.laws.specs.Numbers.{pos_part};
-ghost use Rattle.calendar.specs.Questions.{last_day};
+ghost use Rattle.std.specs.Prelude.{◌≡◌, true, ◌+◌};
 ghost use Rattle.values.specs.declared.Kind.TheVariants.{Span};
 ghost use Rattle.values.specs.Values.{is_value};
 ghost use Rattle.values.specs.Differences.{nanoseconds};
 ghost use Rattle.text_write.specs.Texts.{Room, Wrote, fixed_text, up_to_text, decimal_text, signed_text};
-ghost use Rattle.text_write.specs.Texts.{triple_text, date_text, time_text, fraction_text, date_time_text, span_text};
+ghost use Rattle.text_write.specs.Texts.{triple_text, ymd_text, time_text, fraction_text, stamp_text, span_text};
 ghost use Rattle.text_write.specs.Rows.{tick_text, mark_text, row_text, refusal_text};
 
 use arrayvec::ArrayVec;
 use asking::Refusal;
+use calendar::Date;
 use mapping::Hairline;
 use values::{Kind, Value};
 
@@ -20,7 +19,8 @@ use values::{Kind, Value};
 // 225,335 bytes before it, so a chunk of short lines is printed at once.
 pub type Output = ArrayVec<u8, 532610>;
 
-// Digits by hand: of `write!` std promises what is written only where it answers Ok, and no Err is excluded.
+// Bytes by hand and no `Display`: std says of `write!`, even of a u64 to a writer that never fails, only what an Ok has written.
+// `out` and `shown` side by side: a struct of both borrows the output, so each clause would read through two references.
 // The last w digits of n.
 fn fixed(out: &mut Output, w: usize, n: u64)
     requires { Room w out.old }
@@ -76,11 +76,10 @@ fn triple(out: &mut Output, w: usize, sep: u8, a: u64, b: u64, c: u64)
 }
 
 // YYYY-MM-DD
-fn date(out: &mut Output, day: u64)
-    requires { ((1 ≤ day) × (day ≤ last_day)) × Room 10 out.old }
-    ensures { Wrote 10 (date_text day) out.old out.new }
+fn date(out: &mut Output, d: Date)
+    requires { Room 10 out.old }
+    ensures { Wrote 10 (ymd_text d) out.old out.new }
 {
-    let d = calendar::date_of(day);
     triple(out, 4, b'-', d.year, d.month, d.day)
 }
 
@@ -111,21 +110,14 @@ fn fraction(out: &mut Output, shown: bool, q: u64)
 }
 
 // YYYY-MM-DDThh:mm:ss and a fraction
-fn date_time(out: &mut Output, shown: bool, day: u64, nano: u64)
-    requires { ((1 ≤ day) × (day ≤ last_day)) × Room 29 out.old }
-    ensures { Wrote 29 (date_time_text shown day nano) out.old out.new }
+fn date_time(out: &mut Output, shown: bool, d: Date, nano: u64)
+    requires { Room 29 out.old }
+    ensures { Wrote 29 (stamp_text shown d nano) out.old out.new }
 {
-    date(out, day);
+    date(out, d);
     out.push(b'T');
     time(out, nano / 1000000000);
     fraction(out, shown, nano % 1000000000);
-}
-
-// How far above 0.
-pub fn pos_part(n: i64) -> u64
-    ensures { result ≡ pos_part n }
-{
-    n.max(0) as u64
 }
 
 // The sign, then the seconds and the fraction, both away from zero: the head is rounded down, so below zero a tail takes
@@ -135,7 +127,7 @@ fn span(out: &mut Output, shown: bool, v: Value)
     ensures { Wrote 31 (span_text shown (nanoseconds Span v)) out.old out.new }
 {
     let n = v.head.unsigned_abs();
-    let q = pos_part(v.tail);
+    let q = v.tail.unsigned_abs();
     let below = v.head < 0;
     if !below {
         decimal(out, n);
@@ -156,9 +148,13 @@ fn tick(out: &mut Output, shown: bool, kind: Kind, v: Value)
     ensures { Wrote 31 (tick_text shown kind v) out.old out.new }
 {
     match kind {
-        Kind::Date | Kind::Month | Kind::Year | Kind::Week => date(out, pos_part(v.head)),
+        Kind::Date | Kind::Month | Kind::Year | Kind::Week => {
+            let d = calendar::date_of(v.head.unsigned_abs());
+            date(out, d)
+        }
         Kind::Stamp | Kind::StampMonth | Kind::StampYear => {
-            date_time(out, shown, pos_part(v.head), pos_part(v.tail))
+            let d = calendar::date_of(v.head.unsigned_abs());
+            date_time(out, shown, d, v.tail.unsigned_abs())
         }
         Kind::Span => span(out, shown, v),
     }

@@ -14,30 +14,32 @@ use Rattle.laws.specs.Numbers.{pos_part}
 use Rattle.laws.specs.Units.{per_second}
 use Rattle.laws.proofs.Signed.{abs, lt_true}
 use Rattle.text_write.proofs.Writing.{byte, then, same_text}
-use Rattle.text_write.proofs.Spans.{tail_most, from_zero, below_zero}
+use Rattle.text_write.proofs.Spans.{tail_most, tail_up, from_zero, below_zero}
 use Rattle.text_write.proofs.span.Goals as goal
-use Rattle.text_write.proofs.span.Goals.{After-pos_part-q, After-push}
+use Rattle.text_write.proofs.span.Goals.{After-unsigned_abs-q, After-push}
 
 -- the two numbers that the code counts with
-seconds : (c : After-pos_part-q) → c.unsigned_abs-n.result ≡ nat_abs c.args.v.head
+seconds : (c : After-unsigned_abs-q) → c.unsigned_abs-n.result ≡ nat_abs c.args.v.head
 seconds c = let f : SFits w64 c.args.v.head = search rules in c.unsigned_abs-n.ensures.value ∙ ap nat_abs (to_z-of_z f)
 
-nanos : (c : After-pos_part-q) → c.pos_part-q.result ≡ pos_part c.args.v.tail
-nanos c = let f : SFits w64 c.args.v.tail = search rules in c.pos_part-q.ensures ∙ ap pos_part (to_z-of_z f)
+nanos : (c : After-unsigned_abs-q) → c.unsigned_abs-q.result ≡ pos_part c.args.v.tail
+nanos c =
+    let f : SFits w64 c.args.v.tail = search rules in
+    c.unsigned_abs-q.ensures.value ∙ ap nat_abs (to_z-of_z f) ∙ tail_up c.args.shown c.args.v c.requires.0
 
 below : (c : After-push) → lt_z c.args.v.head (pos 0) ≡ true
 below c = let f : SFits w64 c.args.v.head = search rules in rw (to_z-of_z f) at c.if-not-below.false
 
-few : (c : After-push) → (c.pos_part-q.result < per_second) × (0 < c.unsigned_abs-n.result)
+few : (c : After-push) → (c.unsigned_abs-q.result < per_second) × (0 < c.unsigned_abs-n.result)
 few c =
-    let p = (goal.at.After-push c).After-pos_part-q in (
+    let p = (goal.at.After-push c).After-unsigned_abs-q in (
       omega (arith, nanos p, tail_most c.args.shown c.args.v c.requires.0),
       omega (arith, seconds p, abs c.args.v.head, lt_true c.args.v.head (pos 0) (below c)),
     )
 
 pub returns-then-not-below : goal.returns-then-not-below
 returns-then-not-below c =
-    let p = (goal.at.returns-then-not-below c).After-pos_part-q in
+    let p = (goal.at.returns-then-not-below c).After-unsigned_abs-q in
     let f : SFits w64 c.args.v.head = search rules in
     same_text (from_zero c.args.shown c.args.v c.requires.0 _ _ (rw (to_z-of_z f) at c.if-not-below.true) (seconds p) (nanos p))
     (then _ c.decimal.ensures c.fraction.ensures (omega arith))
@@ -45,7 +47,7 @@ returns-then-not-below c =
 pub returns-then-q-eq0 : goal.returns-then-q-eq0
 returns-then-q-eq0 c =
     let b = (goal.at.returns-then-q-eq0 c).After-push in
-    let p = (goal.at.returns-then-q-eq0 c).After-pos_part-q in
+    let p = (goal.at.returns-then-q-eq0 c).After-unsigned_abs-q in
     let n = c.unsigned_abs-n.result in
     let h = then 21 (byte _ c.push.ensures.items) c.decimal-then-q-eq0.ensures (omega arith) in
     same_text
@@ -58,9 +60,9 @@ overflow_sub-q c = omega (arith, few (goal.at.overflow_sub-q c).After-push)
 pub returns : goal.returns
 returns c =
     let b = (goal.at.returns c).After-push in
-    let p = (goal.at.returns c).After-pos_part-q in
+    let p = (goal.at.returns c).After-unsigned_abs-q in
     let n = c.unsigned_abs-n.result - 1 in
-    let q = 1000000000 - c.pos_part-q.result in
+    let q = 1000000000 - c.unsigned_abs-q.result in
     let h = then 21 (byte _ c.push.ensures.items) c.decimal-2.ensures (omega arith) in
     same_text
     (below_zero c.args.shown c.args.v c.requires.0 n q (below b) (omega (arith, seconds p, nanos p, few b)) (omega arith))

@@ -1,27 +1,26 @@
 -- `text_write::tick` meets its contract: each arm is one of the definition's. Assumes nothing.
 use borrow.Author.Rules.{rules}
-use mathlib.Core.Path.{◌≡◌}
+use mathlib.Core.Path.{◌≡◌, sym, ◌∙◌, ap}
 use mathlib.Core.Bool.{true, false}
-use Prim.Native.Nat.{◌≤◌}
+use Prim.Native.Nat.{ℕ, ◌≤◌}
 use native.Mathlib.Omega.{arith}
+use lib.IntN.{ℤ, nat_abs}
 use mir.Syntax.{w64}
-use mir.Val.{SFits}
-use Rattle.laws.specs.Numbers.{pos_part}
-use Rattle.laws.proofs.Signed.{read_up}
-use Rattle.calendar.specs.Questions.{last_day}
-use Rattle.values.specs.declared.Kind.{Kind}
-use Rattle.values.specs.declared.Value.{Value}
-use Rattle.values.specs.Values.{is_duration, is_value}
+use mir.Val.{SFits, to_z, of_z}
+use mir.Facts.{to_z-of_z}
+use Rattle.laws.specs.Numbers.{pos_part, neg_part}
+use Rattle.laws.proofs.Signed.{abs}
+use Rattle.calendar.specs.Gregorian.{date_of}
 use Rattle.values.proofs.Values.{in_dates, in_times, dates_no_times, dates_no_duration, times_no_duration, day_value}
+use Rattle.text_write.specs.Texts.{stamp_text, ymd_text}
 use Rattle.text_write.specs.Rows.{tick_text}
-use Rattle.text_write.proofs.Writing.{within}
+use Rattle.text_write.proofs.Writing.{within, same_text}
 use Rattle.text_write.proofs.tick.Goals as goal
 use Rattle.text_write.proofs.tick.Goals.{Start}
 
--- the head of what has a date
-head_day : (kind : Kind) (v : Value) → is_value kind v ≡ true → is_duration kind ≡ false
-    → (1 ≤ pos_part v.head) × (pos_part v.head ≤ last_day)
-head_day kind v w n = let d = day_value kind v w n in omega arith
+-- a number that the code has, and that is not below zero
+up : {z : ℤ} {n : ℕ} → SFits w64 z → neg_part z ≡ 0 → n ≡ nat_abs (to_z w64 (of_z w64 z)) → n ≡ pos_part z
+up {z} f e h = h ∙ ap nat_abs (to_z-of_z f) ∙ omega (arith, abs z, e)
 
 head_fits : (c : Start) → SFits w64 c.args.v.head
 head_fits c = search rules
@@ -29,36 +28,37 @@ head_fits c = search rules
 tail_fits : (c : Start) → SFits w64 c.args.v.tail
 tail_fits c = search rules
 
-pub date-requires : goal.date-requires
-date-requires c = let d = in_dates c.args.kind c.in-Date.is in
-    let h = head_day _ _ c.requires.0 (dates_no_duration c.args.kind d) in
-    (omega (arith, c.pos_part.ensures, read_up (head_fits (goal.at.date-requires c).Start)), search rules)
+pub date_of-d-requires : goal.date_of-d-requires
+date_of-d-requires c =
+    let d = day_value _ _ c.requires.0 (dates_no_duration c.args.kind (in_dates c.args.kind c.in-Date.is)) in
+    let e = up (head_fits (goal.at.date_of-d-requires c).Start) d.head_dn c.unsigned_abs.ensures.value in
+    (omega (arith, e), omega (arith, e))
 
 pub returns-in-Date : goal.returns-in-Date
 unfolding tick_text
-returns-in-Date c = let d = in_dates c.args.kind c.in-Date.is in
-    rw (
-      dates_no_times c.args.kind d,
-      dates_no_duration c.args.kind d,
-      ← read_up (head_fits (goal.at.returns-in-Date c).Start),
-      ← c.pos_part.ensures,
-    ) (within (omega arith) c.date.ensures)
+returns-in-Date c =
+    let k = in_dates c.args.kind c.in-Date.is in
+    let n = dates_no_duration c.args.kind k in
+    let d = day_value _ _ c.requires.0 n in
+    let e = up (head_fits (goal.at.returns-in-Date c).Start) d.head_dn c.unsigned_abs.ensures.value in
+    rw (dates_no_times c.args.kind k, n)
+    (same_text (ap ymd_text (c.date_of-d.ensures ∙ ap date_of e)) (within (omega arith) c.date.ensures))
 
-pub date_time-requires : goal.date_time-requires
-date_time-requires c = let t = in_times c.args.kind c.in-Stamp.is in
-    let h = head_day _ _ c.requires.0 (times_no_duration c.args.kind t) in
-    (omega (arith, c.pos_part-in-Stamp.ensures, read_up (head_fits (goal.at.date_time-requires c).Start)), search rules)
+pub date_of-d-requires-in-Stamp : goal.date_of-d-requires-in-Stamp
+date_of-d-requires-in-Stamp c =
+    let d = day_value _ _ c.requires.0 (times_no_duration c.args.kind (in_times c.args.kind c.in-Stamp.is)) in
+    let e = up (head_fits (goal.at.date_of-d-requires-in-Stamp c).Start) d.head_dn c.unsigned_abs-in-Stamp.ensures.value in
+    (omega (arith, e), omega (arith, e))
 
 pub returns-in-Stamp : goal.returns-in-Stamp
 unfolding tick_text
-returns-in-Stamp c = let s = (goal.at.returns-in-Stamp c).Start in
-    rw (
-      in_times c.args.kind c.in-Stamp.is,
-      ← read_up (head_fits s),
-      ← c.pos_part-in-Stamp.ensures,
-      ← read_up (tail_fits s),
-      ← c.pos_part-in-Stamp-2.ensures,
-    ) (within (omega arith) c.date_time.ensures)
+returns-in-Stamp c =
+    let s = (goal.at.returns-in-Stamp c).Start in
+    let k = in_times c.args.kind c.in-Stamp.is in
+    let d = day_value _ _ c.requires.0 (times_no_duration c.args.kind k) in
+    let e = up (head_fits s) d.head_dn c.unsigned_abs-in-Stamp.ensures.value in
+    let t = up (tail_fits s) d.tail_dn c.unsigned_abs-in-Stamp-2.ensures.value in
+    rw (k, ← e, ← t, ← c.date_of-d-in-Stamp.ensures) (within (omega arith) c.date_time.ensures)
 
 pub returns-in-Span : goal.returns-in-Span
 unfolding tick_text

@@ -1,11 +1,11 @@
--- `text_plate::ended` meets its contract: each answer is one of the definition's. Assumes nothing.
+-- `text_plate::State::ended` meets its contract: each answer is one of the definition's. Assumes nothing.
 use native.Mathlib.Omega.{arith}
 use lib.ListN.{length}
 use mathlib.Core.Path.{◌≡◌}
 use Rattle.std.proofs.lemmas.Bool.Decides.{nat_tests}
 use Rattle.text_write.proofs.Writing.{within, nothing}
 use Rattle.text_plate.proofs.Lines.{ended_names, ended_none, ended_some}
-use Rattle.text_plate.proofs.ended.Goals as goal
+use Rattle.text_plate.proofs.State.ended.Goals as goal
 
 pub returns-then-s-eq0 : goal.returns-then-s-eq0
 returns-then-s-eq0 c = rw (ended_names _ _ c.if-s-eq0.true) c.no_names.ensures

@@ -1,4 +1,4 @@
--- `text_rows::request_rows` meets its contract: the refusal, or a line for each tick. Assumes nothing.
+-- `text_rows::Printer::request_rows` meets its contract: the refusal, or a line for each tick. Assumes nothing.
 use borrow.Author.Rules.{rules}
 use mathlib.Core.Path.{◌≡◌, sym, ◌∙◌, ap}
 use mathlib.Core.Bool.{true}
@@ -11,8 +11,8 @@ use Rattle.axis.specs.declared.Hint.TheVariants.{Bold}
 use Rattle.ticks.specs.Answers.{tick_questions, ticks_handed}
 use Rattle.text_write.proofs.Writing.{within}
 use Rattle.text_rows.proofs.Lists.{few, printable, request_refused, request_listed}
-use Rattle.text_rows.proofs.request_rows.Goals as goal
-use Rattle.text_rows.proofs.request_rows.Goals.{In-Ok, After-key_points-list}
+use Rattle.text_rows.proofs.Printer.request_rows.Goals as goal
+use Rattle.text_rows.proofs.Printer.request_rows.Goals.{In-Ok, After-key_points-list}
 
 none : (c : In-Ok) → passes (tick_questions c.args.q.axis (Bold c.args.q.hint)) ≡ true
 none c = all_pass (tick_questions c.args.q.axis (Bold c.args.q.hint)) _ (sym c.ask_ticks.ensures ∙ c.in-Ok.is)
@@ -20,7 +20,7 @@ none c = all_pass (tick_questions c.args.q.axis (Bold c.args.q.hint)) _ (sym c.a
 -- the part that is handed back, of 8,194 lent numbers
 handed : (c : After-key_points-list) → c.key_points-list.result.now ≡ ticks_handed c.args.q.axis (Bold c.args.q.hint) 8194
 handed c =
-    let size : length c.args.lent.now ≡ 8194 = search rules in
+    let size : length c.args.self.now.lent ≡ 8194 = search rules in
     c.key_points-list.ensures.value ∙ ap (λ (n : ℕ). ticks_handed c.args.q.axis (Bold c.args.q.hint) n) size
 
 pub list_rows-requires : goal.list_rows-requires

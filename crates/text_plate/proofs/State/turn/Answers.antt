@@ -1,4 +1,4 @@
--- `text_plate::turn` meets its contract: the chunk goes to the line that was begun, or finishes it. Assumes nothing.
+-- `text_plate::State::turn` meets its contract: the chunk goes to the line that was begun, or finishes it. Assumes nothing.
 use mathlib.Core.Path.{◌≡◌, refl}
 use mathlib.Core.Bool.{Bool, true, false, cond}
 use mathlib.Core.List.{List}
@@ -9,7 +9,7 @@ use Rattle.std.specs.Prelude.{Some, None}
 use Rattle.std.specs.Bool.{then_some}
 use Rattle.std.specs.Option.{option_copied}
 use Rattle.text_plate.proofs.Output.{turned_on, turned_end}
-use Rattle.text_plate.proofs.turn.Goals as goal
+use Rattle.text_plate.proofs.State.turn.Goals as goal
 
 copied : (g : Bool) (rest : Bor (List ℕ)) → option_copied (then_some g rest) ≡ cond g (Some rest.now) None
 copied true rest = refl
