@@ -7,15 +7,15 @@ use Rattle.text_write.proofs.Writing.{within, nothing}
 use Rattle.text_plate.proofs.Lines.{ended_names, ended_none, ended_some}
 use Rattle.text_plate.proofs.State.ended.Goals as goal
 
-pub returns-then-s-eq0 : goal.returns-then-s-eq0
-returns-then-s-eq0 c = rw (ended_names _ _ c.if-s-eq0.true) c.no_names.ensures
+pub returns-then-self-eq0 : goal.returns-then-self-eq0
+returns-then-self-eq0 c = rw (ended_names _ _ c.if-self-eq0.true) c.no_names.ensures
 
 pub returns-then-not-is_empty : goal.returns-then-not-is_empty
 returns-then-not-is_empty c =
-    let h : length c.args.s.now.line.items ≡ 0 → ⊥ = grind (arith, nat_tests) in
-    rw (ended_some _ _ c.if-s-eq0.false h) (within (omega arith) c.refusal_row.ensures)
+    let h : length c.args.self.now.line.items ≡ 0 → ⊥ = grind (arith, nat_tests) in
+    rw (ended_some _ _ c.if-self-eq0.false h) (within (omega arith) c.refusal_row.ensures)
 
 pub returns-else-not-is_empty : goal.returns-else-not-is_empty
 returns-else-not-is_empty c =
-    let h : length c.args.s.now.line.items ≡ 0 = grind (arith, nat_tests) in
-    rw (ended_none _ _ c.if-s-eq0.false h) (nothing _ _)
+    let h : length c.args.self.now.line.items ≡ 0 = grind (arith, nat_tests) in
+    rw (ended_none _ _ c.if-self-eq0.false h) (nothing _ _)

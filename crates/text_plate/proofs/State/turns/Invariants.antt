@@ -4,8 +4,8 @@ use Rattle.std.specs.Prelude.{Some}
 use Rattle.text_plate.specs.Turns.{Turned}
 use Rattle.text_plate.proofs.State.turns.Given as goal
 
-abbrev pub invariant-loop-out : goal.invariant-loop-out
-invariant-loop-out l = Turned l.fn.s l.chunk (Some l.rest) l.s l.fn.out l.out
+abbrev pub invariant-loop-printer : goal.invariant-loop-printer
+invariant-loop-printer l = Turned l.fn.self l.chunk (Some l.rest) l.self l.fn.printer.out l.printer.out
 
-abbrev pub decreases-loop-out : goal.decreases-loop-out
-decreases-loop-out l = length l.rest
+abbrev pub decreases-loop-printer : goal.decreases-loop-printer
+decreases-loop-printer l = length l.rest
