@@ -368,7 +368,7 @@ pub fn ordered_map(
     OrderedPixel::from(axis.and_then(|a| mapping::map(a, l, v)))
 }
 
-// Either hint: the count of ticks, and their list.
+// The count of ticks, with either hint.
 fn count_ticks(axis: Result<Axis, Refusal>, h: Hint, lent_len: u64) -> OrderedNumber
     ensures { result ≡ number_reply (and_then axis (λ a. ticks_answer a h lent_len)) }
 {

@@ -1,7 +1,7 @@
 -- `ordered::list_ruled` meets its contract. Assumes nothing.
 use mathlib.Core.Path.{◌≡◌, ◌∙◌, ap}
-use native.Mathlib.Omega.{arith}
 use mathlib.Core.List.{List}
+use native.Mathlib.Omega.{arith}
 use lib.IntN.{ℤ}
 use lib.ListN.{length}
 use Rattle.std.proofs.Common.{rules}
@@ -26,5 +26,4 @@ returns-clause-after_call c = let d = c.args.lent.now in
     let f : Axis → List ℤ = λ a. ruled_written c.args.table.now a d in
     let x = c.ask_table_first-asked.result in
     let e : c.list_on.new.lent ≡ after x f d = search rules in
-    e ∙ ap (λ y. after y f d) c.ask_table_first-asked.ensures
-    ∙ written c.args.table.now c.args.axis f d
+    e ∙ ap (λ y. after y f d) c.ask_table_first-asked.ensures ∙ written c.args.table.now c.args.axis f d
