@@ -15,11 +15,11 @@ use Rattle.laws.specs.Numbers.{pos_part, neg_part}
 use Rattle.laws.proofs.Signed.{one_is_zero, abs, add, fits, up_fits, dn_fits}
 use Rattle.values.specs.Differences.{fits_i64, nanoseconds_of}
 use Rattle.values.proofs.Joining.{joint}
-use Rattle.values.proofs.Numbers.{is_le, within_true, bounded}
+use Rattle.values.proofs.Numbers.{within_true, is_within, bounded}
 
 -- ---- by where the number lies
 pub fits_yes : (x : ℤ) → pos_part x ≤ 9223372036854775807 → neg_part x ≤ 9223372036854775808 → fits_i64 x ≡ true
-fits_yes x h l = rw (is_le (negsuc 9223372036854775807) x (omega arith), is_le x (pos 9223372036854775807) (omega arith))
+fits_yes x h l = search (arith, is_within)
 
 answer : (x : ℤ) (f : Bool) → fits_i64 x ≡ f → cond f (Some x) None ≡ nanoseconds_of x
 unfolding nanoseconds_of
