@@ -293,7 +293,8 @@ fn ask_unmap(a: Axis, l: Limits, p: i64) -> Result<(), Refusal>
     ask(Refusal::Limits, axis::unmap_pixels(l, p))
 }
 
-// The size of any axis.
+// The size of any axis. Called apart it takes 60 instructions more.
+#[inline(always)]
 pub fn size(a: Axis) -> Result<u64, Refusal>
     ensures { result ≡ size_answer a }
 {

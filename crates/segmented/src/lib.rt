@@ -204,7 +204,8 @@ impl Segments {
         }
     }
 
-    // The scale of all values.
+    // The scale of all values. Called apart it takes 20 instructions more.
+    #[inline(always)]
     fn scale(self) -> Scale
         ensures axis { result.axis ≡ self.axis }
         ensures limits { result.limits ≡ inner self.size self.limits }
