@@ -42,9 +42,9 @@ overflow_add-pixel c = let p = goal.at.overflow_add-pixel c in
     rw (to_z-of_z (low_fits p.Start), back p.After-to_i32-position) (fits p.Start)
 
 -- as the code reads it back
-pixel_is : (c : After-to_i32-position) →
-    to_z w64 (of_z w64 (to_z w64 (of_z w64 c.args.self.limits.low) +ℤ to_z w64 (of_z w64 (to_z w32 (of_z w32 c.to_i32-position.result)))))
-    ≡ c.args.self.limits.low +ℤ cut c.args.q.x
+pixel_is : (c : After-to_i32-position) → let l = c.args.self.limits in
+    to_z w64 (of_z w64 (to_z w64 (of_z w64 l.low) +ℤ to_z w64 (of_z w64 (to_z w32 (of_z w32 c.to_i32-position.result)))))
+    ≡ l.low +ℤ cut c.args.q.x
 pixel_is c = let p = (goal.at.After-to_i32-position c).Start in
     ap (λ (z : ℤ). to_z w64 (of_z w64 z)) (λ j. to_z-of_z (low_fits p) j +ℤ back c j) ∙ to_z-of_z (fits p)
 
@@ -63,8 +63,8 @@ width_fits : (c : Start) → SFits w64 (c.args.self.limits.high -ℤ c.args.self
 width_fits c = let (p, q) = limits_are c.args.self.limits c.args.self.ready.on_page in
     between_fits c.args.self.limits.high c.args.self.limits.low q p
 
-width_is : (c : Start) → to_z w64 (of_z w64 (to_z w64 (of_z w64 c.args.self.limits.high) -ℤ to_z w64 (of_z w64 c.args.self.limits.low)))
-    ≡ c.args.self.limits.high -ℤ c.args.self.limits.low
+width_is : (c : Start) → let l = c.args.self.limits in
+    to_z w64 (of_z w64 (to_z w64 (of_z w64 l.high) -ℤ to_z w64 (of_z w64 l.low))) ≡ l.high -ℤ l.low
 width_is c = read_sub c.args.self.limits.high c.args.self.limits.low (high_fits c) (low_fits c) (width_fits c)
 
 pub overflow_sub-l : goal.overflow_sub-l

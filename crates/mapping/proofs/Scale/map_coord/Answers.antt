@@ -17,29 +17,32 @@ use Rattle.laws.proofs.Tests.{and_false}
 
 pub returns-in_default : goal.returns-in_default
 returns-in_default c = let x = c.args in
+    let a = x.self.axis in
     let l = x.self.limits in
-    let far = ap (λ (b : Bool). b && fits_i64 (offset_of x.self.axis x.v)) (span_none x.self.ready c.in_default.is) in
+    let far = ap (λ (b : Bool). b && fits_i64 (offset_of a x.v)) (span_none x.self.ready c.in_default.is) in
     ap (hairline_from l) c.in_days.ensures
-    ∙ days_from x.self.axis l x.v _ far (days_of x.self.axis c.requires.0) x.self.ready.real c.requires.1
-    ∙ ap (hairline_at x.self.axis l x.v) (coord_far x.self.axis l x.v far)
+    ∙ days_from a l x.v _ far (days_of a c.requires.0) x.self.ready.real c.requires.1
+    ∙ ap (hairline_at a l x.v) (coord_far a l x.v far)
 
 pub returns-in-None : goal.returns-in-None
 returns-in-None c = let x = c.args in
+    let a = x.self.axis in
     let l = x.self.limits in
-    let none = answer_none (offset_of x.self.axis x.v) c.offset.result c.offset.ensures c.in-None.is in
-    let far = ap (λ (b : Bool). fits_i64 (span_of x.self.axis) && b) none ∙ and_false (fits_i64 (span_of x.self.axis)) in
+    let none = answer_none (offset_of a x.v) c.offset.result c.offset.ensures c.in-None.is in
+    let far = ap (λ (b : Bool). fits_i64 (span_of a) && b) none ∙ and_false (fits_i64 (span_of a)) in
     ap (hairline_from l) c.in_days-in-None.ensures
-    ∙ days_from x.self.axis l x.v _ far (days_of x.self.axis c.requires.0) x.self.ready.real c.requires.1
-    ∙ ap (hairline_at x.self.axis l x.v) (coord_far x.self.axis l x.v far)
+    ∙ days_from a l x.v _ far (days_of a c.requires.0) x.self.ready.real c.requires.1
+    ∙ ap (hairline_at a l x.v) (coord_far a l x.v far)
 
 pub returns-in-Some-offset : goal.returns-in-Some-offset
 returns-in-Some-offset c = let x = c.args in
+    let a = x.self.axis in
     let l = x.self.limits in
     let s = span_some x.self.ready c.in-Some.span c.in-Some.is in
-    let o = answer_some (offset_of x.self.axis x.v) c.offset.result c.offset.ensures c.in-Some-offset.offset c.in-Some-offset.is in
+    let o = answer_some (offset_of a x.v) c.offset.result c.offset.ensures c.in-Some-offset.offset c.in-Some-offset.is in
     let of : SFits w64 c.in-Some-offset.offset = search rules in
-    let near : in_nanoseconds x.self.axis x.v ≡ true = λ i. s.0 i && o.0 i in
+    let near : in_nanoseconds a x.v ≡ true = λ i. s.0 i && o.0 i in
     ap (hairline_from l) (c.in_nanos.ensures
     ∙ nanos_are x.self.ready x.v _ c.in-Some.span (to_z-of_z of ∙ o.1) s.1)
-    ∙ near_from x.self.axis l x.v _ near
-    ∙ ap (hairline_at x.self.axis l x.v) (coord_near x.self.axis l x.v near)
+    ∙ near_from a l x.v _ near
+    ∙ ap (hairline_at a l x.v) (coord_near a l x.v near)
