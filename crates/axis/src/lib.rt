@@ -17,6 +17,8 @@ use asking::{Refusal, ask};
 use calendar::LAST_DAY;
 use values::{Kind, Value};
 
+// A kind, and the values of its ends. It goes beside limits, a hint or a value, as plotters' methods take them: which of these is
+// the operation's, so that no two always go together.
 #[derive(Clone, Copy)]
 pub struct Axis {
     pub kind: Kind,
@@ -98,7 +100,8 @@ pub fn has_index(a: Axis) -> bool
     !has_period(a)
 }
 
-// Question 3.
+// Question 3. What asks for it has a clause: who calls has it of a question that passed, of a `DateAxis` or of a `Scale`, and a
+// type of its own would be made for the call alone.
 fn ends(a: Axis) -> bool
     ensures { result ≡ ends a }
 {

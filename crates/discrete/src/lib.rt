@@ -40,6 +40,7 @@ pub fn index_in(d: DateAxis, v: Value) -> Option<u64>
     p.at.checked_sub(p.from)
 }
 
+// Bounds of single numbers stay clauses, here and below: a type for each would be opened again in every formula.
 // Question 10 of a midnight.
 fn at_midnight(day: u64) -> Result<Value, Refusal>
     requires { 1 ≤ day }

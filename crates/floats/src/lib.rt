@@ -128,6 +128,7 @@ pub fn round_to_i32(x: f32) -> i32
     size.min(2147483647) as i32
 }
 
+// Bounds of single numbers stay clauses, here and below: a type for each would be opened again in every formula.
 // (n as f64 / d as f64).floor() as usize.
 pub fn floor_quotient(n: u64, d: u64) -> u64
     requires { (n < 2 ^ 53) × (0 < d) × (d ≤ 2 ^ 53) }

@@ -51,6 +51,7 @@ pub struct Period {
     pub tested: u64,
 }
 
+// Bounds of single numbers stay clauses, here and below: a type for each would be opened again in every formula.
 // The largest power of ten that goes into the span n times, or 1.
 fn largest_power(span: u64, n: u64) -> u64
     requires { 0 < n }

@@ -57,6 +57,7 @@ pub fn even_plan(e: Even) -> Steps
     }
 }
 
+// Bounds of single numbers stay clauses, here and below: a type for each would be opened again in every formula.
 // The weeks of a step, which no hint makes longer than all of them and one.
 #[tactic(auto, using(crate::proofs::Days::weeks_at_most), unfolding(floats::specs::Rounding::ceil_of))]
 fn weeks_per(w: u64, n: u64) -> u64

@@ -32,6 +32,7 @@ pub struct Steps {
     pub count: u64,
 }
 
+// Bounds of single numbers stay clauses, here and below: a type for each would be opened again in every formula.
 // The day number of the first day of a month.
 #[tactic(auto, using(calendar::proofs::Dates::a_first), unfolding(crate::specs::Months::first_day))]
 fn first_day(m: u64) -> u64

@@ -76,6 +76,7 @@ impl Kind {
     }
 }
 
+// A value goes beside its kind, which the ends and all values of an axis share: a value with a kind would be two of them.
 // Is v a value of the kind?
 pub fn is_value(kind: Kind, v: Value) -> bool
     ensures { result ≡ is_value kind v }

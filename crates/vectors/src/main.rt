@@ -65,7 +65,9 @@ fn agrees(row: &str) -> bool {
 fn read_full(input: &mut impl io::Read, buf: &mut [u8]) -> io::Result<usize>
     ensures { IfOk result (λ n. n ≤ length buf.new) }
 {
+    // a length beside the buffer: no heap, and std reads into a slice, which an ArrayVec has of its items alone
     let mut len: usize = 0;
+    // counted, since every loop is proved to end: so many reads no input has
     for _ in 0..u64::MAX {
         let n = input.read(&mut buf[len..])?;
         len += n;
