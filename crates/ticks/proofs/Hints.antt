@@ -32,6 +32,7 @@ use Rattle.axis.proofs.Questions as asks
 use Rattle.axis.proofs.Questions.{other_kind, bold_range, light_range}
 use Rattle.counting.specs.Counting.{counts_months, counts_years, monthly, yearly, size_of}
 use Rattle.counting.proofs.Counting.{monthly_dated, yearly_dated}
+use Rattle.counting.proofs.Counting.{no_less}
 use Rattle.plans.specs.Plans.{Accepted}
 use Rattle.plans.proofs.Cases.{choose}
 use Rattle.keypoints.specs.Hints.{limit, finer_kind, finer}
@@ -238,3 +239,8 @@ module _ (a : Axis) where
       let row = period_questions a h in
       let q = row_accepted a (has_period a) (hint_on a (Bold h)) h.n e (bold_range a h) in
       (q, q.some (period_no_dates a (told 2 row e)), (bold_range a h (told 6 row e)).none_below)
+
+-- what the code knows of the finer axis, and of the one that lists
+pub ruleset refining = (has_finer, none_finer, no_duration, stays_fine, stays_coarse, goes_finer)
+
+pub ruleset listing_hints = (accepted, count_of_points, light_counts, limit_is, listing_accepted, no_less)

@@ -32,6 +32,7 @@ fn finer_kind(kind: Kind) -> Option<Kind>
 }
 
 // The finer axis, if the size is at most twice the bold count.
+#[tactic(auto, using(crate::proofs::Hints::refining))]
 fn refined(bold: u64, q: Hinted) -> Hinted
     requires { bold ≤ 4096 }
     ensures { (result.axis ≡ refined bold q.axis) × (result.n ≡ q.n) }
@@ -68,6 +69,7 @@ fn points(h: Hint) -> i64
 }
 
 // The axis that lists, by N: with a light hint years may go to months, and these to dates or date-times.
+#[tactic(auto, using(crate::proofs::Hints::listing_hints))]
 fn axis_for(a: Axis, h: Hint) -> Hinted
     requires { passes (tick_questions a h) ≡ true }
     ensures { (result.axis ≡ axis_for a h) × (result.n ≡ limit h) }
