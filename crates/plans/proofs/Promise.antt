@@ -100,8 +100,8 @@ module _ (a : Axis) (n : ℕ) (r : Dated a) where
       let k : Kept s.step s.count n (d + 1) = rw z (days_kept d n (omega arith)) in
       let x : from_day a + 0 ≡ from_day a = omega arith in
       record {
-        sound = kept_even (whole_heads (pos (from_day a))) s n (d + 1) k (omega arith) (omega arith) (mag_of (pos (from_day a)) (2 ^ 60) (omega arith)
-            (omega arith))
+        sound = kept_even (whole_heads (pos (from_day a))) s n (d + 1) k (omega arith) (omega arith)
+            (mag_of (pos (from_day a)) (2 ^ 60) (omega arith) (omega arith))
             (rw (div-one (date_step d n)) (omega (arith, step_wide d n (omega arith))))
             (rw (div-one (0 + (d + 1))) (omega arith));
         fine = steps_fine s n (d + 1) d a.start a.end (omega arith) k (λ h. omega arith)
@@ -127,7 +127,8 @@ module _ (a : Axis) (n : ℕ) (r : Dated a) where
       let k : Kept s.step s.count n room = rw z (weeks_kept f e n) in
       let x : f + 0 ≡ f = omega arith in
       record {
-        sound = kept_even (whole_heads (pos f)) s n room k (omega arith) (omega arith) (mag_of (pos f) (2 ^ 60) (omega arith) (omega arith))
+        sound = kept_even (whole_heads (pos f)) s n room k (omega arith) (omega arith)
+            (mag_of (pos f) (2 ^ 60) (omega arith) (omega arith))
             (rw (div-one s.step) (omega (arith, week_wide f e n)))
             (rw (div-one (0 + room)) (omega arith));
         fine = elim (dec_le f e) [
@@ -369,7 +370,8 @@ module _ (a : Axis) (n : ℕ) (l : Long a) where
       let (last, even) = left_last a l in
       let end-at : left - 1 ≤ pos_part (a.end.head -ℤ seconds) = omega arith in
       record {
-        sound = kept_even (whole_heads seconds) s n left h (omega arith) (omega arith) (mag_of seconds (2 ^ 60) (omega arith) (omega arith))
+        sound = kept_even (whole_heads seconds) s n left h (omega arith) (omega arith)
+            (mag_of seconds (2 ^ 60) (omega arith) (omega arith))
             (rw (div-one stride) (omega (arith, fit_most total n)))
             (rw (div-one (0 + left)) (omega (arith, left_small a l)));
         fine = steps_fine s n left (left - 1) a.start a.end (omega arith) h (λ g. omega arith)

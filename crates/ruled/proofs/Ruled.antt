@@ -106,7 +106,8 @@ module _ (a : Axis) (d : Dated a) where
       let (p, q) = from_range a d in
       let (r, t) = to_range a d in
       let room = to_day a + 1 - from_day a - 0 in
-      kept_even (whole_heads (pos (from_day a))) (ruled_plan unit.Day step a) room room (all_kept step room h) (omega arith) (omega arith) (omega arith)
+      kept_even (whole_heads (pos (from_day a))) (ruled_plan unit.Day step a) room room (all_kept step room h)
+      (omega arith) (omega arith) (omega arith)
       (rw (div-one step) (omega arith)) (rw (div-one (0 + room)) (omega arith))
 
   months_sound : (m k : ℕ) → m ≤ 119988 → 1 ≤ k → k ≤ 12000 → Sound (months_by m (to_month a) k)

@@ -106,7 +106,8 @@ module _ {f : ℕ → Value} {count : ℕ} {d l : List ℤ} {i : ℕ} (w : Writt
       record {
         turns = omega arith;
         length_is = simp length-set w.length_is;
-        list_is = rw (two, add-one i, e) (push_two l (pairs f i) d (2 * i) (f i).head (f i).tail w.list_is (length_pairs f i) next);
+        list_is = rw (two, add-one i, e) (push_two l (pairs f i) d (2 * i) (f i).head (f i).tail w.list_is
+            (length_pairs f i) next);
       }
 
   pub all_written : count ≤ i → l ≡ numbers (values_of f count) ++ drop (2 * count) d

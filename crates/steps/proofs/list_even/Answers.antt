@@ -47,7 +47,8 @@ module _ (h : Heads) (s : Steps) (i whole part : ℕ) (t : Turn h s i whole part
   tick_is =
       let head : to_z w64 (of_z w64 (to_z w64 (of_z w64 h.base) +ℤ to_z w64 whole)) ≡ (even_tick h (number_at s i)).head =
       to_z-of_z sum_fits ∙ rw (to_z-of_z t.base, whole_read, t.whole_is) in
-      let tail : to_z w64 part ≡ (even_tick h (number_at s i)).tail = read_count part (omega (arith, part_small)) ∙ rw t.part_is in
+      let tail : to_z w64 part ≡ (even_tick h (number_at s i)).tail =
+      read_count part (omega (arith, part_small)) ∙ rw t.part_is in
       λ k. record { head = head k; tail = tail k }
 
 base_fits : (c : Start) → SFits w64 c.args.h.base

@@ -20,7 +20,8 @@ use Rattle.plans.proofs.Hinted.period.Goals as goal
 use Rattle.plans.proofs.Hinted.period.Goals.{In_ok-span, After-compute_period_per_point}
 
 -- the span, as it is read
-span : (c : In_ok-span) → (fits_i64 (span_of c.args.self.axis) ≡ true) × (to_z w64 (of_z w64 c.in_ok-span.span) ≡ span_of c.args.self.axis)
+span : (c : In_ok-span) → (fits_i64 (span_of c.args.self.axis) ≡ true)
+    × (to_z w64 (of_z w64 c.in_ok-span.span) ≡ span_of c.args.self.axis)
 span c =
     let (f, e) = answer_some (span_of c.args.self.axis) _ c.in_ok-span.ensures c.in_ok-span.span refl in
     (f, to_z-of_z {w = w64} {z = c.in_ok-span.span} (search rules) ∙ e)
