@@ -72,8 +72,8 @@ fn run(rt: &(impl Input + Print)) -> Result<(), Failure> {
     let mut input = rt.reader();
     let mut buf = [0u8; 65536];
     let mut printer = Printer {
-        lent: [0; 8194],
         out: Output::new(),
+        lent: [0; 8194],
     };
     let mut s = State {
         number: 0,

@@ -40,7 +40,8 @@ pub cut_lines : (t : List ℕ) →
 unfolding lines_of
 cut_lines [] = refl
 cut_lines (b ∷ t) =
-    go (eqb b line_feed) (slice_split (λ b. eqb b line_feed) t) (λ z. omega (arith, length-slice_split (λ b. eqb b line_feed) t)) (cut_lines t)
+    go (eqb b line_feed) (slice_split (λ b. eqb b line_feed) t)
+    (λ z. omega (arith, length-slice_split (λ b. eqb b line_feed) t)) (cut_lines t)
   where
     go : (c : Bool) (ls : List (List ℕ)) → (length ls ≡ 0 → ⊥) → {more : Lines} → more ≡ record { lines = ls; left = [] }
         → cond c (record { lines = [] ∷ more.lines; left = more.left }) (byte_before b more.lines more.left)
@@ -60,7 +61,8 @@ left_over (b ∷ []) h e = go (eqb b line_feed) e
         → 0 < length (cond {A = Lines} c (record { lines = [] ∷ []; left = [] }) (record { lines = []; left = b ∷ [] })).left
     go true e = absurd (let z : ⊥ = cc in z)
     go false e = omega arith
-left_over (b ∷ d ∷ t) h e = go (eqb b line_feed) (lines_of (d ∷ t)).lines (lines_of (d ∷ t)).left (left_over (d ∷ t) (omega arith) last)
+left_over (b ∷ d ∷ t) h e =
+    go (eqb b line_feed) (lines_of (d ∷ t)).lines (lines_of (d ∷ t)).left (left_over (d ∷ t) (omega arith) last)
   where
     last : pointwise eqb (drop (length (d ∷ t) - 1) (d ∷ t)) (line_feed ∷ []) ≡ false
     last = let n : length (b ∷ d ∷ t) - 1 ≡ suc (length (d ∷ t) - 1) = omega arith in rw n at e

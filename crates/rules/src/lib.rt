@@ -26,7 +26,8 @@ pub enum Unit {
     Year,
 }
 
-// Every step-th day, first of a month or January, for the lengths from..=to.
+// Every step-th day, first of a month or January, for the lengths from..=to. No ghost field says that the numbers are in
+// range: the definitions that build rows, `row_read` and `zeros`, would hold proofs, and `zeros` is of no such row.
 #[derive(Clone, Copy, Default)]
 pub struct Row {
     pub from: u64,
@@ -150,7 +151,7 @@ impl Table {
         ensures { result ≡ lacking (rows_of self.now.rows) }
     {
         let mut at: u64 = 0;
-        // no iterator goes from length to length as the rows say
+        // a while: no iterator goes from length to length as the rows say
         while at < LENGTHS {
             let Some(w) = row_for(self.rows.as_slice(), at) else {
                 return true;

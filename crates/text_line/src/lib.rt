@@ -49,6 +49,7 @@ pub fn is_names(s: &[u8]) -> bool
     s == NAMES
 }
 
+// A function, and no `TryFrom<&[u8]>`: `Kind` is of `values`, and only a type's own crate converts to it, which knows no words.
 // What the word names, of words beside what they name.
 fn named(words: &[(&[u8], Kind)], w: &[u8]) -> Option<Kind>
     ensures { result ≡ option_map (λ p. p.1) (find (λ p. same_as w.now p.0.now) words.now) }

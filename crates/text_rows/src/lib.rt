@@ -11,11 +11,12 @@ use text_line::Request;
 use text_write::Output;
 use values::Value;
 
-// What lines are printed with: the numbers that are lent to a list, with room for every list, and the output.
+// What lines are printed with: the output, and the numbers that are lent to a list, with room for every list. The output
+// stands first: behind the numbers, a long list takes a tenth longer.
 #[derive(Drop)]
 pub struct Printer {
-    pub lent: [i64; 8194],
     pub out: Output,
+    pub lent: [i64; 8194],
 }
 
 // Has some tick of a list a fraction of a second?
@@ -43,6 +44,7 @@ fn list_rows(number: u64, a: Axis, l: Limits, list: &[i64], out: &mut Output)
     }
 }
 
+// The room is asked at each call and is no ghost field: a row written takes from it.
 impl Printer {
     // An empty part does not tell a refusal from a list without ticks, so the questions are asked first.
     fn request_rows(&mut self, number: u64, q: Request)

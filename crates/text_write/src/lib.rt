@@ -20,7 +20,8 @@ use values::{Kind, Value};
 pub type Output = ArrayVec<u8, 532610>;
 
 // Bytes by hand and no `Display`: std says of `write!`, even of a u64 to a writer that never fails, only what an Ok has written.
-// `out` and `shown` side by side: a struct of both borrows the output, so each clause would read through two references.
+// `out` and `shown` are no struct: it would borrow the output, and each clause would read through two references.
+
 // The last w digits of n.
 fn fixed(out: &mut Output, w: usize, n: u64)
     requires { Room w out.old }

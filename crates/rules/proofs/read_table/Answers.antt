@@ -18,7 +18,8 @@ use Rattle.text_read.specs.Bytes.{line_feed}
 use Rattle.text_read.specs.Lines.{lines_of}
 use Rattle.rules.specs.Cover.{rows_of}
 use Rattle.rules.specs.Table.{table_of}
-use Rattle.rules.proofs.Reading.{cut_lines, no_end, before_LF, first_line, after_first, row_lines, begun, over, stop_unread, go_on}
+use Rattle.rules.proofs.Reading.{cut_lines, no_end, before_LF, first_line, after_first}
+use Rattle.rules.proofs.Reading.{row_lines, begun, over, stop_unread, go_on}
 use Rattle.rules.proofs.Reading.{wrong_names, too_many, unread_line, all_read, table_in_range}
 use Rattle.rules.proofs.read_table.Given as given
 use Rattle.rules.proofs.read_table.Goals as goal
@@ -124,8 +125,10 @@ all c =
     let p = goal.at.In-None c in
     let e = YieldsList-end (rest p.After-into_iter-line-iterator) c.loop-line.yielded _ c.loop-line.yielded_by _ _ c.in-None.is
     c.next-in-loop-line.ensures.steps in
-    all_read _ _ _ (names p.In_ok-next) (named _ c.if-ne.ensures) (omega (arith, e.1, c.loop-line.invariant.few, c.loop-line.invariant.count))
-    ∙ c.loop-line.invariant.read ∙ over c.loop-line.rows.items (row_lines c.args.s.now) (length c.loop-line.yielded) (omega (arith, e.1))
+    all_read _ _ _ (names p.In_ok-next) (named _ c.if-ne.ensures)
+    (omega (arith, e.1, c.loop-line.invariant.few, c.loop-line.invariant.count))
+    ∙ c.loop-line.invariant.read
+    ∙ over c.loop-line.rows.items (row_lines c.args.s.now) (length c.loop-line.yielded) (omega (arith, e.1))
 
 pub invariant_of-result : goal.invariant_of-result
 invariant_of-result c =

@@ -7,4 +7,5 @@ use Rattle.rules.specs.Table.{sizes}
 use Rattle.rules.proofs.Table.sizes.Given as goal
 
 abbrev pub invariant-loop-w : goal.invariant-loop-w
-invariant-loop-w l = (l.n ≤ 3652059 * l.w-index) × (sizes (rows_of l.self.rows) ≡ l.n + sizes (drop l.w-index (rows_of l.self.rows)))
+invariant-loop-w l = (l.n ≤ 3652059 * l.w-index)
+    × (sizes (rows_of l.self.rows) ≡ l.n + sizes (drop l.w-index (rows_of l.self.rows)))
