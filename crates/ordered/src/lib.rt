@@ -100,8 +100,7 @@ pub struct OrderedWeekDate {
     pub weekday: i64,
 }
 
-// Answers in C's numbers. `From` asks nothing of an answer: a reply is promised where its numbers are below 2^63, and here all
-// are.
+// Answers in C's numbers. `From` asks nothing of an answer: a reply is promised where its numbers are below 2^63, as here.
 impl From<Result<u64, Refusal>> for OrderedNumber {
     ghost from_gives = { λ answer reply. result_unwrap_or answer 0 < 2 ^ 63 → reply ≡ number_reply answer };
 
@@ -306,8 +305,8 @@ impl From<Result<Option<SegmentValue>, Refusal>> for OrderedSegment {
     }
 }
 
-// The calls. C's interface: it has no Axis, Hint, Value or Segment, so an axis is six numbers, `kind` and `segment` are numbers
-// too, and two calls that differ in one function of the crates below each have a name and a contract.
+// The calls. C's interface: an axis is six numbers there, `kind` and `segment` are numbers, and two calls that differ in one
+// function of the crates below each have a name and a contract.
 
 pub fn ordered_day_number(year: i64, month: i64, day: i64) -> OrderedNumber
     ensures { result ≡ number_reply (number_of (record { year = year; month = month; day = day })) }

@@ -19,7 +19,9 @@ returns-clause-value c = let t = c.args.table.now in
     let x = c.ask_table_first-asked.result in
     let e : c.list_on.result ≡ and_then x (λ a. ruled_answer t a k) = search rules in
     c.from.ensures (number_on x _ _ e (λ a n. ruled_most t a k n (omega arith)))
-    ∙ ap number_reply (e ∙ ap (λ y. and_then y (λ a. ruled_answer t a k)) c.ask_table_first-asked.ensures ∙ counted t c.args.axis k)
+    ∙ ap number_reply (e
+    ∙ ap (λ y. and_then y (λ a. ruled_answer t a k)) c.ask_table_first-asked.ensures
+    ∙ counted t c.args.axis k)
 
 pub returns-clause-after_call : goal.returns-clause-after_call
 returns-clause-after_call c = let d = c.args.lent.now in
