@@ -164,6 +164,7 @@ impl From<Result<Date, Refusal>> for OrderedDate {
     }
 }
 
+// C's interface: as a date's reply, in a struct with other names.
 impl From<Result<WeekDate, Refusal>> for OrderedWeekDate {
     ghost from_gives = { λ answer reply.
         ForOk answer (λ t. (t.year < 2 ^ 63) × (t.week < 2 ^ 63) × (t.weekday < 2 ^ 63)) → reply ≡ week_reply answer };
@@ -332,7 +333,6 @@ pub fn ordered_week_day_number(year: i64, week: i64, weekday: i64) -> OrderedNum
     OrderedNumber::from(weeks::week_day_number(t))
 }
 
-// C's interface: the twin of ordered_date_of answers a struct with other names.
 pub fn ordered_week_date_of(day_number: i64) -> OrderedWeekDate
     ensures { result ≡ week_reply (week_date_at day_number) }
 {
@@ -739,7 +739,7 @@ pub fn ordered_next(
     OrderedValue::from(axis.and_then(|a| discrete::next(a, v)))
 }
 
-// C's interface: the twin of ordered_next, by discrete::previous.
+// C's interface: the twin of ordered_next and ordered_index_of, by discrete::previous.
 pub fn ordered_previous(
     kind: i64,
     start_head: i64,
