@@ -139,6 +139,7 @@ pub fn from_index(a: Axis, i: i64) -> Result<Option<SegmentValue>, Refusal>
 }
 
 // Question 9: the size, and then the question of mapping; the last is asked only for the size.
+// No method of Segments: the size may be 0 here.
 fn segment_mappable(a: Axis, size: u64, v: SegmentValue) -> bool
     requires { size ≡ segments a }
     ensures { result ≡ segment_mappable a v }
