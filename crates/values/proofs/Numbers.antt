@@ -28,8 +28,8 @@ pub within_true : (l x h : ℤ) → within l x h ≡ true → (pos_part l + neg_
     × (pos_part x + neg_part h ≤ pos_part h + neg_part x)
 within_true l x h e = let (p, q) = both_true (le_z l x) (le_z x h) e in (le_true l x p, le_true x h q)
 
-pub is_within : (l x h : ℤ) → pos_part l + neg_part x ≤ pos_part x + neg_part l → pos_part x + neg_part h ≤ pos_part h + neg_part x →
-    within l x h ≡ true
+pub is_within : (l x h : ℤ) → pos_part l + neg_part x ≤ pos_part x + neg_part l →
+    pos_part x + neg_part h ≤ pos_part h + neg_part x → within l x h ≡ true
 is_within l x h a b = rw (is_le l x a, is_le x h b)
 
 pub not_below : (z : ℤ) → neg_part z ≤ pos_part z → neg_part z ≡ 0

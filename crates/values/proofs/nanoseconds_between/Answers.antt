@@ -26,10 +26,12 @@ pub returns-in_err-heads : goal.returns-in_err-heads
 returns-in_err-heads c =
     let s = (goal.at.returns-in_err-heads c).Start in
     let x = c.args in
-    let n : SFits w64 (x.b.head -ℤ x.a.head) → ⊥ = rw (to_z-of_z (range_b s).head, to_z-of_z (range_a s).head) at (c.in_err-heads.ensures) in
+    let n : SFits w64 (x.b.head -ℤ x.a.head) → ⊥ =
+    rw (to_z-of_z (range_b s).head, to_z-of_z (range_a s).head) at (c.in_err-heads.ensures) in
     let (l, m) = unit_range x.kind in
     c.from_residual.ensures
-    ∙ too_far (x.b.head -ℤ x.a.head) (x.b.tail -ℤ x.a.tail) (unit x.kind) l (tails_few x.a.tail x.b.tail (range_a s).tail (range_b s).tail) n
+    ∙ too_far (x.b.head -ℤ x.a.head) (x.b.tail -ℤ x.a.tail) (unit x.kind) l
+    (tails_few x.a.tail x.b.tail (range_a s).tail (range_b s).tail) n
     ∙ ap nanoseconds_of (sym (heads_and_tails x.kind x.a x.b))
 
 -- what the code multiplies and adds

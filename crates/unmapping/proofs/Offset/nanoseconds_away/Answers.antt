@@ -8,7 +8,8 @@ use mir.Facts.{to_z-of_z}
 use Rattle.values.specs.declared.Value.{Value}
 use Rattle.values.proofs.Values.{InRange}
 use Rattle.unmapping.specs.Moves.{date_time_answer}
-use Rattle.unmapping.proofs.Moves.{days, rest, read_sum, day_fits, nano_fits, carry_fits, left_fits, left_in_day, next_fits, moved}
+use Rattle.unmapping.proofs.Moves.{days, rest, read_sum, day_fits, nano_fits, carry_fits, left_fits, left_in_day, next_fits}
+use Rattle.unmapping.proofs.Moves.{moved}
 use Rattle.unmapping.proofs.Offset.nanoseconds_away.Goals as goal
 use Rattle.unmapping.proofs.Offset.nanoseconds_away.Goals.{After-rem_euclid}
 
