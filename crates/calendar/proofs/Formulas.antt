@@ -1,19 +1,18 @@
 -- The calendar's definitions in closed form, and the formulas of the code, by years that begin in March.
 -- Month rules are one computed test over a common year and a leap year. Assumes nothing.
-use mathlib.Core.Path.{◌≡◌, refl, ap, subst}
+use mathlib.Core.Path.{◌≡◌, refl, ap}
 use mathlib.Core.Logic.{inl, inr}
 use mathlib.Core.Bool.{Bool, true, false, not, ◌&&◌, ◌||◌, cond}
 use Prim.Native.Nat.{ℕ, zero, suc, ◌+◌, ◌-◌, ◌*◌, ◌/◌, ◌%◌, ◌≤◌, ◌<◌, zero-le}
 use native.Mathlib.Nat.{eq-or-lt_of_le, not-suc-le-zero, add-zero}
 use native.Mathlib.Numerals.{add-one, sub-one}
 use native.Mathlib.Omega.{arith}
-use lib.ListN.{get_or}
 use lib.Dec.{T, eqb, leb, ltb, leb→le, eqb→eq}
 use lib.Ieee.Fits.{and_l, and_r}
 use mir.Val.{bool_byte}
 use borrow.Author.Tests.{leb-true, leb-false, lt-ltb}
 use Rattle.laws.proofs.Tables.{all, at, meant}
-use Rattle.calendar.specs.Gregorian.{leap, leap_day, lengths, month_length, months, year_length, years, day_number, Real}
+use Rattle.calendar.specs.Gregorian.{leap, leap_day, month_length, months, year_length, years, day_number, Real}
 
 -- ---- a year's months are those of the year 1, or of the year 4
 pub leap_day_le : (y : ℕ) → leap_day y < 2
@@ -208,35 +207,8 @@ month_length_range y m h =
     let t = in_year usual 13 usuals y m (omega arith) in
     rw (length_like y m) (leb→le _ _ (and_l (leb 28 n) (leb n 31) t), leb→le _ _ (and_r (leb 28 n) (leb n 31) t))
 
-long : ℕ → ℕ → Bool
-long l m = eqb m 2 || leb 30 (month_length (like l) m)
-
-longs : T (all (both long 13) 2)
-unfolding both long month_length leap_day all
-longs = tt
-
--- all but February have 30
-pub month_length_long : (y m : ℕ) → m ≤ 12 → eqb m 2 ≡ false → 30 ≤ month_length y m
-unfolding long
-month_length_long y m h e =
-    let n = month_length (like (leap_day y)) m in
-    let t = in_year long 13 longs y m (omega arith) in
-    rw (length_like y m) (leb→le 30 n (subst (λ (b : Bool). T (b || leb 30 n)) e t))
-
 pub month_length_le : (y m : ℕ) → m ≤ 12 → month_length y m ≤ 31
 month_length_le y m h = (month_length_range y m h).1
-
--- the table of lengths is one of small numbers
-small : ℕ → Bool
-small k = leb (get_or lengths k 0) 31
-
-smalls : T (all small 12)
-unfolding small all
-smalls = tt
-
-pub lengths_le : (k : ℕ) → k < 12 → get_or lengths k 0 ≤ 31
-unfolding small
-lengths_le k h = leb→le _ _ (at small 12 smalls k h)
 
 -- ---- the days from 1 March to the month m, and 92 more; January and February are the months 13 and 14 of the year before
 abbrev since_march : ℕ → ℕ

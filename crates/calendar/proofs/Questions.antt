@@ -1,12 +1,12 @@
 -- Question 8 in the code's order: the ranges of the three numbers, then the month's length; and what a yes says.
 -- And the ranges of the answers. Assumes nothing.
 use mathlib.Core.Path.{◌≡◌, refl, sym, ◌∙◌, ap, subst}
-use mathlib.Core.Bool.{Bool, true, false, not, ◌&&◌, ◌||◌}
+use mathlib.Core.Bool.{Bool, true, false, ◌&&◌}
 use Prim.Native.Nat.{ℕ, ◌≤◌, ◌<◌}
 use native.Mathlib.Omega.{arith}
 use lib.IntN.{ℤ, pos, negsuc}
-use lib.Dec.{eqb, leb}
-use borrow.Author.Tests.{leb-true, le-leb, lt-leb, not-true}
+use lib.Dec.{leb}
+use borrow.Author.Tests.{leb-true, le-leb, lt-leb}
 use lib.Signed.{lt_z, le_z}
 use mir.Syntax.{w64}
 use mir.Val.{SFits, to_z, of_z}
@@ -20,7 +20,7 @@ use Rattle.calendar.specs.declared.Date.{Date}
 use Rattle.asking.proofs.Asked.{told, answered_ok}
 use Rattle.calendar.specs.Gregorian.{month_length, day_number, date_of, Real}
 use Rattle.calendar.specs.Questions.{is_date, last_day, is_day, in_ranges, date_questions, day_questions, number_of, date_at}
-use Rattle.calendar.proofs.Formulas.{month_length_range, month_length_long}
+use Rattle.calendar.proofs.Formulas.{month_length_range}
 use Rattle.calendar.proofs.Dates.{number_most, year_most, date_number}
 
 -- ---- a number that is at least 1
@@ -131,24 +131,6 @@ pub is_real : (t : Ymd) → in_ranges t ≡ true → leb (pos_part t.day) (month
     ≡ true →
     Real (pos_part t.year) (pos_part t.month) (pos_part t.day)
 is_real t e f = real_in_month _ _ _ t (ranges t e) refl refl refl (leb-true _ _ f)
-
--- ---- the code's order: a day that every month has, or every month but February, then the month's length
-module _ (y m d : ℕ) where
-  abbrev early : Bool
-  early = leb d 28 || (leb d 30 && not (eqb m 2))
-
-  early_most : m ≤ 12 → early ≡ true → d ≤ month_length y m
-  early_most h e = go (leb d 28) (eqb m 2) (leb-true d 28) (month_length_long y m h) e
-    where
-      go : (p q : Bool) → (p ≡ true → d ≤ 28) → (q ≡ false → 30 ≤ month_length y m) → p || (leb d 30 && not q) ≡ true →
-          d ≤ month_length y m
-      go true q u v e = omega (arith, u refl, month_length_range y m h)
-      go false q u v e =
-          let (a, b) = both_true (leb d 30) (not q) e in
-          omega (arith, leb-true d 30 a, v (not-true q b))
-
-  pub early_day : m ≤ 12 → early ≡ true → true ≡ leb d (month_length y m)
-  early_day h e = sym (le-leb d (month_length y m) (early_most h e))
 
 -- ---- what an answer holds
 date_most : (t : Ymd) → is_date t.year t.month t.day ≡ true → day_number (pos_part t.year) (pos_part t.month)

@@ -2,7 +2,7 @@
 // No loop: a year is taken to begin in March, so that a leap day is its last (Neri and Schneider's formulas).
 #![tactic(auto)]
 
-ghost use Rattle.std.specs.Prelude.{◌≡◌, ◌+◌, ◌-◌, ◌*◌, ◌≤◌, ◌<◌, true, false, leb, pos};
+ghost use Rattle.std.specs.Prelude.{◌≡◌, ◌+◌, ◌-◌, ◌*◌, ◌≤◌, ◌<◌, true, false, pos};
 ghost use Rattle.std.specs.Int.Signed.{lt_z};
 ghost use Rattle.laws.specs.Numbers.{pos_part};
 ghost use Rattle.calendar.specs.Gregorian.{leap_day, month_length, day_number, date_of, Real};
@@ -39,6 +39,7 @@ pub const LAST_DAY: i64 = 3652059;
 // The days of each month, in a year with no leap day.
 const LENGTHS: [u8; 12] = [31, 28, 31, 30, 31, 30, 31, 31, 30, 31, 30, 31];
 
+// How many leap days the year has: 0 or 1.
 pub fn leap_day(y: u64) -> u64
     ensures { result ≡ leap_day y }
 {
@@ -51,8 +52,12 @@ pub fn leap_day(y: u64) -> u64
     if y % 400 == 0 { 1 } else { 0 }
 }
 
-// Year, month and day go side by side, each with its own bound, as the standard's rules name them: a Date exists and has all
-// three, while these are still to be asked or, as the first of a month, fixed in part.
+// Year, month and day go side by side, each with its own bound, as ISO 8601 names them: a Date exists and has all three, while
+// these are still to be asked or, as the first of a month, fixed in part.
+
+// The range of a day number stays a clause: those that follow, and those in `weeks`, differ from function to function, so that a
+// type would have to be made for each.
+
 fn month_length(y: u64, m: u64) -> u64
     requires { (1 ≤ m) × (m ≤ 12) }
     ensures { result ≡ month_length y m }
@@ -61,7 +66,7 @@ fn month_length(y: u64, m: u64) -> u64
         return 28 + leap_day(y);
     }
     let i = (m - 1) as usize;
-    LENGTHS[i] as u64
+    u64::from(LENGTHS[i])
 }
 
 // j: the date is before March, and its year the one before, with the months 13 and 14. A hundredth of p is
@@ -70,7 +75,7 @@ pub fn day_number(y: u64, m: u64, d: u64) -> u64
     requires { Real y m d × (y ≤ 10000) }
     ensures { result ≡ day_number y m d }
 {
-    let j = (m < 3) as u64;
+    let j = u64::from(m < 3);
     let p = y - j;
     let c = p * 5243 / 524288;
     1461 * p / 4 - c + c / 4 + (979 * (m + 12 * j) + 25) / 32 + d - 398
@@ -87,7 +92,7 @@ pub fn date_of(n: u64) -> Date
     let p = 2939745 * (t + 4 * (c - c / 4));
     let e = p % 4294967296 / 11758980;
     let s = 2141 * e + 197913;
-    let j = (e >= 306) as u64;
+    let j = u64::from(e >= 306);
     Date {
         year: p / 4294967296 + j,
         month: s / 65536 - 12 * j,
@@ -114,20 +119,13 @@ pub fn date_ceil(t: DateTime) -> u64
     t.day
 }
 
-// A number that is not below 0, as a count. std's `try_from` would ask again what was asked just before each call.
+// A number that is not below 0, as a count: its clause says `pos_part`, which all callers' contracts read, while std's
+// `cast_unsigned` speaks of bits, and `unsigned_abs` and `try_from` ask again what was asked just before each call.
 pub fn as_count(n: i64) -> u64
     requires { lt_z n (pos 0) ≡ false }
     ensures { result ≡ pos_part n }
 {
     n as u64
-}
-
-// Has the month a day d? Every month but February has 30, so only its last days and a 31st ask for the length.
-fn has_day(y: u64, m: u64, d: u64) -> bool
-    requires { (1 ≤ m) × (m ≤ 12) }
-    ensures { result ≡ leb d (month_length y m) }
-{
-    (d <= 28) | ((d <= 30) & (m != 2)) || d <= month_length(y, m)
 }
 
 // A day of the years 1 to 9999.
@@ -138,6 +136,7 @@ pub fn is_day(n: i64) -> bool
 }
 
 // A date of these years, but for the month's length.
+#[tactic(auto, unfolding(crate::specs::Questions::in_ranges))]
 fn in_ranges(t: Ymd) -> bool
     ensures { result ≡ in_ranges t }
 {
@@ -148,7 +147,7 @@ fn number_in_ranges(y: u64, m: u64, d: u64) -> Result<u64, Refusal>
     requires { in_ranges (record { year = pos y; month = pos m; day = pos d }) ≡ true }
     ensures { result ≡ number_of (record { year = pos y; month = pos m; day = pos d }) }
 {
-    ask(Refusal::Value, has_day(y, m, d))?;
+    ask(Refusal::Value, d <= month_length(y, m))?;
     Ok(day_number(y, m, d))
 }
 

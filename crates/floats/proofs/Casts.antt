@@ -1,18 +1,17 @@
 -- A float's number by its bit pattern, its whole part, and the saturating cast by that whole part and the sign.
 -- Assumes nothing.
 use mathlib.Core.Path.{◌≡◌, refl, sym, ap, ◌∙◌, subst}
-use mathlib.Core.Bool.{Bool, true, false, not, cond}
+use mathlib.Core.Bool.{Bool, true, false, not, cond, false≢true}
 use Prim.Native.Nat.{ℕ, zero, suc, ◌+◌, ◌-◌, ◌*◌, ◌/◌, ◌^◌, ◌≤◌, ◌<◌, min}
 use native.Mathlib.Nat.{not-suc-le-zero, add_comm}
 use native.Mathlib.Omega.{arith}
 use lib.Dec.{T, eqb}
 use lib.IntN.{ℤ, pos, neg_ℤ}
 use lib.Pow.{pow_pos, pow_mono}
-use lib.Ieee.{Float, nan, inf, fin, Format, binary32, binary64, prec, low, hid, ones, up, down, ne, eq, is_nan}
+use lib.Ieee.{Float, nan, inf, fin, Format, binary32, binary64, prec, low, hid, ones, up, down, is_nan}
 use lib.Ieee.{of_fields, to_signed, to_unsigned, to_bits, nan_bits, fits}
 use lib.Ieee.Bits.{of_bits-to_bits, nan_bits_is}
 use lib.Ieee.Exact.{HasValue, odd_sign}
-use lib.Ieee.Compare.{differs_from_itself}
 use borrow.Author.Tests.{ne_eqb}
 use Rattle.floats.specs.Rounding.{abs_f}
 use Rattle.floats.proofs.Values.{unsigned_val}
@@ -100,17 +99,14 @@ pub sign_cast : (k : ℕ) → k ≤ 63 → (x : Float) (s : Bool) → HasSign x 
 sign_cast k K x s v = by_sign k x s (pow_pos k) (pow_mono K) v
 
 -- ---- a NaN, and what has the bits of x
-pub is_nan_law : (x : Float) → ne x x ≡ true → x ≡ nan
-is_nan_law x h = differs_from_itself x (subst T (sym h) tt)
+pub is_nan_law : (x : Float) → is_nan x ≡ true → x ≡ nan
+unfolding is_nan
+is_nan_law nan h = refl
+is_nan_law (inf s) h = absurd (false≢true h)
+is_nan_law (fin s m e) h = absurd (false≢true h)
 
-not_nan : (x : Float) → T (not (ne x x)) → T (not (is_nan x))
-unfolding is_nan ne eq
-not_nan nan t = t
-not_nan (inf s) t = tt
-not_nan (fin s m e) t = tt
-
-pub no_nan : (x : Float) → ne x x ≡ false → T (not (is_nan x))
-no_nan x h = not_nan x (subst (λ (b : Bool). T (not b)) (sym h) tt)
+pub no_nan : (x : Float) → is_nan x ≡ false → T (not (is_nan x))
+no_nan x h = subst (λ (b : Bool). T (not b)) (sym h) tt
 
 pub no_nan_bits : (f : Format) (x : Float) → T (fits f x) → T (not (is_nan x)) → T (not (nan_bits f (to_bits f x)))
 no_nan_bits f x h n = subst (λ (b : Bool). T (not b)) (sym (nan_bits_is f (to_bits f x) ∙ ap is_nan (of_bits-to_bits f x h))) n

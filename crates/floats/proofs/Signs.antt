@@ -1,6 +1,6 @@
 -- A signed number's sign and its distance from 0, and back. Assumes nothing.
 use mathlib.Core.Path.{◌≡◌, refl, sym, ap, ◌∙◌}
-use mathlib.Core.Bool.{true, false, true≢false, false≢true}
+use mathlib.Core.Bool.{true, false≢true}
 use Prim.Native.Nat.{ℕ, suc, ◌+◌, ◌-◌, ◌^◌, ◌<◌, ◌≤◌, zero-le}
 use native.Mathlib.Omega.{arith}
 use lib.IntN.{ℤ, pos, negsuc, neg_ℤ, nat_abs, ◌-ℤ◌, +ℤ_idl}
@@ -8,7 +8,7 @@ use lib.Signed.{lt_z}
 use mir.Syntax.{w64}
 use mir.Val.{SFits, to_z}
 use borrow.Author.Tests.{le-ltb}
-use Rattle.laws.proofs.Signed.{sub, same, fits, read_count, neg_up, neg_dn}
+use Rattle.laws.proofs.Signed.{sub, same, read_count}
 use Rattle.floats.proofs.Values.{below_zero}
 
 pub sign_is : (x : ℤ) → lt_z x (pos 0) ≡ below_zero x
@@ -24,17 +24,9 @@ pub turned : (x : ℤ) → lt_z x (pos 0) ≡ true → (negsuc 0 -ℤ x ≡ pos 
 turned (pos n) t = absurd (false≢true (sym (sign_is (pos n)) ∙ t))
 turned (negsuc n) t = (same (negsuc 0 -ℤ negsuc n) (pos (suc n - 1)) (omega (arith, sub (negsuc 0) (negsuc n))), omega arith)
 
--- not below 0
-pub unturned : (x : ℤ) → lt_z x (pos 0) ≡ false → x ≡ pos (nat_abs x)
-unturned (pos n) t = refl
-unturned (negsuc n) t = absurd (true≢false t)
-
 -- 0 - n, with n read from its bits
 pub minus : (n : ℕ) → n < 2 ^ 63 → pos 0 -ℤ to_z w64 n ≡ neg_ℤ (pos n)
 minus n h = ap (λ (z : ℤ). pos 0 -ℤ z) (read_count n h) ∙ +ℤ_idl (neg_ℤ (pos n))
-
-pub minus_fits : (n : ℕ) → n ≤ 2 ^ 63 → SFits w64 (neg_ℤ (pos n))
-minus_fits n h = fits (neg_ℤ (pos n)) 0 n (omega (arith, neg_up (pos n), neg_dn (pos n))) (omega arith) (omega arith)
 
 -- -1 - n
 pub one_more : (n : ℕ) → n < 2 ^ 63 → negsuc 0 -ℤ to_z w64 n ≡ neg_ℤ (pos (suc n))

@@ -1,8 +1,8 @@
 // Rust's casts between floats and whole numbers, the rounding of an f32, and floor and ceil of a quotient in whole numbers.
-// Each statement is an equation with what IEEE 754 says (lib.Ieee).
+// Each statement is an equation with what IEEE 754 says (std.specs.Float.Ieee).
 #![tactic(auto)]
 
-ghost use Rattle.std.specs.Prelude.{◌≡◌, not, T, ◌||◌, ◌^◌, ◌≤◌, ◌<◌, pos, nat_abs};
+ghost use Rattle.std.specs.Prelude.{◌≡◌, not, T, ◌||◌, ◌^◌, ◌≤◌, ◌<◌, pos};
 ghost use Rattle.std.specs.Float.{binary32, binary64};
 ghost use Rattle.std.specs.Float.Ieee.{of_int, div, of_bits, nan_bits, to_signed, to_unsigned};
 ghost use Rattle.floats.specs.Rounding.{abs_f, floor_f, ceil_of, round_f};
@@ -16,22 +16,9 @@ const LEAD: u64 = 8388608;
 // The weight of its sign: 2^31.
 const SIGN: u64 = 2147483648;
 
-// How far x is from 0.
-pub fn unsigned_abs(x: i64) -> u64
-    ensures { result ≡ nat_abs x }
-{
-    x.unsigned_abs()
-}
-
-// A whole number as f64, and whether that is another number.
-#[derive(Clone, Copy)]
-pub struct Rounded {
-    pub value: f64,
-    pub lost: bool,
-}
-
-// Does n lose anything as f64? What is left of it without the zeros at its end has to be below 2^53.
-fn loses(n: i64) -> bool
+// Does n lose anything as f64, so that it is another number there? What is left of it without the zeros at its end has to be
+// below 2^53.
+pub fn loses(n: i64) -> bool
     ensures { result ≡ lost_in n }
 {
     let size = n.unsigned_abs();
@@ -43,20 +30,16 @@ fn loses(n: i64) -> bool
 
 // n as f64: the nearest, a tie to the even one. Its upper half, times 2^32, and its lower half are floats, so that only their
 // sum rounds. std's nearest_i64_to_f64 was tried, and takes 1.5 ns longer in ordered_map: it branches on the sign.
-pub fn from_i64(n: i64) -> Rounded
-    ensures value { result.value ≡ of_int binary64 n }
-    ensures lost { result.lost ≡ lost_in n }
+pub fn from_i64(n: i64) -> f64
+    ensures { result ≡ of_int binary64 n }
 {
     let upper = n >> 32;
     let lower = n & 4294967295;
-    Rounded {
-        value: upper as f64 * 4294967296.0 + lower as f64,
-        lost: loses(n),
-    }
+    upper as f64 * 4294967296.0 + lower as f64
 }
 
-// Does either lose anything? Quicker where both end with ten zeros, as whole days in nanoseconds do, or are small; else t tells
-// most often.
+// Does either lose anything? Asked apart where both end with ten zeros, as whole days in nanoseconds do, or are small: by `loses`
+// alone a pixel of whole days takes 12 instructions more than its 105, and one of small numbers 4; else t tells most often.
 pub fn either_loses(o: i64, t: i64) -> bool
     ensures { result ≡ lost_in o || lost_in t }
 {
@@ -117,10 +100,10 @@ fn round_of(bits: u64) -> u64
 pub fn round_to_i32(x: f32) -> i32
     ensures { result ≡ to_signed 31 (round_f binary32 x) }
 {
-    if x != x {
+    if x.is_nan() {
         return 0;
     }
-    let bits = x.to_bits() as u64;
+    let bits = u64::from(x.to_bits());
     let size = round_of(bits);
     if SIGN <= bits {
         return -(size.min(2147483648) as i64) as i32;
@@ -128,8 +111,11 @@ pub fn round_to_i32(x: f32) -> i32
     size.min(2147483647) as i32
 }
 
-// Bounds of single numbers stay clauses, here and below: a type for each would be opened again in every formula.
+// The bounds of n and d stay clauses: callers hand products and differences made in the call, and a type would be opened at once
+// by the division.
+
 // (n as f64 / d as f64).floor() as usize.
+#[tactic(auto, using(crate::proofs::Quotients::ratio_floor))]
 pub fn floor_quotient(n: u64, d: u64) -> u64
     requires { (n < 2 ^ 53) × (0 < d) × (d ≤ 2 ^ 53) }
     ensures { result ≡ to_unsigned 64

@@ -2,8 +2,6 @@
 pub mod Signed
 pub mod Halves
 pub mod Lent
-pub mod Parts
 pub mod Tables
 pub mod Tests
 pub mod Quotients
-pub mod Asked

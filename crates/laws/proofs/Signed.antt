@@ -6,9 +6,9 @@ use mathlib.Core.Logic.{◌⊎◌, inl, inr}
 use Prim.Native.Nat.{ℕ, zero, suc, ◌+◌, ◌*◌, ◌-◌, ◌/◌, ◌^◌, ◌<◌, ◌≤◌}
 use native.Mathlib.Nat.{zero-mul, zero-div, div-le_self}
 use native.Mathlib.Omega.{arith}
-use lib.Dec.{T, ltb}
+use lib.Dec.{ltb}
 use lib.IntN.{ℤ, pos, negsuc, neg_ℤ, nat_abs, ◌+ℤ◌, ◌-ℤ◌, ◌*ℤ◌}
-use lib.Signed.{mag, mag_rem, lt_z, le_z, non_neg, quot_z, rem_z}
+use lib.Signed.{mag, mag_rem, lt_z, le_z, quot_z, rem_z}
 use mir.Syntax.{w64}
 use mir.Val.{SFits, of_z, to_z}
 use mir.Facts.{to_z-of_z}
@@ -182,11 +182,6 @@ quot_fits x (negsuc k) f e = let z : ◌≡◌ {A = ℕ} 0 1 = cc in absurd (let
 
 pub rem_fits : (x d : ℤ) → SFits w64 x → SFits w64 (rem_z x d)
 rem_fits x d f = sfits_le (mag_rem x d) f
-
--- a number that is not below 0 is `pos` of its `pos_part`
-pub not_neg : (x : ℤ) → lt_z x (pos 0) ≡ false → T (non_neg x)
-not_neg (pos n) e = tt
-not_neg (negsuc n) e = let z : ◌≡◌ {A = ℕ} 0 1 = cc in absurd (let w : ⊥ = omega arith in w)
 
 -- a count below 2^63 is a signed number, and its bits are read back as that count
 pub count_fits : (n : ℕ) → n < 2 ^ 63 → SFits w64 (pos n)

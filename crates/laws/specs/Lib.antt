@@ -1,4 +1,3 @@
 -- The definitions that all crates share.
-pub mod Asking
 pub mod Numbers
 pub mod Units

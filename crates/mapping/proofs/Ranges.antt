@@ -1,22 +1,23 @@
 -- A cut float is an i32, and fits with a pixel added; a width is a float exactly, and so are days. Assumes nothing.
-use mathlib.Core.Path.{◌≡◌}
+use mathlib.Core.Path.{◌≡◌, ◌∙◌, ap}
 use mathlib.Core.Bool.{true}
 use Prim.Native.Nat.{◌+◌, ◌≤◌, ◌<◌, ◌^◌}
 use native.Mathlib.Nat.{lt_of_lt_of_le}
 use native.Mathlib.Omega.{arith}
 use lib.Dec.{T, lit≤}
-use lib.IntN.{ℤ, pos, negsuc, nat_abs, ◌+ℤ◌}
+use lib.IntN.{ℤ, pos, negsuc, nat_abs, ◌+ℤ◌, ◌-ℤ◌}
 use lib.Ieee.{Float, binary64, in_float}
 use lib.Ieee.Casts.{to_signed_in}
 use mir.Syntax.{w32, w64}
-use mir.Val.{SFits}
+use mir.Val.{SFits, to_z, of_z}
+use mir.Facts.{to_z-of_z}
 use Rattle.laws.specs.Numbers.{pos_part, neg_part}
 use Rattle.laws.proofs.Signed.{add, abs, fits}
 use Rattle.floats.proofs.Values.{in_float_law}
 use Rattle.axis.specs.declared.Limits.{Limits}
 use Rattle.axis.specs.Questions.{is_pixel, pixels}
 use Rattle.axis.proofs.Questions.{pixel_range}
-use Rattle.axis.proofs.PixelRanges.{limits_are, between_few}
+use Rattle.axis.proofs.PixelRanges.{limits_are, between_few, between_fits}
 use Rattle.mapping.specs.Position.{width}
 use Rattle.floats.specs.Rounding.{cut}
 
@@ -44,6 +45,11 @@ sum_fits low z e f =
 pub width_in : (l : Limits) → pixels l ≡ true → T (in_float binary64 (width l))
 width_in l e = let (p, q) = limits_are l e in
     in_float_law binary64 (width l) (omega (arith, between_few l.high l.low q p))
+
+-- a width, as the code reads it back
+pub width_back : (l : Limits) (w : ℤ) → pixels l ≡ true → w ≡ l.high -ℤ l.low → to_z w64 (of_z w64 w) ≡ width l
+width_back l w e is = let (p, q) = limits_are l e in
+    ap (λ (z : ℤ). to_z w64 (of_z w64 z)) is ∙ to_z-of_z (between_fits l.high l.low q p)
 
 pub few : (z : ℤ) → (neg_part z ≤ 7305000) × (pos_part z ≤ 7305000) → nat_abs z ≤ 2 ^ 53
 few z (a, b) = omega (arith, abs z)

@@ -2,13 +2,14 @@
 // Floats where the Rust computes in floats, each step rounded as IEEE 754 says.
 #![tactic(auto)]
 
-ghost use Rattle.std.specs.Prelude.{◌≡◌, true, false, Ok};
-ghost use Rattle.asking.specs.Asking.{asked, and_then};
+ghost use Rattle.std.specs.Prelude.{◌≡◌, true, false, Ok, [], ◌∷◌};
+ghost use Rattle.asking.specs.Asking.{ask, asked, and_then};
+ghost use Rattle.asking.specs.declared.Refusal.TheVariants as refusal;
 ghost use Rattle.values.specs.Values.{is_duration};
 ghost use Rattle.floats.specs.Rounding.{quotient_of};
 ghost use Rattle.axis.specs.declared.Axis.{Axis};
 ghost use Rattle.axis.specs.declared.Limits.{Limits};
-ghost use Rattle.axis.specs.Questions.{ends, pixels, value_on};
+ghost use Rattle.axis.specs.Questions.{ends, pixels, value_on, fits_i32};
 ghost use Rattle.mapping.specs.Hairlines.{hairline_at};
 ghost use Rattle.mapping.specs.Mapping.{map_coord, map_duration, hairline, with_total};
 ghost use Rattle.mapping.specs.Mapping.{ScaleFor, in_nanos, nudged, in_days, hairline_from};
@@ -36,6 +37,14 @@ pub struct Scale {
     ghost ready: { ScaleFor axis limits width span },
 }
 
+// A value on the axis of a scale: what each mapping asks of the two.
+#[derive(Clone, Copy)]
+pub struct Placed {
+    pub scale: Scale,
+    pub value: Value,
+    ghost on: { value_on scale.axis value ≡ true },
+}
+
 // A pixel, whether it is the exact position, and whether an offset or a span that was divided had lost something. The flags
 // stand apart: side by side they are read back as one number, which has to wait for both.
 #[derive(Clone, Copy)]
@@ -43,6 +52,16 @@ pub struct Hairline {
     pub exact: bool,
     pub pixel: i64,
     pub lost: bool,
+}
+
+impl Hairline {
+    // Question 10.
+    pub fn asked(self) -> Result<Hairline, Refusal>
+        ensures { result ≡ asked (ask refusal.Range (fits_i32 self.pixel) ∷ []) (Ok self) }
+    {
+        ask(Refusal::Range, axis::fits_i32(self.pixel))?;
+        Ok(self)
+    }
 }
 
 // An offset and the span that it is divided by.
@@ -66,21 +85,21 @@ fn with_total(n: i64) -> Span
 {
     Span {
         nanoseconds: n,
-        total: floats::from_i64(n).value,
+        total: floats::from_i64(n),
     }
 }
 
-// The width is below 2^53, so that `as` loses nothing of it.
+// Both are asked before, by each caller in its own order; from here on the scale's type holds what the answers say. The width is
+// below 2^53, so that `as` loses nothing of it.
 pub fn scale_of(a: Axis, l: Limits) -> Scale
     requires { (ends a ≡ true) × (pixels l ≡ true) }
     ensures axis { result.axis ≡ a }
     ensures limits { result.limits ≡ l }
 {
-    let width = l.high - l.low;
     Scale {
         axis: a,
         limits: l,
-        width: width as f64,
+        width: l.width() as f64,
         span: axis::span(a).map(with_total),
     }
 }
@@ -89,7 +108,7 @@ pub fn scale_of(a: Axis, l: Limits) -> Scale
 fn quotient(width: f64, offset: i64, total: f64) -> f64
     ensures { result ≡ quotient_of width offset total }
 {
-    width * floats::from_i64(offset).value / total
+    width * floats::from_i64(offset) / total
 }
 
 // An offset in nanoseconds, divided.
@@ -123,16 +142,15 @@ fn ask_value(a: Axis, v: Value) -> Result<(), Refusal>
     ask(Refusal::Length, axis::mappable(a, v))
 }
 
-impl Scale {
+impl Placed {
     // Zero whole days are nothing to divide by.
-    fn in_days(self, v: Value) -> Divided
-        requires { value_on self.axis v ≡ true }
-        ensures { result ≡ in_days self.axis self.limits v }
+    fn in_days(self) -> Divided
+        ensures { result ≡ in_days self.scale.axis self.scale.limits self.value }
     {
-        let days = axis::offset_days(self.axis, v);
-        let span = axis::span_days(self.axis);
+        let days = axis::offset_days(self.scale.axis, self.value);
+        let span = axis::span_days(self.scale.axis);
         Divided {
-            x: quotient(self.width, days, floats::from_i64(span).value),
+            x: quotient(self.scale.width, days, floats::from_i64(span)),
             ratio: (span != 0).then_some(Ratio {
                 offset: days,
                 span: span,
@@ -141,54 +159,66 @@ impl Scale {
     }
 
     // All kinds but 7, as TimeValue::map_coord: nanoseconds if the span and the offset fit, else whole days.
-    pub fn map_coord(self, v: Value) -> Divided
-        requires { (is_duration self.axis.kind ≡ false) × (value_on self.axis v ≡ true) }
-        ensures { hairline_from self.limits result ≡ hairline_at self.axis self.limits v (map_coord self.axis self.limits v) }
+    pub fn map_coord(self) -> Divided
+        requires { is_duration self.scale.axis.kind ≡ false }
+        ensures { hairline_from self.scale.limits result
+            ≡ hairline_at self.scale.axis self.scale.limits self.value
+            (map_coord self.scale.axis self.scale.limits self.value) }
     {
-        let Some(span) = self.span else {
-            return self.in_days(v);
+        let Some(span) = self.scale.span else {
+            return self.in_days();
         };
-        match axis::offset(self.axis, v) {
-            Some(offset) => in_nanos(self.width, offset, span),
-            None => self.in_days(v),
+        match axis::offset(self.scale.axis, self.value) {
+            Some(offset) => in_nanos(self.scale.width, offset, span),
+            None => self.in_days(),
         }
     }
 
     // Kind 7, as RangedDuration::map: nudged, and where the span fits nanoseconds and the offset does not, the answer is the
     // high limit.
-    pub fn map_duration(self, v: Value) -> Divided
-        requires { (is_duration self.axis.kind ≡ true) × (value_on self.axis v ≡ true) }
-        ensures { hairline_from self.limits result ≡ hairline_at self.axis self.limits v (map_duration self.axis self.limits v) }
+    pub fn map_duration(self) -> Divided
+        requires { is_duration self.scale.axis.kind ≡ true }
+        ensures { hairline_from self.scale.limits result
+            ≡ hairline_at self.scale.axis self.scale.limits self.value
+            (map_duration self.scale.axis self.scale.limits self.value) }
     {
-        let Some(span) = self.span else {
-            return nudged(self.in_days(v));
+        let Some(span) = self.scale.span else {
+            return nudged(self.in_days());
         };
-        let Some(offset) = axis::offset(self.axis, v) else {
+        let Some(offset) = axis::offset(self.scale.axis, self.value) else {
             return Divided {
-                x: self.width,
+                x: self.scale.width,
                 ratio: None,
             };
         };
-        nudged(in_nanos(self.width, offset, span))
+        nudged(in_nanos(self.scale.width, offset, span))
     }
 
     // Either, by the kind.
-    fn divide(self, v: Value) -> Divided
-        requires { value_on self.axis v ≡ true }
-        ensures { hairline_from self.limits result ≡ hairline self.axis self.limits v }
+    fn divide(self) -> Divided
+        ensures { hairline_from self.scale.limits result ≡ hairline self.scale.axis self.scale.limits self.value }
     {
-        if self.axis.kind.is_duration() {
-            return self.map_duration(v);
+        if self.scale.axis.kind.is_duration() {
+            return self.map_duration();
         }
-        self.map_coord(v)
+        self.map_coord()
     }
 
+    // The pixel.
+    fn pixel(self) -> Hairline
+        ensures { result ≡ hairline self.scale.axis self.scale.limits self.value }
+    {
+        self.scale.from_low(self.divide())
+    }
+}
+
+impl Scale {
     // The low limit and the position, cut toward zero. It is exact where W × offset is its product with the span.
     fn from_low(self, q: Divided) -> Hairline
         ensures { result ≡ hairline_from self.limits q }
     {
         let l = self.limits;
-        let position = floats::to_i32(q.x) as i64;
+        let position = i64::from(floats::to_i32(q.x));
         let pixel = l.low + position;
         let Some(r) = q.ratio else {
             return Hairline {
@@ -199,7 +229,7 @@ impl Scale {
         };
         Hairline {
             pixel: pixel,
-            exact: products::same_products(l.high - l.low, r.offset, position, r.span),
+            exact: products::same_products(l.width(), r.offset, position, r.span),
             lost: floats::either_loses(r.offset, r.span),
         }
     }
@@ -209,7 +239,11 @@ impl Scale {
         requires { value_on self.axis v ≡ true }
         ensures { result ≡ hairline self.axis self.limits v }
     {
-        self.from_low(self.divide(v))
+        Placed {
+            scale: self,
+            value: v,
+        }
+        .pixel()
     }
 
     // The pixel of any numbers.
@@ -217,9 +251,7 @@ impl Scale {
         ensures { result ≡ mapped_by self.axis self.limits v }
     {
         ask_value(self.axis, v)?;
-        let h = self.pixel_by(v);
-        ask(Refusal::Range, axis::fits_i32(h.pixel))?;
-        Ok(h)
+        self.pixel_by(v).asked()
     }
 }
 

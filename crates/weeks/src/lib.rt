@@ -41,7 +41,7 @@ fn third(y: u64) -> u64
     calendar::day_number(y, 1, 1) + 2
 }
 
-// The Thursdays of the year y. Year, week and weekday go side by side, each with its own bound, as in `calendar`.
+// The Thursdays of the year y.
 fn weeks_of(y: u64) -> u64
     requires { (1 ≤ y) × (y ≤ 9999) }
     ensures { result ≡ weeks_of y }
@@ -50,7 +50,10 @@ fn weeks_of(y: u64) -> u64
     (t + 365 + calendar::leap_day(y)) / 7 - t / 7
 }
 
-// Has the year a week w? Every year has 52.
+// Year, week and weekday go side by side, each with its own bound, as in `calendar`; the ranges of day numbers are clauses as
+// there.
+
+// Has the year a week w? Every year has 52; were it not said apart, a week date's day would take 52 instructions, and not 38.
 fn has_week(y: u64, w: u64) -> bool
     requires { (1 ≤ y) × (y ≤ 9999) }
     ensures { result ≡ leb w (weeks_of y) }
@@ -60,6 +63,7 @@ fn has_week(y: u64, w: u64) -> bool
 
 // As in calendar::date_of, but for years that begin in January. t: four times the days before n, and 3. c: the centuries.
 // With the leap days that centuries leave out put back, a year is 1461 quarters of a day: p / 2^32 are the years before.
+#[tactic(auto, using(crate::proofs::Years::year_day_is))]
 fn year_day(n: u64) -> YearDay
     requires { (1 ≤ n) × (n ≤ 3652425) }
     ensures { (result.year ≡ (date_of n).year) × (years (result.year - 1) + result.day + 1 ≡ n) }
@@ -96,6 +100,7 @@ fn week_day(y: u64, w: u64, d: u64) -> u64
 }
 
 // A week date, but for the weeks that the year has.
+#[tactic(auto, unfolding(crate::specs::Questions::in_ranges))]
 fn in_ranges(t: Ywd) -> bool
     ensures { result ≡ in_ranges t }
 {
@@ -133,6 +138,7 @@ pub fn week_date_at(n: i64) -> Result<WeekDate, Refusal>
 }
 
 // How many Mondays there are up to the day n.
+#[tactic(auto, using(crate::proofs::Mondays::mondays_to_law))]
 pub fn mondays_to(n: u64) -> u64
     requires { n ≤ last_day }
     ensures { result ≡ mondays_to n }
@@ -141,6 +147,7 @@ pub fn mondays_to(n: u64) -> u64
 }
 
 // The Monday on or before the day n.
+#[tactic(auto, using(crate::proofs::Mondays::monday_is))]
 pub fn monday(n: u64) -> u64
     requires { 1 ≤ n }
     ensures { result ≡ monday n }
@@ -149,6 +156,7 @@ pub fn monday(n: u64) -> u64
 }
 
 // The first Monday from the day n on.
+#[tactic(auto, using(crate::proofs::Mondays::first_monday_law))]
 pub fn first_monday(n: u64) -> u64
     requires { (1 ≤ n) × (n ≤ last_day) }
     ensures { result ≡ first_monday n }

@@ -15,4 +15,4 @@ returns-then-m-eq2 c = rw (c.if-m-eq2.true, c.leap_day.ensures)
 
 pub returns : goal.returns
 unfolding month_length
-returns c = simp (ne_eqb _ _ c.if-m-eq2.false, add-zero)
+returns c = simp (ne_eqb _ _ c.if-m-eq2.false, c.from.ensures, add-zero)

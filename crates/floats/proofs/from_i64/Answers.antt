@@ -5,6 +5,6 @@ use Rattle.laws.proofs.Halves.{upper_is, lower_is}
 use Rattle.floats.proofs.Halves.{by_halves}
 use Rattle.floats.proofs.from_i64.Goals as goal
 
-pub returns-clause-value : goal.returns-clause-value
-returns-clause-value c = let n = c.args.n in
+pub returns : goal.returns
+returns c = let n = c.args.n in
     let f = c.ranges.n in rw (upper_is n f, lower_is (of_z w64 n)) (by_halves n f)

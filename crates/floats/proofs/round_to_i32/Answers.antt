@@ -1,14 +1,14 @@
 -- `floats::round_to_i32` meets its contract: a float is what its bits say. Assumes nothing.
 use mathlib.Core.Path.{◌≡◌, refl, sym, ap, ◌∙◌}
-use mathlib.Core.Bool.{Bool, true, false, cond}
+use mathlib.Core.Bool.{Bool, true, false, not, cond}
 use Prim.Native.Nat.{ℕ, suc, ◌-◌, ◌^◌, min}
 use native.Mathlib.Nat.{lt_of_lt_of_le}
 use native.Mathlib.Omega.{arith}
 use borrow.Author.Tests.{le-leb, lt-leb}
 use lib.Dec.{T, lit≤, leb}
 use lib.IntN.{ℤ, pos, neg_ℤ, ◌-ℤ◌}
-use lib.Ieee.{Float, binary32, fits, of_bits, to_bits, to_signed}
-use lib.Ieee.Bits.{of_bits-to_bits, to_bits-lt}
+use lib.Ieee.{Float, binary32, fits, of_bits, to_bits, to_signed, is_nan}
+use lib.Ieee.Bits.{of_bits-to_bits}
 use lib.Ieee.Casts.{to_signed_in}
 use denote.Floats.{passes}
 use mir.Syntax.{w32, w64}
@@ -19,23 +19,22 @@ use Rattle.floats.specs.Rounding.{round_f}
 use Rattle.floats.proofs.Casts.{is_nan_law, no_nan, no_nan_bits, sign_cast}
 use Rattle.floats.proofs.Rounds.{rounds_sign}
 use Rattle.floats.proofs.round_to_i32.Goals as goal
-use Rattle.floats.proofs.round_to_i32.Goals.{After-round_of-size, Start}
+use Rattle.floats.proofs.round_to_i32.Goals.{After-round_of-size, Else-is_nan, Start}
 
 holds : (c : Start) → T (fits binary32 c.args.x)
 holds c = passes (fits binary32 c.args.x) c.well_formed.0.1
 
-pub returns-then-x : goal.returns-then-x
+pub returns-then-is_nan : goal.returns-then-is_nan
 unfolding to_signed round_f
-returns-then-x c = rw (is_nan_law c.args.x c.if-x.true) refl
+returns-then-is_nan c = rw (is_nan_law c.args.x (sym c.is_nan.ensures.value ∙ c.if-is_nan.true)) refl
 
-pub float_to_bits-bits : goal.float_to_bits-bits
-float_to_bits-bits c = no_nan c.args.x c.if-x.false
-
-pub overflow_cast-bits : goal.overflow_cast-bits
-overflow_cast-bits c = omega (arith, to_bits-lt binary32 c.args.x (holds c.before))
+number : (c : Else-is_nan) → T (not (is_nan c.args.x))
+number c = no_nan c.args.x (sym c.is_nan.ensures.value ∙ c.if-is_nan.false)
 
 pub round_of-size-requires : goal.round_of-size-requires
-round_of-size-requires c = let x = c.args.x in no_nan_bits binary32 x (holds c.before) (no_nan x c.if-x.false)
+round_of-size-requires c = let x = c.args.x in
+    let p = goal.at.round_of-size-requires c in
+    rw c.from-bits.ensures (no_nan_bits binary32 x (holds p.Start) (number p.Else-is_nan))
 
 -- the rounded number, by its size
 law : (c : After-round_of-size) → let x = c.args.x in
@@ -48,15 +47,16 @@ law c = let x = c.args.x in
     let same : of_bits binary32 b ≡ x = of_bits-to_bits binary32 x (holds p.Start) in
     ap (λ (y : Float). to_signed 31 (round_f binary32 y)) (sym same)
     ∙ sign_cast 31 (lit≤ tt) (round_f binary32 (of_bits binary32 b)) (leb (2 ^ 31) b)
-    (rounds_sign binary32 b (rw same (no_nan x c.if-x.false)))
+    (rounds_sign binary32 b (rw same (number p.Else-is_nan)))
     ∙ ap (λ (n : ℕ). cond (leb (2 ^ 31) b) (neg_ℤ (pos (min n (suc (2 ^ 31 - 1))))) (pos (min n (2 ^ 31 - 1))))
-    (sym c.round_of-size.ensures)
+    (sym (rw c.from-bits.ensures at c.round_of-size.ensures))
 
-by_sign : (c : After-round_of-size) (t : Bool) → leb (2 ^ 31) (to_bits binary32 c.args.x) ≡ t →
+by_sign : (c : After-round_of-size) (t : Bool) → leb (2 ^ 31) c.from-bits.result ≡ t →
     let n = c.round_of-size.result in
     cond t (neg_ℤ (pos (min n 2147483648))) (pos (min n 2147483647)) ≡ to_signed 31 (round_f binary32 c.args.x)
 by_sign c t e = let n = c.round_of-size.result in
-    sym (law c ∙ ap (λ (b : Bool). cond b (neg_ℤ (pos (min n 2147483648))) (pos (min n 2147483647))) e)
+    sym (law c ∙ ap (λ (b : Bool). cond b (neg_ℤ (pos (min n 2147483648))) (pos (min n 2147483647)))
+    (ap (leb (2 ^ 31)) (sym c.from-bits.ensures) ∙ e))
 
 fits_32 : (x : Float) → SFits w32 (to_signed 31 x)
 fits_32 x = record { sfits = to_signed_in 31 x }

@@ -8,4 +8,4 @@ use Rattle.mapping.proofs.quotient.Goals as goal
 pub returns : goal.returns
 unfolding quotient_of
 returns c = ap (λ (x : Float). div binary64 (mul binary64 c.args.width x) c.args.total)
-    (c.from_i64.ensures.value ∙ ap (of_int binary64) (to_z-of_z c.ranges.offset))
+    (c.from_i64.ensures ∙ ap (of_int binary64) (to_z-of_z c.ranges.offset))
