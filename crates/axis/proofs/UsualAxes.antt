@@ -1,4 +1,4 @@
--- How the code asks question 3 of a kind but 7, and a short yes for most durations. Assumes nothing.
+-- How the code asks question 3 of a kind but 7, and a quick yes for most durations. Assumes nothing.
 use mathlib.Core.Path.{◌≡◌, refl, sym, ◌∙◌}
 use mathlib.Core.Bool.{Bool, true, false, cond, ◌&&◌}
 use Prim.Native.Nat.{◌+◌, ◌≤◌}

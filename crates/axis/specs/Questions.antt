@@ -129,14 +129,13 @@ checked_if (Some v) = asked (ask refusal.Range (in_calendar v) ∷ []) (Ok (Some
 
 -- 11 is asked where a list's length is known: `has_room` in steps/specs/Listing.antt
 
+-- 4 and 14
+abbrev pub order_questions : Axis → List Question
+order_questions a = ask refusal.Order (in_order a) ∷ (ask refusal.ExcludedEnd (excludable a) ∷ [])
+
 -- the row of operations that kind 7 does not have
 abbrev pub plain_questions : Bool → Axis → List Question
-plain_questions has a =
-    ask refusal.Operation has
-    ∷ (ask refusal.Ends (ends a)
-    ∷ (ask refusal.Order (in_order a)
-    ∷ (ask refusal.ExcludedEnd (excludable a)
-    ∷ [])))
+plain_questions has a = ask refusal.Operation has ∷ (ask refusal.Ends (ends a) ∷ order_questions a)
 
 -- and of those that kind 7 has: question 5 comes last
 abbrev pub axis_questions : Bool → Axis → List Question

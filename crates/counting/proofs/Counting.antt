@@ -25,7 +25,7 @@ use Rattle.weeks.specs.Weeks.{mondays_to}
 use Rattle.weeks.proofs.Mondays.{mondays_to_law}
 use Rattle.values.specs.Values.{over_dates, is_stamp, is_duration}
 use Rattle.values.proofs.Numbers.{is_le}
-use Rattle.values.proofs.Values.{dates_no_duration, DayValue, date_value, day_value}
+use Rattle.values.proofs.Values.{DayValue, date_value, day_value}
 use Rattle.axis.specs.declared.Axis.{Axis}
 use Rattle.axis.specs.Axes.{closed}
 use Rattle.axis.specs.Questions.{has_period, has_index, has_unmap, ends, value_on, plain_questions}
@@ -78,9 +78,6 @@ yearly_dated a e = years a.kind e
 pub weekly_dates : (a : Axis) → weekly a ≡ true → over_dates a.kind ≡ true
 unfolding weekly
 weekly_dates a e = weeks a.kind e
-
-pub weekly_dated : (a : Axis) → weekly a ≡ true → is_duration a.kind ≡ false
-weekly_dated a e = dates_no_duration a.kind (weekly_dates a e)
 
 -- the arms of a match on the kind
 module _ (a : Axis) where
@@ -242,6 +239,15 @@ module _ (a : Axis) (d : Dated a) where
 
   pub end_value : DayValue a.end
   end_value = day_value a.kind a.end (both_ends a d.real).second d.dates
+
+  pub on_is_day : (v : Value) → value_on a v ≡ true → is_day v.head ≡ true
+  on_is_day v e = is_day_law v (on_day v e)
+
+  pub start_is_day : is_day a.start.head ≡ true
+  start_is_day = is_day_law a.start starts
+
+  pub end_is_day : is_day a.end.head ≡ true
+  end_is_day = is_day_law a.end end_value
 
   pub end_on : value_on a a.end ≡ true
   unfolding value_on

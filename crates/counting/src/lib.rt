@@ -6,7 +6,7 @@ ghost use Rattle.std.specs.Prelude.{◌≡◌, true, ◌+◌, ◌*◌, ◌-◌, 
 ghost use Rattle.laws.specs.Numbers.{pos_part};
 ghost use Rattle.calendar.specs.Questions.{is_day};
 ghost use Rattle.axis.specs.Questions.{value_on};
-ghost use Rattle.counting.specs.Counting.{Dated, monthly, yearly, from_day, to_day, first_date, date_on};
+ghost use Rattle.counting.specs.Counting.{Dated, from_day, to_day, first_date, date_on};
 ghost use Rattle.counting.specs.Counting.{origin, position, size_of};
 
 use axis::Axis;
@@ -27,20 +27,6 @@ pub struct DateAxis {
     ghost dated: { Dated axis },
 }
 
-// Does an axis count months?
-pub fn monthly(a: Axis) -> bool
-    ensures { result ≡ monthly a }
-{
-    matches!(a.kind, Kind::Month | Kind::StampMonth)
-}
-
-// Does it count years?
-pub fn yearly(a: Axis) -> bool
-    ensures { result ≡ yearly a }
-{
-    matches!(a.kind, Kind::Year | Kind::StampYear)
-}
-
 // The day of a value, whatever its time is.
 pub fn day_on(v: Value) -> u64
     requires { is_day v.head ≡ true }
@@ -50,18 +36,12 @@ pub fn day_on(v: Value) -> u64
 }
 
 // The date of that day.
+#[tactic(auto, unfolding(crate::specs::Counting::date_on))]
 pub fn date_on(v: Value) -> Date
     requires { is_day v.head ≡ true }
     ensures { result ≡ date_on v }
 {
     calendar::date_of(day_on(v))
-}
-
-// How much x exceeds y, or 0.
-pub fn less(x: u64, y: u64) -> u64
-    ensures { result ≡ x - y }
-{
-    x.saturating_sub(y)
 }
 
 // The months to a date from before January of the first date's year on; an earlier year counts as that year.
@@ -73,36 +53,47 @@ pub fn months_from(first: Date, date: Date) -> u64
 }
 
 impl DateAxis {
+    // The day of the start.
+    #[tactic(auto, using(crate::proofs::Counting::start_is_day))]
+    pub fn start_day(self) -> u64
+        ensures { result ≡ pos_part self.axis.start.head }
+    {
+        day_on(self.axis.start)
+    }
+
     // date_ceil of the start.
     pub fn from_day(self) -> u64
         ensures { result ≡ from_day self.axis }
     {
         calendar::date_ceil(DateTime {
-            day: calendar::as_count(self.axis.start.head),
+            day: self.start_day(),
             nano: calendar::as_count(self.axis.start.tail),
         })
     }
 
     // date_floor of the end.
+    #[tactic(auto, using(crate::proofs::Counting::end_is_day), unfolding(crate::specs::Counting::to_day))]
     pub fn to_day(self) -> u64
         ensures { result ≡ to_day self.axis }
     {
-        calendar::as_count(self.axis.end.head)
+        day_on(self.axis.end)
     }
 
     // The date from which months and years are counted.
+    #[tactic(auto, using(crate::proofs::Counting::from_range), unfolding(crate::specs::Counting::first_date))]
     pub fn first_date(self) -> Date
         ensures { result ≡ first_date self.axis }
     {
         calendar::date_of(self.from_day())
     }
 
+    // That the value is on the axis is a clause: a value is asked about in one call, and no axis keeps it.
+    #[tactic(auto, using(crate::proofs::Counting::on_is_day))]
     pub fn position_of(self, v: Value) -> Position
         requires { value_on self.axis v ≡ true }
         ensures { result ≡ record { from = origin self.axis; at = position self.axis v } }
     {
-        let a = self.axis;
-        match a.kind {
+        match self.axis.kind {
             Kind::Month | Kind::StampMonth => {
                 let first = self.first_date();
                 Position {
@@ -115,11 +106,11 @@ impl DateAxis {
                 at: date_on(v).year,
             },
             Kind::Week => Position {
-                from: weeks::mondays_to(day_on(a.start)),
+                from: weeks::mondays_to(self.start_day()),
                 at: weeks::mondays_to(day_on(v)),
             },
             Kind::Date | Kind::Stamp | Kind::Span => Position {
-                from: day_on(a.start),
+                from: self.start_day(),
                 at: day_on(v),
             },
         }

@@ -2,7 +2,7 @@
 // by whole days in floats.
 #![tactic(auto)]
 
-ghost use Rattle.std.specs.Prelude.{◌≡◌, true, false, pos, ◌+ℤ◌, ◌*ℤ◌};
+ghost use Rattle.std.specs.Prelude.{◌≡◌, true, pos, ◌+ℤ◌, ◌*ℤ◌};
 ghost use Rattle.std.specs.Int.Signed.{quot_z, rem_z};
 ghost use Rattle.laws.specs.Numbers.{within, neg_part};
 ghost use Rattle.laws.specs.Units.{per_day};
@@ -86,14 +86,14 @@ impl Offset {
         ensures { result ≡ date_time_answer (since_zero self.from +ℤ by_days span self.width self.pixels *ℤ pos per_day) }
     {
         let n = floats::to_i64(
-            floats::from_i64(self.pixels).value * floats::from_i64(span).value
-                / floats::from_i64(self.width).value,
+            floats::from_i64(self.pixels) * floats::from_i64(span) / floats::from_i64(self.width),
         );
         self.days_away(n)
     }
 
     // The span of an axis over the width. The Rust's test never passes with a factor below 0, so that swapped limits and a span
-    // of at least their width in nanoseconds go by whole days.
+    // of at least their width in nanoseconds go by whole days. That the axis passed questions 3 and 4 is a clause: it is read for
+    // this call alone, and no field of an offset.
     fn over(self, a: Axis) -> Result<Value, Refusal>
         requires { (ends a ≡ true) × (in_order a ≡ true) }
         ensures { result ≡ date_time_answer (since_zero self.from +ℤ moved_by (span_of a) self.width self.pixels) }
@@ -116,7 +116,7 @@ pub fn unmap_coord(a: Axis, l: Limits, pixel: i64) -> Result<Value, Refusal>
     let o = Offset {
         from: a.start,
         pixels: pixel - l.low,
-        width: l.high - l.low,
+        width: l.width(),
     };
     o.over(a)
 }

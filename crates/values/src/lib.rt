@@ -1,7 +1,7 @@
 // Values of an axis: which numbers are a value of a kind, the order of values, and how far apart two of them are.
 #![tactic(auto)]
 
-ghost use Rattle.std.specs.Prelude.{◌≡◌, pos};
+ghost use Rattle.std.specs.Prelude.{◌≡◌};
 ghost use Rattle.values.specs.Values.{kind_of, over_dates, is_duration, is_value, Both};
 ghost use Rattle.values.specs.Differences.{unit, difference, nanoseconds_of, whole_days, Cut};
 
@@ -65,8 +65,8 @@ impl Kind {
     }
 
     // The nanoseconds of one of a value's head: of a second, or of a day.
-    fn unit(self) -> i64
-        ensures { result ≡ pos (unit self) }
+    pub fn unit(self) -> u64
+        ensures { result ≡ unit self }
     {
         if self.is_duration() {
             1000000000
@@ -77,6 +77,7 @@ impl Kind {
 }
 
 // A value goes beside its kind, which the ends and all values of an axis share: a value with a kind would be two of them.
+
 // Is v a value of the kind?
 pub fn is_value(kind: Kind, v: Value) -> bool
     ensures { result ≡ is_value kind v }

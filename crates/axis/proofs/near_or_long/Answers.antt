@@ -8,7 +8,7 @@ use Rattle.axis.specs.Questions.{near_zero}
 use Rattle.axis.proofs.Axes.{both_ends}
 use Rattle.axis.proofs.Questions.{other_kind, near_ends, far_ends, of_seven}
 use Rattle.axis.proofs.near_or_long.Goals as goal
-use Rattle.axis.proofs.near_or_long.Goals.{After-is_duration, After-near_zero-2, Else-not-is_duration, Start}
+use Rattle.axis.proofs.near_or_long.Goals.{After-is_duration, After-near_zero-2, Else-not-is_duration}
 
 pub returns-then-not-is_duration : goal.returns-then-not-is_duration
 returns-then-not-is_duration c =

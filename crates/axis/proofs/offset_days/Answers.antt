@@ -6,7 +6,6 @@ use mir.Facts.{to_z-of_z}
 use Rattle.axis.specs.Axes.{offset_of}
 use Rattle.axis.proofs.Axes.{with_value}
 use Rattle.axis.proofs.offset_days.Goals as goal
-use Rattle.axis.proofs.offset_days.Goals.{Start}
 
 pub whole_days_between-requires : goal.whole_days_between-requires
 whole_days_between-requires c = with_value c.args.a c.requires.0 c.args.v c.requires.1

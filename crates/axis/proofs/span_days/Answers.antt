@@ -6,7 +6,6 @@ use mir.Facts.{to_z-of_z}
 use Rattle.axis.specs.Axes.{span_of}
 use Rattle.axis.proofs.Axes.{both_ends}
 use Rattle.axis.proofs.span_days.Goals as goal
-use Rattle.axis.proofs.span_days.Goals.{Start}
 
 pub whole_days_between-requires : goal.whole_days_between-requires
 whole_days_between-requires c = both_ends c.args.a c.requires

@@ -16,7 +16,8 @@ returns-in-Date c = let r : InRange c.args.v = search rules in
 
 pub returns-in-Stamp : goal.returns-in-Stamp
 returns-in-Stamp c = let r : InRange c.args.v = search rules in
-    rw (c.is_day-in-Stamp.ensures, to_z-of_z r.head, to_z-of_z r.tail) (sym (of_date_times c.args.kind c.args.v (in_times c.args.kind c.in-Stamp.is)))
+    rw (c.is_day-in-Stamp.ensures, to_z-of_z r.head, to_z-of_z r.tail)
+    (sym (of_date_times c.args.kind c.args.v (in_times c.args.kind c.in-Stamp.is)))
 
 pub returns-in-Span : goal.returns-in-Span
 returns-in-Span c = let r : InRange c.args.v = search rules in

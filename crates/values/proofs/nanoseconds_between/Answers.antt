@@ -64,7 +64,7 @@ module _ (c : After-from-4) where
   heads_read = let h : to_z w128 (of_z w128 c.from-3.result) ≡ c.in_ok-heads.heads = search rules in h ∙ heads_are.1
 
   unit_read : to_z w128 (of_z w128 c.from-4.result) ≡ pos k
-  unit_read = let h : to_z w128 (of_z w128 c.from-4.result) ≡ c.unit.result = search rules in h ∙ c.unit.ensures
+  unit_read = let h : to_z w128 (of_z w128 c.from-4.result) ≡ pos c.unit.result = search rules in h ∙ ap pos c.unit.ensures
 
   tails_read : to_z w128 (of_z w128 (to_z w128 (of_z w128 c.from.result) -ℤ to_z w128 (of_z w128 c.from-2.result))) ≡ tails
   tails_read =

@@ -5,14 +5,11 @@ use native.Mathlib.Omega.{arith}
 use Rattle.calendar.specs.declared.Date.{Date}
 use Rattle.weeks.specs.Weeks.{mondays_to}
 use Rattle.counting.specs.Counting.{first_date}
-use Rattle.counting.proofs.Counting.{Near, on_day, starts, is_day_law, on_near, in_months, in_years, in_weeks, in_days}
+use Rattle.counting.proofs.Counting.{Near, on_day, starts, on_near, in_months, in_years, in_weeks, in_days}
 use Rattle.counting.proofs.Counting.{origin_months, origin_years, origin_weeks, origin_days}
 use Rattle.counting.proofs.Counting.{position_months, position_years, position_weeks, position_days}
 use Rattle.counting.proofs.DateAxis.position_of.Goals as goal
 use Rattle.counting.proofs.DateAxis.position_of.Goals.{After-date_on}
-
-pub date_on-requires : goal.date_on-requires
-date_on-requires c = is_day_law c.args.v (on_day c.args.self.axis c.args.self.dated c.args.v c.requires)
 
 near : (c : After-date_on) → Near c.date_on.result 9999
 near c = rw c.date_on.ensures (on_near c.args.self.axis c.args.self.dated c.args.v c.requires)
@@ -20,27 +17,12 @@ near c = rw c.date_on.ensures (on_near c.args.self.axis c.args.self.dated c.args
 pub months_from-requires : goal.months_from-requires
 months_from-requires c = let n = near (goal.at.months_from-requires c).After-date_on in (n.year_most, n.month_most)
 
-pub date_on-requires-in-Year : goal.date_on-requires-in-Year
-date_on-requires-in-Year c = is_day_law c.args.v (on_day c.args.self.axis c.args.self.dated c.args.v c.requires)
-
-pub day_on-requires : goal.day_on-requires
-day_on-requires c = is_day_law c.args.self.axis.start (starts c.args.self.axis c.args.self.dated)
-
 pub mondays_to-requires : goal.mondays_to-requires
-mondays_to-requires c = omega (arith, c.day_on.ensures, (starts c.args.self.axis c.args.self.dated).head_most)
-
-pub day_on-requires-in-Week : goal.day_on-requires-in-Week
-day_on-requires-in-Week c = is_day_law c.args.v (on_day c.args.self.axis c.args.self.dated c.args.v c.requires)
+mondays_to-requires c = omega (arith, c.start_day.ensures, (starts c.args.self.axis c.args.self.dated).head_most)
 
 pub mondays_to-requires-in-Week : goal.mondays_to-requires-in-Week
 mondays_to-requires-in-Week c =
-    omega (arith, c.day_on-in-Week.ensures, (on_day c.args.self.axis c.args.self.dated c.args.v c.requires).head_most)
-
-pub day_on-requires-in-Date : goal.day_on-requires-in-Date
-day_on-requires-in-Date c = is_day_law c.args.self.axis.start (starts c.args.self.axis c.args.self.dated)
-
-pub day_on-requires-in-Date-2 : goal.day_on-requires-in-Date-2
-day_on-requires-in-Date-2 c = is_day_law c.args.v (on_day c.args.self.axis c.args.self.dated c.args.v c.requires)
+    omega (arith, c.day_on.ensures, (on_day c.args.self.axis c.args.self.dated c.args.v c.requires).head_most)
 
 pub returns-in-Month : goal.returns-in-Month
 returns-in-Month c = let a = c.args.self.axis in
@@ -62,13 +44,13 @@ returns-in-Year c = let a = c.args.self.axis in
 pub returns-in-Week : goal.returns-in-Week
 returns-in-Week c = let a = c.args.self.axis in
     let (m, y, w) = in_weeks a c.in-Week.is in
-    let p = c.mondays_to.ensures ∙ ap mondays_to c.day_on.ensures ∙ sym (origin_weeks a m y w) in
-    let q = c.mondays_to-in-Week.ensures ∙ ap mondays_to c.day_on-in-Week.ensures ∙ sym (position_weeks a c.args.v m y w) in
+    let p = c.mondays_to.ensures ∙ ap mondays_to c.start_day.ensures ∙ sym (origin_weeks a m y w) in
+    let q = c.mondays_to-in-Week.ensures ∙ ap mondays_to c.day_on.ensures ∙ sym (position_weeks a c.args.v m y w) in
     λ i. record { from = p i; at = q i }
 
 pub returns-in-Date : goal.returns-in-Date
 returns-in-Date c = let a = c.args.self.axis in
     let (m, y, w) = in_days a c.in-Date.is in
-    let p = c.day_on-in-Date.ensures ∙ sym (origin_days a m y w) in
-    let q = c.day_on-in-Date-2.ensures ∙ sym (position_days a c.args.v m y w) in
+    let p = c.start_day-in-Date.ensures ∙ sym (origin_days a m y w) in
+    let q = c.day_on-in-Date.ensures ∙ sym (position_days a c.args.v m y w) in
     λ i. record { from = p i; at = q i }

@@ -11,8 +11,10 @@ pub position_of-p-requires : goal.position_of-p-requires
 position_of-p-requires c = end_on c.args.self.axis c.args.self.dated
 
 pub overflow_add-p : goal.overflow_add-p
-overflow_add-p c = let e = ap (λ (x : Position). x.at) c.position_of-p.ensures in
-    omega (arith, e, position_most c.args.self.axis c.args.self.dated c.args.self.axis.end (end_on c.args.self.axis c.args.self.dated))
+overflow_add-p c = let d = c.args.self in
+    let e = ap (λ (x : Position). x.at) c.position_of-p.ensures in
+    omega (arith, e, position_most d.axis d.dated d.axis.end (end_on d.axis d.dated))
 
 pub returns : goal.returns
-returns c = c.saturating_sub.ensures ∙ ap (λ (x : Position). x.at + 1 - x.from) c.position_of-p.ensures ∙ sym (size_is c.args.self.axis)
+returns c = c.saturating_sub.ensures ∙ ap (λ (x : Position). x.at + 1 - x.from) c.position_of-p.ensures
+    ∙ sym (size_is c.args.self.axis)
