@@ -124,3 +124,14 @@ module _ {span n : ℕ} {l : Ladder} (c : Climbable span n l) where
           units = w.units;
           parts = w.parts;
         }
+
+  -- through a turn's first j steps, which fail
+  module _ {unit before : ℕ} (w : Climbed span n l unit (span / unit) before 0 before) where
+    abbrev Fails : ℕ → Type 0
+    Fails j = (k : ℕ) → k < j → n * get_or l.counts k 0 < span / unit
+
+    pub climb_to : (j : ℕ) → j ≤ length l.counts → Fails j → Climbed span n l unit (span / unit) before j (before + j)
+    climb_to zero h f = let e : before + 0 ≡ before = omega arith in rw e w
+    climb_to (suc j) h f =
+        let e : before + suc j ≡ suc (before + j) = omega arith in
+        rw e (climb_on (climb_to j (omega arith) (λ k q. f k (omega arith))) h (f j (omega arith)))

@@ -61,7 +61,7 @@ module _ {test : ℕ → Bool} {most : ℕ} where
     pub come_here : test i ≡ true → i ≡ first_from test most 0
     come_here e = sym (here test (most - i) i e) ∙ w.rest
 
-    pub come_last : most ≤ i → i ≡ first_from test most 0
+    come_last : most ≤ i → i ≡ first_from test most 0
     come_last h = let e : most - i ≡ 0 = omega arith in sym (last test i) ∙ (rw e at w.rest)
 
     pub come_next : i < most → test i ≡ false → Come test most (suc i)

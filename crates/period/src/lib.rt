@@ -51,7 +51,9 @@ pub struct Period {
     pub tested: u64,
 }
 
-// Bounds of single numbers stay clauses, here and below: a type for each would be opened again in every formula.
+// Bounds of single numbers stay clauses, here and below: a type for each is no plainer, every formula would open it again.
+// A span and n stay two numbers: each function asks other bounds of them, so that a struct would hold no fact.
+
 // The largest power of ten that goes into the span n times, or 1.
 fn largest_power(span: u64, n: u64) -> u64
     requires { 0 < n }
@@ -122,15 +124,13 @@ fn climb(span: u64, n: u64, l: Rungs) -> Period
     let mut tested: u64 = 0;
     loop {
         let whole = span / unit;
-        for count in l.counts {
-            tested += 1;
-            if whole <= n * *count {
-                return Period {
-                    nanoseconds: *count * unit,
-                    tested,
-                };
-            }
+        if let Some(i) = l.counts.iter().position(|count| whole <= n * *count) {
+            return Period {
+                nanoseconds: l.counts[i] * unit,
+                tested: tested + i as u64 + 1,
+            };
         }
+        tested += l.counts.len() as u64;
         unit *= l.base;
     }
 }
@@ -159,10 +159,9 @@ const RAREST: u64 = 10000000;
 pub fn first_fit(total: u64, n: u64) -> u64
     ensures { result ≡ first_fit total n }
 {
-    for frequency in FREQUENCIES {
-        if total / frequency <= n {
-            return frequency;
-        }
-    }
-    RAREST
+    FREQUENCIES
+        .iter()
+        .copied()
+        .find(|frequency| total / *frequency <= n)
+        .unwrap_or(RAREST)
 }

@@ -2,13 +2,13 @@
 // date-times and durations a period apart; whole days of a long duration.
 #![tactic(auto)]
 
-ghost use Rattle.std.specs.Prelude.{◌≡◌, true, false, ◌+◌, ◌-◌, ◌≤◌, ◌<◌, ◌^◌, min, pos};
+ghost use Rattle.std.specs.Prelude.{◌≡◌, true, false, ◌+◌, ◌-◌, ◌≤◌, ◌<◌, ◌^◌, min};
 ghost use Rattle.values.specs.declared.Kind.TheVariants.{Span};
 ghost use Rattle.values.specs.Values.{is_value, is_duration};
-ghost use Rattle.values.specs.Differences.{unit, days_in};
+ghost use Rattle.values.specs.Differences.{days_in};
 ghost use Rattle.counting.specs.Counting.{from_day};
 ghost use Rattle.calendar.specs.Questions.{last_day};
-ghost use Rattle.plans.specs.Days.{evenly, date_step, day_plan};
+ghost use Rattle.plans.specs.Days.{whole_heads, evenly, date_step, day_plan};
 ghost use Rattle.plans.specs.Weeks.{week_step, week_plan};
 ghost use Rattle.floats.specs.Rounding.{ceil_of};
 ghost use Rattle.plans.specs.Months.{from_month, to_month, year_step, month_step, months_by};
@@ -45,19 +45,49 @@ pub struct Hinted {
     ghost accepted: { Accepted axis n },
 }
 
-pub fn even_plan(e: Even) -> Steps
-    requires { 0 < e.step }
-    ensures { result ≡ evenly e }
-{
-    Steps {
-        numbering: Numbering::Even(e.heads),
-        first: e.first,
-        step: e.step,
-        count: steps::how_many(e.end.saturating_sub(e.first), e.step),
+impl Even {
+    // Each number is a head, and the first is base.
+    pub fn whole_heads(base: i64, end: u64, step: u64) -> Even
+        ensures { result ≡ record { heads = whole_heads base; first = 0; end = end; step = step } }
+    {
+        Even {
+            heads: Heads { base, per: 1 },
+            first: 0,
+            end,
+            step,
+        }
+    }
+
+    pub fn plan(self) -> Steps
+        requires { 0 < self.step }
+        ensures { result ≡ evenly self }
+    {
+        Steps {
+            numbering: Numbering::Even(self.heads),
+            first: self.first,
+            step: self.step,
+            count: steps::how_many(self.end.saturating_sub(self.first), self.step),
+        }
     }
 }
 
-// Bounds of single numbers stay clauses, here and below: a type for each would be opened again in every formula.
+impl MonthRange {
+    // Ticks k months apart.
+    pub fn every(self, k: u64) -> Steps
+        requires { (0 < k) × (self.last < 120000) }
+        ensures { result ≡ months_by self.first self.last k }
+    {
+        Steps {
+            numbering: Numbering::Months,
+            first: self.first,
+            step: k,
+            count: steps::how_many((self.last + 1).saturating_sub(self.first), k),
+        }
+    }
+}
+
+// Bounds of single numbers stay clauses, here and below: a type for each is no plainer, every formula would open it again.
+
 // The weeks of a step, which no hint makes longer than all of them and one.
 #[tactic(auto, using(crate::proofs::Days::weeks_at_most), unfolding(floats::specs::Rounding::ceil_of))]
 fn weeks_per(w: u64, n: u64) -> u64
@@ -95,13 +125,7 @@ fn day_plan(d: DateAxis, n: u64) -> Steps
 {
     let from = d.from_day();
     let later = d.to_day().saturating_sub(from);
-    let base = from as i64;
-    even_plan(Even {
-        heads: Heads { base, per: 1 },
-        first: 0,
-        end: later + 1,
-        step: date_step(later, n),
-    })
+    Even::whole_heads(from as i64, later + 1, date_step(later, n)).plan()
 }
 
 // The weeks of a step, where there are c Mondays.
@@ -121,13 +145,8 @@ fn week_plan(d: DateAxis, n: u64) -> Steps
 {
     let first = weeks::first_monday(d.from_day());
     let last = d.to_day();
-    let base = first as i64;
-    even_plan(Even {
-        heads: Heads { base, per: 1 },
-        first: 0,
-        end: (last + 1).saturating_sub(first),
-        step: 7 * week_step((last + 7).saturating_sub(first) / 7, n),
-    })
+    let step = 7 * week_step((last + 7).saturating_sub(first) / 7, n);
+    Even::whole_heads(first as i64, (last + 1).saturating_sub(first), step).plan()
 }
 
 // The months of a step of years, where the last month is t later than the first.
@@ -156,19 +175,6 @@ fn month_step(t: u64, n: u64) -> u64
     }
 }
 
-// Ticks k months apart.
-pub fn months_by(m: MonthRange, k: u64) -> Steps
-    requires { (0 < k) × (m.last < 120000) }
-    ensures { result ≡ months_by m.first m.last k }
-{
-    Steps {
-        numbering: Numbering::Months,
-        first: m.first,
-        step: k,
-        count: steps::how_many((m.last + 1).saturating_sub(m.first), k),
-    }
-}
-
 #[tactic(auto, using(crate::proofs::Months::months_of_axis))]
 pub fn months_on(d: DateAxis) -> MonthRange
     ensures { result ≡ record { first = from_month d.axis; last = to_month d.axis } }
@@ -188,7 +194,7 @@ fn by_months<F: FnOnce(u64) -> u64>(d: DateAxis, step: F) -> Steps
         × (result ≡ months_by (from_month d.axis) (to_month d.axis) k) }
 {
     let m = months_on(d);
-    months_by(m, step(m.last.saturating_sub(m.first)))
+    m.every(step(m.last.saturating_sub(m.first)))
 }
 
 // From x up to a multiple of k.
@@ -211,7 +217,7 @@ fn shift_of(z: i64, k: u64) -> u64
     if z.cast_unsigned() % k == 0 {
         return 0;
     }
-    let rest = floats::unsigned_abs(z % (k as i64));
+    let rest = (z % (k as i64)).unsigned_abs();
     if 0 < z { k - rest } else { rest }
 }
 
@@ -231,17 +237,6 @@ fn shift(a: Axis, k: u64) -> u64
     )
 }
 
-// The nanoseconds of a head.
-fn unit(kind: Kind) -> u64
-    ensures { result ≡ unit kind }
-{
-    if kind.is_duration() {
-        1000000000
-    } else {
-        86400000000000
-    }
-}
-
 // Ticks a period apart.
 #[tactic(auto, using(crate::proofs::Spans::times_of_axis), unfolding(crate::specs::Times::time_plan))]
 fn time_plan(a: Axis, k: u64) -> Steps
@@ -250,15 +245,16 @@ fn time_plan(a: Axis, k: u64) -> Steps
 {
     let span = axis::span(a).unwrap();
     let tail = calendar::as_count(a.start.tail);
-    even_plan(Even {
+    let ticks = Even {
         heads: Heads {
             base: a.start.head,
-            per: unit(a.kind),
+            per: a.kind.unit(),
         },
         first: tail + shift(a, k),
         end: tail + calendar::as_count(span),
         step: k,
-    })
+    };
+    ticks.plan()
 }
 
 // The whole days of a duration, cut toward zero.
@@ -304,15 +300,7 @@ fn span_days_plan(a: Axis, n: u64) -> Steps
     let first = first_second(a.start);
     let d = days_in(a.end) - days_in(a.start);
     let step = 86400 * period::first_fit(calendar::as_count(d), n);
-    even_plan(Even {
-        heads: Heads {
-            base: first,
-            per: 1,
-        },
-        first: 0,
-        end: seconds_left(a, first),
-        step: step,
-    })
+    Even::whole_heads(first, seconds_left(a, first), step).plan()
 }
 
 impl Hinted {

@@ -12,7 +12,7 @@ use axis::Axis;
 use counting::DateAxis;
 use plans::{Even, MonthRange};
 use rules::{Row, Unit};
-use steps::{Heads, Steps};
+use steps::Steps;
 
 // Every step-th day from the first on; the last is included.
 #[tactic(auto, using(crate::proofs::Ruled::days_of_axis), unfolding(crate::specs::Plans::ruled_plan))]
@@ -21,13 +21,8 @@ fn days_by(d: DateAxis, step: u64) -> Steps
     ensures { result ≡ ruled_plan unit.Day step d.axis }
 {
     let from = d.from_day();
-    let base = from as i64;
-    plans::even_plan(Even {
-        heads: Heads { base, per: 1 },
-        first: 0,
-        end: (d.to_day() + 1).saturating_sub(from),
-        step,
-    })
+    let end = (d.to_day() + 1).saturating_sub(from);
+    Even::whole_heads(from as i64, end, step).plan()
 }
 
 // From the first January of a range of months on.
@@ -49,8 +44,8 @@ fn plan_by(d: DateAxis, w: Row) -> Steps
 {
     match w.unit {
         Unit::Day => days_by(d, w.step),
-        Unit::Month => plans::months_by(plans::months_on(d), w.step),
-        Unit::Year => plans::months_by(from_january(plans::months_on(d)), 12 * w.step),
+        Unit::Month => plans::months_on(d).every(w.step),
+        Unit::Year => from_january(plans::months_on(d)).every(12 * w.step),
     }
 }
 
@@ -68,6 +63,9 @@ fn length(d: DateAxis) -> u64
 {
     d.to_day().saturating_sub(d.from_day())
 }
+
+// An axis and a table stay two values: before the questions nothing is known of both, and after them they are a `DateAxis`
+// and a `Row`.
 
 // Asks the table and the axis, and makes the plan by the row for the axis's length.
 fn plan(a: Axis, table: &[u8]) -> Result<Steps, Refusal>
@@ -87,7 +85,7 @@ fn plan(a: Axis, table: &[u8]) -> Result<Steps, Refusal>
 pub fn count(a: Axis, table: &[u8], lent_len: u64) -> Result<u64, Refusal>
     ensures { result ≡ ruled_answer table.now a lent_len }
 {
-    steps::count(plan(a, table)?, lent_len)
+    plan(a, table)?.count(lent_len)
 }
 
 // How many ticks the table gives, and the list at the front of the lent numbers.
@@ -96,5 +94,5 @@ pub fn list(a: Axis, table: &[u8], lent: &mut [i64]) -> Result<u64, Refusal>
     ensures value { result ≡ ruled_answer table.now a (length lent.old) }
     ensures after_call { lent.new ≡ ruled_written table.now a lent.old }
 {
-    steps::list(plan(a, table)?, lent)
+    plan(a, table)?.list(lent)
 }

@@ -32,7 +32,8 @@ pub struct Steps {
     pub count: u64,
 }
 
-// Bounds of single numbers stay clauses, here and below: a type for each would be opened again in every formula.
+// Bounds of single numbers stay clauses, here and below: a type for each is no plainer, every formula would open it again.
+
 // The day number of the first day of a month.
 #[tactic(auto, using(calendar::proofs::Dates::a_first), unfolding(crate::specs::Months::first_day))]
 fn first_day(m: u64) -> u64
@@ -79,69 +80,71 @@ pub fn how_many(room: u64, step: u64) -> u64
     room.div_ceil(step)
 }
 
-// Are k lent numbers two for each tick?
-fn has_room(s: Steps, k: u64) -> bool
-    ensures { result ≡ has_room (ticks s) k }
-{
-    s.count <= k / 2
-}
-
-// The answer of a list where k numbers are lent, with nothing listed.
-#[tactic(auto, using(crate::proofs::Pairs::count_is))]
-pub fn count(s: Steps, k: u64) -> Result<u64, Refusal>
-    ensures { result ≡ listed_of (ticks s) k }
-{
-    asking::ask(Refusal::Room, has_room(s, k))?;
-    Ok(s.count)
-}
-
-// A day number for each tick; months have no common length. Both loops write by index: std says nothing of what a slice holds
-// after `chunks_exact_mut`.
-fn list_months(s: Steps, lent: &mut [i64])
-    requires { (number_at s (s.count - 1) < 120000) × (2 * s.count ≤ length lent.old) }
-    ensures { lent.new ≡ numbers (month_ticks s) ++ drop (2 * s.count) lent.old }
-{
-    for i in 0..s.count as usize {
-        let day = first_day(s.first + i as u64 * s.step) as i64;
-        lent[2 * i] = day;
-        lent[2 * i + 1] = 0;
+impl Steps {
+    // Are k lent numbers two for each tick?
+    fn has_room(self, k: u64) -> bool
+        ensures { result ≡ has_room (ticks self) k }
+    {
+        self.count <= k / 2
     }
-}
 
-// No division for each tick: the step's whole heads and its rest are added, and a head is carried.
-fn list_even(h: Heads, s: Steps, lent: &mut [i64])
-    requires { InRange h s × (2 * s.count ≤ length lent.old) }
-    ensures { lent.new ≡ numbers (even_ticks h s) ++ drop (2 * s.count) lent.old }
-{
-    let heads = s.step / h.per;
-    let rest = s.step % h.per;
-    let mut whole = s.first / h.per;
-    let mut part = s.first % h.per;
-    let count = s.count as usize;
-    for i in 0..count {
-        let head = h.base + whole as i64;
-        lent[2 * i] = head;
-        lent[2 * i + 1] = part as i64;
-        whole += heads;
-        part += rest;
-        if part >= h.per {
-            part -= h.per;
-            whole += 1;
+    // The answer of a list where k numbers are lent, with nothing listed.
+    #[tactic(auto, using(crate::proofs::Pairs::count_is))]
+    pub fn count(self, k: u64) -> Result<u64, Refusal>
+        ensures { result ≡ listed_of (ticks self) k }
+    {
+        asking::ask(Refusal::Room, self.has_room(k))?;
+        Ok(self.count)
+    }
+
+    // A day number for each tick; months have no common length. Both loops write by index: std says nothing of what a
+    // slice holds after `chunks_exact_mut`, and of `as_chunks_mut` nothing of what the slice ends as.
+    fn list_months(self, lent: &mut [i64])
+        requires { (number_at self (self.count - 1) < 120000) × (2 * self.count ≤ length lent.old) }
+        ensures { lent.new ≡ numbers (month_ticks self) ++ drop (2 * self.count) lent.old }
+    {
+        for i in 0..self.count as usize {
+            let day = first_day(self.first + i as u64 * self.step) as i64;
+            lent[2 * i] = day;
+            lent[2 * i + 1] = 0;
         }
     }
-}
 
-// Sets the pairs of the list at the front of the lent numbers, unless these are too few.
-#[tactic(auto, using(crate::proofs::Fronts::by_numbering))]
-pub fn list(s: Steps, lent: &mut [i64]) -> Result<u64, Refusal>
-    requires { Sound s }
-    ensures value { result ≡ listed_of (ticks s) (length lent.old) }
-    ensures after_call { lent.new ≡ lent_after (ticks s) lent.old }
-{
-    let listed = count(s, lent.len() as u64)?;
-    match s.numbering {
-        Numbering::Months => list_months(s, lent),
-        Numbering::Even(h) => list_even(h, s, lent),
+    // No division for each tick: the step's whole heads and its rest are added, and a head is carried.
+    fn list_even(self, h: Heads, lent: &mut [i64])
+        requires { InRange h self × (2 * self.count ≤ length lent.old) }
+        ensures { lent.new ≡ numbers (even_ticks h self) ++ drop (2 * self.count) lent.old }
+    {
+        let heads = self.step / h.per;
+        let rest = self.step % h.per;
+        let mut whole = self.first / h.per;
+        let mut part = self.first % h.per;
+        let count = self.count as usize;
+        for i in 0..count {
+            let head = h.base + whole as i64;
+            lent[2 * i] = head;
+            lent[2 * i + 1] = part as i64;
+            whole += heads;
+            part += rest;
+            if part >= h.per {
+                part -= h.per;
+                whole += 1;
+            }
+        }
     }
-    Ok(listed)
+
+    // Sets the pairs of the list at the front of the lent numbers, unless these are too few.
+    #[tactic(auto, using(crate::proofs::Fronts::by_numbering))]
+    pub fn list(self, lent: &mut [i64]) -> Result<u64, Refusal>
+        requires { Sound self }
+        ensures value { result ≡ listed_of (ticks self) (length lent.old) }
+        ensures after_call { lent.new ≡ lent_after (ticks self) lent.old }
+    {
+        let listed = self.count(lent.len() as u64)?;
+        match self.numbering {
+            Numbering::Months => self.list_months(lent),
+            Numbering::Even(h) => self.list_even(h, lent),
+        }
+        Ok(listed)
+    }
 }

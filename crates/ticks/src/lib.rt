@@ -50,6 +50,8 @@ fn refined(bold: u64, q: Hinted) -> Hinted
     }
 }
 
+// An axis and a hint stay two values: before the questions nothing is known of both, and after them they are a `Hinted`.
+
 // The questions before the list's length is known.
 pub fn ask_ticks(a: Axis, h: Hint) -> Result<(), Refusal>
     ensures { result ≡ asked (tick_questions a h) (Ok tt) }
@@ -100,7 +102,7 @@ pub fn plan(a: Axis, h: Hint) -> Result<Steps, Refusal>
 pub fn count(a: Axis, h: Hint, lent_len: u64) -> Result<u64, Refusal>
     ensures { result ≡ ticks_answer a h lent_len }
 {
-    steps::count(plan(a, h)?, lent_len)
+    plan(a, h)?.count(lent_len)
 }
 
 // How many ticks a hint gets, and the list at the front of the lent numbers.
@@ -109,7 +111,7 @@ pub fn list(a: Axis, h: Hint, lent: &mut [i64]) -> Result<u64, Refusal>
     ensures value { result ≡ ticks_answer a h (length lent.old) }
     ensures after_call { lent.new ≡ ticks_written a h lent.old }
 {
-    steps::list(plan(a, h)?, lent)
+    plan(a, h)?.list(lent)
 }
 
 // The part of the lent numbers that holds the list; empty when refused.

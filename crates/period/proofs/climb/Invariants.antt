@@ -5,12 +5,8 @@ use Rattle.period.specs.Ladders.{ladder}
 use Rattle.period.proofs.Climbing.{Climbed}
 use Rattle.period.proofs.climb.Given as goal
 
-abbrev pub invariant-loop-count : goal.invariant-loop-count
-invariant-loop-count l = Climbed l.span l.n (ladder l.l.unit l.l.base l.l.counts.now) l.unit (l.span / l.unit) l.tested 0 l.tested
+abbrev pub invariant-loop-i : goal.invariant-loop-i
+invariant-loop-i l = Climbed l.span l.n (ladder l.l.unit l.l.base l.l.counts.now) l.unit (l.span / l.unit) l.tested 0 l.tested
 
-abbrev pub invariant-loop-count-2 : goal.invariant-loop-count-2
-invariant-loop-count-2 l =
-    Climbed l.span l.n (ladder l.l.unit l.l.base l.l.counts.now) l.unit l.whole l.initial.tested l.count-index l.tested
-
-abbrev pub decreases-loop-count : goal.decreases-loop-count
-decreases-loop-count l = 16 - l.tested
+abbrev pub decreases-loop-i : goal.decreases-loop-i
+decreases-loop-i l = 16 - l.tested

@@ -1,36 +1,23 @@
 -- `period::first_fit` meets its contract: the table has the first 21 steps of the ladder. Assumes nothing.
-use mathlib.Core.Path.{◌≡◌, ◌∙◌}
-use mathlib.Core.List.{List, [], ◌∷◌}
-use Prim.Native.Nat.{ℕ, ◌<◌}
-use native.Mathlib.Numerals.{add-one}
-use native.Mathlib.Omega.{arith}
-use lib.Dec.{eqb, eqb→eq}
-use lib.ListN.{get_or}
-use Rattle.laws.proofs.Tables.{all, at}
-use Rattle.period.specs.Ladders.{step_at, decimal_ladder}
-use Rattle.period.proofs.Fits.{fit_here, fit_next, fit_last}
+use borrow.Author.Rules.{rules}
+use borrow.Author.Tests.{tests}
+use mathlib.Core.Path.{◌≡◌, sym, ap, ◌∙◌}
+use Prim.Native.Nat.{ℕ, ◌/◌}
+use lib.Dec.{leb}
+use Rattle.std.specs.Prelude.{Option, unwrap_or, option_map}
+use Rattle.std.specs.List.{find}
+use Rattle.std.proofs.lemmas.Iterator.{YieldsList-from_slice}
+use Rattle.std.proofs.lemmas.Iterator.Adapters.{option_map_id}
+use Rattle.std.proofs.lemmas.Iterator.Consumers.{YieldsList-from_copied}
+use Rattle.std.proofs.lemmas.Iterator.Search.{find_from_yields_List}
+use Rattle.period.proofs.Fits.{steps_from, fit_found}
 use Rattle.period.proofs.first_fit.Goals as goal
 
--- the table's rule, by one computed test
-abbrev table : List ℕ
-table = 1 ∷ 2 ∷ 5 ∷ 10 ∷ 20 ∷ 50 ∷ 100 ∷ 200 ∷ 500 ∷ 1000 ∷ 2000 ∷ 5000 ∷ 10000 ∷ 20000 ∷ 50000 ∷ 100000 ∷ 200000 ∷ 500000
-    ∷ 1000000 ∷ 2000000 ∷ 5000000 ∷ []
-
-entry : (i : ℕ) → i < 21 → get_or table i 0 ≡ step_at (decimal_ladder 1) i
-unfolding all
-entry i h = eqb→eq (get_or table i 0) (step_at (decimal_ladder 1) i)
-    (at (λ (i : ℕ). eqb (get_or table i 0) (step_at (decimal_ladder 1) i)) 21 tt i h)
-
-pub returns-then-total-frequency : goal.returns-then-total-frequency
-returns-then-total-frequency c = let a = c.args in
-    let is = entry c.loop-frequency.frequency-index (omega arith) in
-    let t = rw is at c.if-total-frequency.true in
-    is ∙ fit_here a.total a.n c.loop-frequency.invariant t
-
-pub loop-frequency-preserved : goal.loop-frequency-preserved
-loop-frequency-preserved c = let a = c.args in
-    let t = rw (entry c.loop-frequency.frequency-index (omega arith)) at c.if-total-frequency.false in
-    rw (add-one c.loop-frequency.frequency-index) (fit_next a.total a.n c.loop-frequency.invariant (omega arith) t)
-
 pub returns : goal.returns
-returns c = fit_last c.args.total c.args.n c.loop-frequency.invariant (omega arith)
+returns c = let a = c.args in
+    let f : option_map (λ (y : ℕ). y) c.find.result ≡ find (λ (x : ℕ). leb (a.total / x) a.n) (steps_from 21 0) =
+    find_from_yields_List (λ (x : ℕ). leb (a.total / x) a.n) _ _ c.find.result c.find.ensures.ran
+    (YieldsList-from_copied (YieldsList-from_slice (steps_from 21 0) cc)) (λ x b q k. search (rules, tests)) in
+    c.unwrap_or.ensures
+    ∙ ap (λ (o : Option ℕ). unwrap_or o 10000000) (sym (option_map_id c.find.result) ∙ f)
+    ∙ fit_found a.total a.n

@@ -40,7 +40,8 @@ as_count-requires c = let a = c.args.a in
 pub returns : goal.returns
 unfolding span_days_plan
 returns c =
-    c.even_plan.ensures ∙ rw (
+    c.plan.ensures ∙ rw (
+      c.whole_heads.ensures,
       first (goal.at.returns c).After-first_second-first,
       c.seconds_left.ensures,
       c.first_fit-step.ensures,

@@ -1,4 +1,4 @@
--- `steps::list_months` meets its contract: after i turns lent is i pairs and then what it had. Assumes nothing.
+-- `steps::Steps::list_months` meets its contract: after i turns lent is i pairs and then what it had. Assumes nothing.
 use mathlib.Core.Path.{◌≡◌, ap, ◌∙◌}
 use Prim.Native.Nat.{◌^◌, ◌<◌}
 use native.Mathlib.Omega.{arith}
@@ -11,12 +11,12 @@ use Rattle.steps.specs.Progression.{number_at, month_tick}
 use Rattle.steps.proofs.Months.{first_most}
 use Rattle.steps.proofs.Places.{month_small}
 use Rattle.steps.proofs.Pairs.{none_written, one_more, all_written}
-use Rattle.steps.proofs.list_months.Goals as goal
-use Rattle.steps.proofs.list_months.Goals.{After-first_day-day, In-loop-i}
+use Rattle.steps.proofs.Steps.list_months.Goals as goal
+use Rattle.steps.proofs.Steps.list_months.Goals.{After-first_day-day, In-loop-i}
 
 -- the month of a turn
-month : (c : In-loop-i) → number_at c.args.s c.loop-i.i < 120000
-month c = month_small c.args.s c.loop-i.i (omega arith) c.requires.0
+month : (c : In-loop-i) → number_at c.args.self c.loop-i.i < 120000
+month c = month_small c.args.self c.loop-i.i (omega arith) c.requires.0
 
 pub loop-i-init : goal.loop-i-init
 loop-i-init c = none_written _ _ _
@@ -30,8 +30,8 @@ overflow_cast-day c = count_fits c.first_day-day.result (in_calendar (goal.at.ov
 
 pub loop-i-preserved : goal.loop-i-preserved
 loop-i-preserved c = let l = c.loop-i in
-    let going : l.i < c.args.s.count = omega arith in
-    let head : to_z w64 c.first_day-day.result ≡ (month_tick (number_at c.args.s l.i)).head =
+    let going : l.i < c.args.self.count = omega arith in
+    let head : to_z w64 c.first_day-day.result ≡ (month_tick (number_at c.args.self l.i)).head =
     read_count c.first_day-day.result (in_calendar (goal.at.loop-i-preserved c).After-first_day-day)
     ∙ ap pos c.first_day-day.ensures in
     let v : Value = record { head = to_z w64 c.first_day-day.result; tail = pos 0 } in

@@ -1,4 +1,4 @@
--- `steps::has_room` meets its contract: the count is compared with half of the numbers, rounded down. Assumes nothing.
+-- `steps::Steps::has_room` meets its contract: the count is compared with half of the numbers, rounded down. Assumes nothing.
 use mathlib.Core.Path.{◌≡◌, sym, ◌∙◌}
 use Prim.Native.Nat.{ℕ, ◌*◌, ◌/◌, ◌≤◌, ◌<◌}
 use native.Mathlib.Decide.{dec_le}
@@ -6,7 +6,7 @@ use native.Mathlib.Omega.{arith}
 use lib.Dec.{leb}
 use borrow.Author.Tests.{le-leb, lt-leb}
 use Rattle.steps.proofs.Pairs.{count_is}
-use Rattle.steps.proofs.has_room.Goals as goal
+use Rattle.steps.proofs.Steps.has_room.Goals as goal
 
 same_test : (a b c d : ℕ) → (a ≤ b → c ≤ d) → (b < a → d < c) → leb a b ≡ leb c d
 same_test a b c d yes-too no-too =
@@ -17,4 +17,4 @@ same_test a b c d yes-too no-too =
 
 pub returns : goal.returns
 returns c = let x = c.args in
-    rw (count_is x.s) (same_test x.s.count (x.k / 2) (2 * x.s.count) x.k (λ h. omega arith) (λ h. omega arith))
+    rw (count_is x.self) (same_test x.self.count (x.k / 2) (2 * x.self.count) x.k (λ h. omega arith) (λ h. omega arith))

@@ -1,4 +1,4 @@
--- `steps::list_even` meets its contract: after i turns lent is i pairs and then what it had, and whole and part are the
+-- `steps::Steps::list_even` meets its contract: after i turns lent is i pairs and then what it had, and whole and part are the
 -- heads and the rest of the place i. Assumes nothing.
 use mathlib.Core.Path.{◌≡◌, ap, ◌∙◌}
 use Prim.Native.Nat.{ℕ, ◌/◌, ◌%◌, ◌^◌, ◌<◌}
@@ -16,8 +16,8 @@ use Rattle.values.specs.declared.Value.{Value}
 use Rattle.steps.specs.Progression.{number_at, even_tick, InRange}
 use Rattle.steps.proofs.Places.{next_kept, next_carried, head_small, rest_small, head_fits}
 use Rattle.steps.proofs.Pairs.{none_written, one_more, all_written}
-use Rattle.steps.proofs.list_even.Goals as goal
-use Rattle.steps.proofs.list_even.Goals.{In-loop-i, Start, then-part-h, else-part-h}
+use Rattle.steps.proofs.Steps.list_even.Goals as goal
+use Rattle.steps.proofs.Steps.list_even.Goals.{In-loop-i, Start, then-part-h, else-part-h}
 
 -- ---- a turn: what is known where it begins, and the pair that it writes
 record Turn (h : Heads) (s : Steps) (i whole part : ℕ) : Type 0 where
@@ -54,7 +54,7 @@ module _ (h : Heads) (s : Steps) (i whole part : ℕ) (t : Turn h s i whole part
 base_fits : (c : Start) → SFits w64 c.args.h.base
 base_fits c = search rules
 
-turn : (c : In-loop-i) → Turn c.args.h c.args.s c.loop-i.i c.loop-i.whole c.loop-i.part
+turn : (c : In-loop-i) → Turn c.args.h c.args.self c.loop-i.i c.loop-i.whole c.loop-i.part
 turn c = let l = c.loop-i in
     record {
       sound = c.requires.0;
@@ -65,7 +65,7 @@ turn c = let l = c.loop-i in
     }
 
 pub loop-i-init : goal.loop-i-init
-loop-i-init c = let s = c.args.s in
+loop-i-init c = let s = c.args.self in
     let e : s.first ≡ number_at s 0 = omega (arith, zero-mul s.step) in
     (none_written _ _ _, (ap (λ (n : ℕ). n / c.args.h.per) e, ap (λ (n : ℕ). n % c.args.h.per) e))
 
@@ -77,9 +77,9 @@ loop-i-preserved c = let l = c.loop-i in
     let t = turn (goal.at.loop-i-preserved c).In-loop-i in (
       one_more l.invariant.0 t.going c.requires.1 (tick_is _ _ _ _ _ t),
       elim c.if-part-h.branch [
-        | then-part-h w ↦ rw (w.whole-is, w.part-is) (next_carried c.args.h.per c.args.s l.i l.whole l.part
+        | then-part-h w ↦ rw (w.whole-is, w.part-is) (next_carried c.args.h.per c.args.self l.i l.whole l.part
             t.sound.divides t.whole_is t.part_is (omega arith))
-        | else-part-h w ↦ rw (w.whole-is, w.part-is) (next_kept c.args.h.per c.args.s l.i l.whole l.part
+        | else-part-h w ↦ rw (w.whole-is, w.part-is) (next_kept c.args.h.per c.args.self l.i l.whole l.part
             t.sound.divides t.whole_is t.part_is (omega arith))
       ],
     )
