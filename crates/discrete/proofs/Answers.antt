@@ -1,17 +1,18 @@
 -- What the operations answer, by where a value stands, and the axis of an accepted call. Assumes nothing.
-use mathlib.Core.Path.{◌≡◌, refl, sym, ◌∙◌}
+use mathlib.Core.Path.{◌≡◌, refl, sym, ◌∙◌, ap}
 use mathlib.Core.Bool.{Bool, true, false, cond, ◌&&◌}
-use mathlib.Core.List.{List, [], ◌∷◌}
 use Prim.Native.Nat.{ℕ, ◌+◌, ◌-◌, ◌≤◌, ◌<◌}
+use native.Mathlib.Decide.{dec_le}
 use native.Mathlib.Omega.{arith}
 use lib.Dec.{leb}
 use lib.IntN.{ℤ}
 use borrow.Author.Tests.{le-leb, lt-leb, lt-ltb, le-ltb}
 use Rattle.std.specs.Prelude.{Some, None, Ok}
 use Rattle.laws.specs.Numbers.{pos_part}
+use Rattle.laws.proofs.Tests.{and_false}
 use Rattle.asking.specs.declared.Refusal.TheVariants as refusal
-use Rattle.asking.specs.Asking.{Question, ask, asked, passes}
-use Rattle.asking.proofs.Asked.{told, fewer, answered_ok, passed_first}
+use Rattle.asking.specs.Asking.{ask, asked, passes}
+use Rattle.asking.proofs.Asked.{told, fewer, answered_ok}
 use Rattle.calendar.specs.Questions.{last_day}
 use Rattle.values.specs.declared.Value.{Value}
 use Rattle.axis.specs.declared.Axis.{Axis}
@@ -22,18 +23,12 @@ use Rattle.counting.specs.Counting.{Dated, origin, position, size_of}
 use Rattle.counting.proofs.Sizes.{size_is}
 use Rattle.counting.proofs.Counting.{index_dated, closed_dated, value_on_law}
 use Rattle.discrete.specs.Indices.{is_indexed, index_of, value_at}
-use Rattle.discrete.specs.Answers.{size_questions, value_questions, index_questions, index_in, next_in, previous_in, value_in}
+use Rattle.discrete.specs.Answers.{size_questions, value_questions, index_questions}
+use Rattle.discrete.specs.Answers.{index_in, neighbour, next_in, previous_in, value_in}
 
 -- ---- the axis by which an accepted call counts
 pub counted : (a : Axis) → passes (size_questions a) ≡ true → Dated (closed a)
 counted a e = closed_dated a (has_index a) (index_dated a (told 2 (size_questions a) e)) e
-
--- the same, as it is handed on
-pub axis_asked : (row : List Question) (b x : Axis) → Ok x ≡ asked row (Ok b) → (passes row ≡ true) × (x ≡ b)
-axis_asked row b x e =
-    let (r, f) = answered_ok row (Ok b) x (sym e) in
-    let z : x ≡ b = cc in
-    (r, z)
 
 -- and a value on it
 pub value_asked : (a : Axis) (v : Value) → passes (value_questions a v) ≡ true → Dated (closed a) × (value_on (closed a) v ≡ true)
@@ -63,12 +58,6 @@ index_asked a i k e =
       count = sym same;
       most = omega (arith, same, (index_range i o).1);
     }
-
-pub index_after : (a : Axis) (i : ℤ) (k : ℕ) → passes (size_questions a) ≡ true →
-    Ok k ≡ asked (ask refusal.Value (is_index i) ∷ []) (Ok (pos_part i)) → Indexed a i k
-index_after a i k r e =
-    index_asked a i k
-    (sym (passed_first (size_questions a) (ask refusal.Value (is_index i) ∷ []) (Ok (pos_part i)) r) ∙ sym e)
 
 -- ---- neighbours, by where a value stands
 module _ (a : Axis) (v : Value) where
@@ -112,6 +101,33 @@ module _ (a : Axis) (v : Value) where
   pub previous_is : origin a < position a v → previous_in a v ≡ Some (value_at a (position a v - origin a - 1))
   unfolding previous_in is_indexed index_of
   previous_is h = rw (le-leb (origin a) (position a v) (omega arith), lt-ltb 0 (position a v - origin a) (omega arith))
+
+-- ---- the value behind a place, by that of the first and of the last
+module _ (at from to : ℕ) (w : Value) where
+  pub neighbour_before : at < from → neighbour at from to w ≡ None
+  unfolding neighbour
+  neighbour_before h = rw (lt-leb from at h)
+
+  pub neighbour_end : to ≤ at → neighbour at from to w ≡ None
+  unfolding neighbour
+  neighbour_end h = rw (le-ltb at to h, and_false (leb from at))
+
+  pub neighbour_is : from ≤ at → at < to → neighbour at from to w ≡ Some w
+  unfolding neighbour
+  neighbour_is h l = rw (le-leb from at h, lt-ltb at to l)
+
+  -- it is the value of the next index, where the places are those of the value and of the axis
+  pub neighbour_next : (a : Axis) (v : Value) → at ≡ position a v → from ≡ origin a → to ≡ position a a.end →
+      (origin a ≤ position a v → w ≡ value_at a (position a v - origin a + 1)) → neighbour at from to w ≡ next_in a v
+  neighbour_next a v at_is from_is to_is next = elim (dec_le from at) [
+    | no l ↦ neighbour_before (omega (arith, l)) ∙ sym (next_before a v (omega (arith, l, at_is, from_is)))
+    | yes l ↦ (let begun : origin a ≤ position a v = omega (arith, l, at_is, from_is) in
+        elim (dec_le to at) [
+          | yes k ↦ neighbour_end k ∙ sym (next_end a v begun (omega (arith, k, at_is, to_is)))
+          | no k ↦ neighbour_is l (omega (arith, k)) ∙ ap Some (next begun)
+              ∙ sym (next_inside a v begun (omega (arith, k, at_is, to_is)))
+        ])
+  ]
 
 module _ (a : Axis) (i : ℕ) where
   pub value_none : size_of a ≤ i → value_in a i ≡ None

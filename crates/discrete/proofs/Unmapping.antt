@@ -34,7 +34,6 @@ pub record Pixels (l : Limits) (p : ℤ) : Type 0 where
   pub offset_small : nat_abs (p -ℤ l.low) ≤ 65534
   pub offset_fits : SFits w64 (p -ℤ l.low)
   pub width_small : nat_abs (l.high -ℤ l.low) ≤ 65534
-  pub width_fits : SFits w64 (l.high -ℤ l.low)
   pub width_some : 0 < nat_abs (l.high -ℤ l.low)
 
 pub pixels_apart : (l : Limits) (p : ℤ) → unmap_pixels l p ≡ true → Pixels l p
@@ -45,6 +44,5 @@ pixels_apart l p e =
       offset_small = between_few p l.low b low;
       offset_fits = between_fits p l.low b low;
       width_small = between_few l.high l.low high low;
-      width_fits = between_fits l.high l.low high low;
       width_some = width_some l c;
     }

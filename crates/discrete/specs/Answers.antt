@@ -1,6 +1,6 @@
 -- What the operations answer on raw numbers, refused calls too: their questions, then the answer. Definitions only.
 -- A value is asked question 10 last.
-use Rattle.std.specs.Prelude.{cond, ◌&&◌, List, [], ◌∷◌, ◌++◌, ℕ, ◌+◌, ◌-◌, ltb, ℤ, pos, ◌+ℤ◌}
+use Rattle.std.specs.Prelude.{cond, ◌&&◌, List, [], ◌∷◌, ◌++◌, ℕ, ◌+◌, ◌-◌, leb, ltb, ℤ, pos, ◌+ℤ◌}
 use Rattle.std.specs.Prelude.{Option, Some, None, Result, Ok, Err}
 use Rattle.asking.specs.declared.Refusal.{Refusal}
 use Rattle.asking.specs.declared.Refusal.TheVariants as refusal
@@ -16,7 +16,6 @@ use Rattle.axis.specs.Questions.{checked, checked_if}
 use Rattle.unmapping.specs.Unmapping.{unmap_coord}
 use Rattle.discrete.specs.declared.Cursor.{Cursor}
 use Rattle.counting.specs.Counting.{size_of}
-use Rattle.counting.specs.declared.DateAxis.{DateAxis}
 use Rattle.discrete.specs.Indices.{is_indexed, index_of, value_at, index_under}
 
 -- ---- the questions
@@ -35,14 +34,13 @@ index_questions a i = size_questions a ++ (ask refusal.Value (is_index i) ∷ []
 abbrev pub unmap_questions : Axis → Limits → ℤ → List Question
 unmap_questions a l p = plain_questions (has_unmap a) a ++ (ask refusal.Limits (unmap_pixels l p) ∷ [])
 
--- the axis of what was answered
-abbrev pub axis_in : Result DateAxis Refusal → Result Axis Refusal
-axis_in (Ok d) = Ok d.axis
-axis_in (Err q) = Err q
-
 -- ---- the answers, on an axis whose end belongs to it
 unfoldable pub index_in : Axis → Value → Option ℕ
 index_in a v = cond (is_indexed a v) (Some (index_of a v)) None
+
+-- the value that stands behind a place, where that is not before the first place, and before the last
+unfoldable pub neighbour : ℕ → ℕ → ℕ → Value → Option Value
+neighbour at from to w = cond (leb from at && ltb at to) (Some w) None
 
 -- the value of the next index, below the size
 unfoldable pub next_in : Axis → Value → Option Value

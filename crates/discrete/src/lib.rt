@@ -2,22 +2,23 @@
 // previous, the values cursor, and the value under a pixel. Whole-number work, with no float.
 #![tactic(auto)]
 
-ghost use Rattle.std.specs.Prelude.{◌≡◌, true, ◌≤◌, ◌<◌, pos, nat_abs, Ok, [], ◌∷◌};
+ghost use Rattle.std.specs.Prelude.{◌≡◌, true, ◌≤◌, ◌<◌, pos, nat_abs, Ok, Err};
+ghost use Rattle.std.specs.Result.{ForOk, ForErr};
 ghost use Rattle.laws.specs.Numbers.{pos_part};
-ghost use Rattle.asking.specs.Asking.{ask, asked};
-ghost use Rattle.asking.specs.declared.Refusal.TheVariants as refusal;
+ghost use Rattle.asking.specs.Asking.{asked, passes};
 ghost use Rattle.calendar.specs.Gregorian.{day_number};
 ghost use Rattle.calendar.specs.Questions.{last_day};
 ghost use Rattle.values.specs.declared.Kind.TheVariants as kind;
 ghost use Rattle.values.specs.Values.{midnight};
 ghost use Rattle.axis.specs.Axes.{closed};
-ghost use Rattle.axis.specs.Questions.{value_on, unmap_pixels, is_index, checked, checked_if};
+ghost use Rattle.axis.specs.Questions.{value_on, unmap_pixels, checked, checked_if};
 ghost use Rattle.unmapping.specs.Unmapping.{Unmappable};
 ghost use Rattle.counting.specs.Counting.{monthly, yearly};
 ghost use Rattle.discrete.specs.Indices.{daily, month_at, january, year_at, week_at, value_at, index_at, index_under};
-ghost use Rattle.discrete.specs.Answers.{axis_in, size_questions, value_questions, unmap_questions};
-ghost use Rattle.discrete.specs.Answers.{index_in, next_in, previous_in, value_in, value_under, size_answer, index_answer};
-ghost use Rattle.discrete.specs.Answers.{from_index_answer, next_answer, previous_answer, values_answer, unmap_answer};
+ghost use Rattle.discrete.specs.Answers.{size_questions, value_questions, index_questions, unmap_questions};
+ghost use Rattle.discrete.specs.Answers.{index_in, neighbour, next_in, previous_in, value_in, value_under};
+ghost use Rattle.discrete.specs.Answers.{size_answer, index_answer, from_index_answer, next_answer, previous_answer};
+ghost use Rattle.discrete.specs.Answers.{values_answer, unmap_answer};
 
 use asking::{Refusal, ask};
 use axis::{Axis, Limits};
@@ -31,16 +32,14 @@ pub struct Cursor {
     pub place: i64,
 }
 
-// The index of a value; none before the start. That a value is of the axis' kind is a fact of the two, and no field of one.
-pub fn index_in(d: DateAxis, v: Value) -> Option<u64>
-    requires { value_on d.axis v ≡ true }
-    ensures { result ≡ index_in d.axis v }
-{
-    let p = d.position_of(v);
-    p.at.checked_sub(p.from)
+// A value of an axis' kind, and the axis.
+#[derive(Clone, Copy)]
+pub struct Placed {
+    pub dates: DateAxis,
+    pub value: Value,
+    ghost on: { value_on dates.axis value ≡ true },
 }
 
-// Bounds of single numbers stay clauses, here and below: a type for each would be opened again in every formula.
 // Question 10 of a midnight.
 fn at_midnight(day: u64) -> Result<Value, Refusal>
     requires { 1 ≤ day }
@@ -62,6 +61,9 @@ fn month_start(year: u64, month: u64) -> Result<Value, Refusal>
     at_midnight(calendar::day_number(year, month, 1))
 }
 
+// An index beside its axis stays bounded by a clause, here and below: previous_in and unmap_in reckon theirs, and a type of the
+// two would be made for the call of value_at alone.
+
 // The first day itself, and then firsts of months.
 fn month_at(d: DateAxis, i: u64) -> Result<Value, Refusal>
     requires { i ≤ last_day }
@@ -82,7 +84,7 @@ fn january(d: DateAxis, year: u64) -> Result<Value, Refusal>
 {
     ask(Refusal::Range, year <= 9999)?;
     let day = calendar::day_number(year, 1, 1);
-    if day <= counting::day_on(d.axis.start) {
+    if day <= d.start_day() {
         return Ok(d.axis.start);
     }
     at_midnight(day)
@@ -104,7 +106,7 @@ fn week_at(d: DateAxis, i: u64) -> Result<Value, Refusal>
     if i == 0 {
         return Ok(d.axis.start);
     }
-    at_midnight(weeks::monday(counting::day_on(d.axis.start)) + 7 * i)
+    at_midnight(weeks::monday(d.start_day()) + 7 * i)
 }
 
 // The value of an index, and question 10 of it.
@@ -116,97 +118,108 @@ pub fn value_at(d: DateAxis, i: u64) -> Result<Value, Refusal>
         Kind::Month | Kind::StampMonth => month_at(d, i),
         Kind::Year | Kind::StampYear => year_at(d, i),
         Kind::Week => week_at(d, i),
-        Kind::Date | Kind::Stamp | Kind::Span => at_midnight(counting::day_on(d.axis.start) + i),
+        Kind::Date | Kind::Stamp | Kind::Span => at_midnight(d.start_day() + i),
     }
 }
 
-// The next month's first, up to the end's month. The first date is asked for once.
-fn next_month(d: DateAxis, v: Value) -> Result<Option<Value>, Refusal>
-    requires { (value_on d.axis v ≡ true) × (monthly d.axis ≡ true) }
-    ensures { result ≡ checked_if (next_in d.axis v) }
+// The value of the place behind `at`; none before the first place, and none from the last one on.
+fn neighbour<F: FnOnce() -> Result<Value, Refusal>>(
+    at: u64,
+    from: u64,
+    to: u64,
+    value: F,
+) -> Result<Option<Value>, Refusal>
+    requires { from ≤ at → at < to → F.pre value }
+    ensures { (w : _) → ((r : _) → F.post value r → r ≡ checked w) → result ≡ checked_if (neighbour at from to w) }
 {
-    let first = d.first_date();
-    let at = counting::months_from(first, counting::date_on(v));
-    if at < first.month {
+    if at < from {
         return Ok(None);
     }
-    if counting::months_from(first, counting::date_on(d.axis.end)) <= at {
+    if to <= at {
         return Ok(None);
     }
-    Ok(Some(month_start(first.year + at / 12, at % 12 + 1)?))
+    Ok(Some(value()?))
 }
 
-// The next January 1, up to the end's year.
-fn next_year(d: DateAxis, v: Value) -> Result<Option<Value>, Refusal>
-    requires { (value_on d.axis v ≡ true) × (yearly d.axis ≡ true) }
-    ensures { result ≡ checked_if (next_in d.axis v) }
-{
-    let first = d.first_date();
-    let date = counting::date_on(v);
-    if date.year < first.year {
-        return Ok(None);
+impl Placed {
+    // The index of the value; none before the start.
+    pub fn index_in(self) -> Option<u64>
+        ensures { result ≡ index_in self.dates.axis self.value }
+    {
+        let p = self.dates.position_of(self.value);
+        p.at.checked_sub(p.from)
     }
-    let last = counting::date_on(d.axis.end);
-    if last.year <= date.year {
-        return Ok(None);
-    }
-    Ok(Some(january(d, date.year + 1)?))
-}
 
-// The next Monday, up to the end.
-fn next_week(d: DateAxis, v: Value) -> Result<Option<Value>, Refusal>
-    requires { (value_on d.axis v ≡ true) × (d.axis.kind ≡ kind.Week) }
-    ensures { result ≡ checked_if (next_in d.axis v) }
-{
-    let at = weeks::mondays_to(counting::day_on(v));
-    if at < weeks::mondays_to(counting::day_on(d.axis.start)) {
-        return Ok(None);
+    // The next month's first, up to the end's month. The first date is asked for once.
+    fn next_month(self) -> Result<Option<Value>, Refusal>
+        requires { monthly self.dates.axis ≡ true }
+        ensures { result ≡ checked_if (next_in self.dates.axis self.value) }
+    {
+        let first = self.dates.first_date();
+        let at = counting::months_from(first, counting::date_on(self.value));
+        let to = counting::months_from(first, counting::date_on(self.dates.axis.end));
+        neighbour(at, first.month, to, move || {
+            month_start(first.year + at / 12, at % 12 + 1)
+        })
     }
-    if weeks::mondays_to(counting::day_on(d.axis.end)) <= at {
-        return Ok(None);
-    }
-    Ok(Some(at_midnight(7 * at + 1)?))
-}
 
-// The next day, up to the end.
-fn next_day(d: DateAxis, v: Value) -> Result<Option<Value>, Refusal>
-    requires { (value_on d.axis v ≡ true) × (daily d.axis ≡ true) }
-    ensures { result ≡ checked_if (next_in d.axis v) }
-{
-    let at = counting::day_on(v);
-    if at < counting::day_on(d.axis.start) {
-        return Ok(None);
+    // The next January 1, up to the end's year.
+    fn next_year(self) -> Result<Option<Value>, Refusal>
+        requires { yearly self.dates.axis ≡ true }
+        ensures { result ≡ checked_if (next_in self.dates.axis self.value) }
+    {
+        let d = self.dates;
+        let at = counting::date_on(self.value).year;
+        let to = counting::date_on(d.axis.end).year;
+        neighbour(at, d.first_date().year, to, move || january(d, at + 1))
     }
-    if counting::day_on(d.axis.end) <= at {
-        return Ok(None);
-    }
-    Ok(Some(at_midnight(at + 1)?))
-}
 
-// The value of the next index, where that is below the size. One way for all kinds, by position_of, size_of and value_at, was
-// tried: it takes 21 to 52 instructions more a call.
-pub fn next_in(d: DateAxis, v: Value) -> Result<Option<Value>, Refusal>
-    requires { value_on d.axis v ≡ true }
-    ensures { result ≡ checked_if (next_in d.axis v) }
-{
-    match d.axis.kind {
-        Kind::Month | Kind::StampMonth => next_month(d, v),
-        Kind::Year | Kind::StampYear => next_year(d, v),
-        Kind::Week => next_week(d, v),
-        Kind::Date | Kind::Stamp | Kind::Span => next_day(d, v),
+    // The next Monday, up to the end.
+    fn next_week(self) -> Result<Option<Value>, Refusal>
+        requires { self.dates.axis.kind ≡ kind.Week }
+        ensures { result ≡ checked_if (next_in self.dates.axis self.value) }
+    {
+        let d = self.dates;
+        let at = weeks::mondays_to(counting::day_on(self.value));
+        let from = weeks::mondays_to(d.start_day());
+        let to = weeks::mondays_to(d.to_day());
+        neighbour(at, from, to, move || at_midnight(7 * at + 1))
     }
-}
 
-// The value of the index before.
-fn previous_in(d: DateAxis, v: Value) -> Result<Option<Value>, Refusal>
-    requires { value_on d.axis v ≡ true }
-    ensures { result ≡ checked_if (previous_in d.axis v) }
-{
-    let p = d.position_of(v);
-    if p.at <= p.from {
-        return Ok(None);
+    // The next day, up to the end.
+    fn next_day(self) -> Result<Option<Value>, Refusal>
+        requires { daily self.dates.axis ≡ true }
+        ensures { result ≡ checked_if (next_in self.dates.axis self.value) }
+    {
+        let d = self.dates;
+        let at = counting::day_on(self.value);
+        let from = d.start_day();
+        neighbour(at, from, d.to_day(), move || at_midnight(at + 1))
     }
-    Ok(Some(value_at(d, p.at - p.from - 1)?))
+
+    // The value of the next index, where that is below the size. One way for all kinds, by position_of, size_of and value_at,
+    // was tried: it takes 21 to 52 instructions more a call.
+    pub fn next_in(self) -> Result<Option<Value>, Refusal>
+        ensures { result ≡ checked_if (next_in self.dates.axis self.value) }
+    {
+        match self.dates.axis.kind {
+            Kind::Month | Kind::StampMonth => self.next_month(),
+            Kind::Year | Kind::StampYear => self.next_year(),
+            Kind::Week => self.next_week(),
+            Kind::Date | Kind::Stamp | Kind::Span => self.next_day(),
+        }
+    }
+
+    // The value of the index before.
+    fn previous_in(self) -> Result<Option<Value>, Refusal>
+        ensures { result ≡ checked_if (previous_in self.dates.axis self.value) }
+    {
+        let p = self.dates.position_of(self.value);
+        if p.at <= p.from {
+            return Ok(None);
+        }
+        Ok(Some(value_at(self.dates, p.at - p.from - 1)?))
+    }
 }
 
 // The value at the cursor's place; none at or past the size.
@@ -236,7 +249,7 @@ fn index_under(d: DateAxis, l: Limits, p: i64) -> u64
     requires { unmap_pixels l p ≡ true }
     ensures { result ≡ index_under d.axis l p }
 {
-    index_at(p - l.low, d.size_of(), l.high - l.low)
+    index_at(p - l.low, d.size_of(), l.width())
 }
 
 // The value under a pixel on a kind that counts. An index above the last day's number has no value of the calendar.
@@ -262,7 +275,8 @@ fn value_under(a: Axis, l: Limits, p: i64) -> Result<Value, Refusal>
 
 // The axis by which an axis counts, where its questions pass.
 pub fn counted(a: Axis) -> Result<DateAxis, Refusal>
-    ensures { axis_in result ≡ asked (size_questions a) (Ok (closed a)) }
+    ensures passed { ForOk result (λ d. (passes (size_questions a) ≡ true) × (d.axis ≡ closed a)) }
+    ensures refused { ForErr result (λ q. asked (size_questions a) (Ok (closed a)) ≡ Err q) }
 {
     axis::ask_plain(a, axis::has_index(a))?;
     Ok(DateAxis {
@@ -270,21 +284,25 @@ pub fn counted(a: Axis) -> Result<DateAxis, Refusal>
     })
 }
 
-// The same where a value is one of it.
-fn counted_for(a: Axis, v: Value) -> Result<DateAxis, Refusal>
-    ensures { axis_in result ≡ asked (value_questions a v) (Ok (closed a)) }
+// The same, and a value of it.
+fn counted_for(a: Axis, v: Value) -> Result<Placed, Refusal>
+    ensures passed { ForOk result (λ p. (passes (value_questions a v) ≡ true) × (p.dates.axis ≡ closed a) × (p.value ≡ v)) }
+    ensures refused { ForErr result (λ q. asked (value_questions a v) (Ok (closed a)) ≡ Err q) }
 {
-    let d = counted(a)?;
+    let dates = counted(a)?;
     ask(Refusal::Value, axis::value_on(a, v))?;
-    Ok(d)
+    Ok(Placed { dates, value: v })
 }
 
-// The question of an index, and what it counts.
-pub fn ask_index(i: i64) -> Result<u64, Refusal>
-    ensures { result ≡ asked (ask refusal.Value (is_index i) ∷ []) (Ok (pos_part i)) }
+// The same, and an index as a count.
+pub fn counted_at(a: Axis, i: i64) -> Result<(DateAxis, u64), Refusal>
+    ensures passed { ForOk result (λ x. (passes (index_questions a i) ≡ true) × (x.0.axis ≡ closed a)
+        × (x.1 ≡ pos_part i) × (x.1 ≤ last_day)) }
+    ensures refused { ForErr result (λ q. asked (index_questions a i) (Ok (closed a)) ≡ Err q) }
 {
+    let dates = counted(a)?;
     ask(Refusal::Value, axis::is_index(i))?;
-    Ok(calendar::as_count(i))
+    Ok((dates, calendar::as_count(i)))
 }
 
 fn ask_unmap(a: Axis, l: Limits, p: i64) -> Result<(), Refusal>
@@ -307,16 +325,15 @@ pub fn size(a: Axis) -> Result<u64, Refusal>
 pub fn index_of(a: Axis, v: Value) -> Result<Option<u64>, Refusal>
     ensures { result ≡ index_answer a v }
 {
-    let d = counted_for(a, v)?;
-    Ok(index_in(d, v))
+    let p = counted_for(a, v)?;
+    Ok(p.index_in())
 }
 
 // The value of any index, beyond the size too.
 pub fn from_index(a: Axis, i: i64) -> Result<Value, Refusal>
     ensures { result ≡ from_index_answer a i }
 {
-    let d = counted(a)?;
-    let k = ask_index(i)?;
+    let (d, k) = counted_at(a, i)?;
     value_at(d, k)
 }
 
@@ -324,24 +341,23 @@ pub fn from_index(a: Axis, i: i64) -> Result<Value, Refusal>
 pub fn next(a: Axis, v: Value) -> Result<Option<Value>, Refusal>
     ensures { result ≡ next_answer a v }
 {
-    let d = counted_for(a, v)?;
-    next_in(d, v)
+    let p = counted_for(a, v)?;
+    p.next_in()
 }
 
-// The value before a value. A function for both would take the last call as a parameter, and its contract what that call gives.
+// The value before a value. It differs from `next` in the last call, which is all that one function for both would be handed.
 pub fn previous(a: Axis, v: Value) -> Result<Option<Value>, Refusal>
     ensures { result ≡ previous_answer a v }
 {
-    let d = counted_for(a, v)?;
-    previous_in(d, v)
+    let p = counted_for(a, v)?;
+    p.previous_in()
 }
 
 // One step of the cursor: it moves on with a value, and stays where there is none.
 pub fn values(a: Axis, c: Cursor) -> Result<(Option<Value>, Cursor), Refusal>
     ensures { result ≡ values_answer a c }
 {
-    let d = counted(a)?;
-    let k = ask_index(c.place)?;
+    let (d, k) = counted_at(a, c.place)?;
     match value_in(d, k)? {
         Some(v) => Ok((Some(v), Cursor { place: c.place + 1 })),
         None => Ok((None, c)),

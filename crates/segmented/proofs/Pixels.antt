@@ -54,12 +54,6 @@ module _ (left right : Hairline) where
   abbrev sum : ℤ
   sum = left.pixel +ℤ right.pixel
 
-  pub between_left : fits_i32 left.pixel ≡ false → Err refusal.Range ≡ pixel_checked (between left right)
-  between_left e = rw e refl
-
-  pub between_right : fits_i32 right.pixel ≡ false → Err refusal.Range ≡ pixel_checked (between left right)
-  between_right e = rw (e, and_false (fits_i32 left.pixel)) refl
-
   pub between_sum : fits_i32 sum ≡ false → Err refusal.Range ≡ pixel_checked (between left right)
   between_sum e = rw (e, and_false (fits_i32 right.pixel), and_false (fits_i32 left.pixel)) refl
 
@@ -68,9 +62,6 @@ module _ (left right : Hairline) where
   between_is e f g = rw (e, f, g) refl
 
 module _ (left : Hairline) (margin : ℤ) where
-  pub beside_left : fits_i32 left.pixel ≡ false → Err refusal.Range ≡ pixel_checked (beside left margin)
-  beside_left e = rw e refl
-
   pub beside_is : fits_i32 left.pixel ≡ true →
       pixel_checked (alone (beside left margin).hairline) ≡ pixel_checked (beside left margin)
   beside_is e = rw e refl

@@ -10,7 +10,7 @@ ghost use Rattle.axis.specs.Axes.{closed};
 ghost use Rattle.axis.specs.Questions.{ends, pixels, value_on};
 ghost use Rattle.segmented.specs.Segments.{segment_on, SegmentOn, segment_of, segments, segment_mappable, SomeSize};
 ghost use Rattle.segmented.specs.Segments.{margin_of, inner, half, even};
-ghost use Rattle.segmented.specs.Segments.{alone, between, beside, segment_worked, pixel_checked};
+ghost use Rattle.segmented.specs.Segments.{between, beside, segment_worked, pixel_checked};
 ghost use Rattle.segmented.specs.Answers.{between_questions, segment_kind_questions};
 ghost use Rattle.segmented.specs.Answers.{segment_map_answer, segment_size_answer, segment_index_in, segment_index_answer};
 ghost use Rattle.segmented.specs.Answers.{segment_at, segment_checked, segment_from_answer};
@@ -19,10 +19,12 @@ ghost use Rattle.segmented.specs.Answers.{segment_ticks_answer, segment_ticks_wr
 use asking::{Refusal, ask};
 use axis::{Axis, Hint, Limits};
 use counting::DateAxis;
+use discrete::Placed;
 use mapping::{Hairline, Scale};
 use values::Value;
 
-// The three numbers of a segment value: case 1 exact, 2 centre, 3 last.
+// The three numbers of a segment value: case 1 exact, 2 centre, 3 last. The case stays C's number, since question 8 asks it,
+// after the questions of the axis. It goes beside the axis whose values it names, as a value does.
 #[derive(Clone, Copy)]
 pub struct Segment {
     pub case: i64,
@@ -102,7 +104,9 @@ fn index_in(d: DateAxis, v: SegmentValue) -> Option<u64>
     ensures { result ≡ segment_index_in d.axis v }
 {
     match v {
-        SegmentValue::Exact(w) | SegmentValue::CenterOf(w) => discrete::index_in(d, w),
+        SegmentValue::Exact(value) | SegmentValue::CenterOf(value) => {
+            Placed { dates: d, value }.index_in()
+        }
         SegmentValue::Last => Some(d.size_of()),
     }
 }
@@ -116,7 +120,7 @@ pub fn index_of(a: Axis, s: Segment) -> Result<Option<u64>, Refusal>
     Ok(index_in(d, v))
 }
 
-// Below the size a value, at the size the last end, beyond it none.
+// Below the size a value, at the size the last end, beyond it none. The index is bounded by a clause, as that of value_at is.
 fn segment_at(d: DateAxis, i: u64) -> Result<Option<SegmentValue>, Refusal>
     requires { i ≤ last_day }
     ensures { result ≡ segment_checked (segment_at d.axis i) }
@@ -133,8 +137,7 @@ fn segment_at(d: DateAxis, i: u64) -> Result<Option<SegmentValue>, Refusal>
 pub fn from_index(a: Axis, i: i64) -> Result<Option<SegmentValue>, Refusal>
     ensures { result ≡ segment_from_answer a i }
 {
-    let d = discrete::counted(a)?;
-    let k = discrete::ask_index(i)?;
+    let (d, k) = discrete::counted_at(a, i)?;
     segment_at(d, k)
 }
 
@@ -149,14 +152,6 @@ fn segment_mappable(a: Axis, size: u64, v: SegmentValue) -> bool
         SegmentValue::Exact(w) | SegmentValue::CenterOf(w) => some & axis::mappable(a, w),
         SegmentValue::Last => some,
     }
-}
-
-// Question 10 of one mapping.
-fn alone(h: Hairline) -> Result<Hairline, Refusal>
-    ensures { result ≡ pixel_checked (alone h) }
-{
-    ask(Refusal::Range, axis::fits_i32(h.pixel))?;
-    Ok(h)
 }
 
 // Midway to the next value.
@@ -179,11 +174,12 @@ fn beside(left: Hairline, margin: i64) -> Result<Hairline, Refusal>
     ensures { result ≡ pixel_checked (beside left margin) }
 {
     ask(Refusal::Range, axis::fits_i32(left.pixel))?;
-    alone(Hairline {
+    let centre = Hairline {
         pixel: left.pixel + half(margin),
         exact: left.exact & even(margin),
         lost: left.lost,
-    })
+    };
+    centre.asked()
 }
 
 impl Segments {
@@ -191,8 +187,8 @@ impl Segments {
     fn margin_of(self) -> i64
         ensures { result ≡ margin_of self.size self.limits }
     {
-        let width = self.limits.high - self.limits.low;
-        floats::round_to_i32(width as f32 / self.size as f32) as i64
+        let width = self.limits.width();
+        i64::from(floats::round_to_i32(width as f32 / self.size as f32))
     }
 
     // Values are mapped between the low limit and the high one less a segment.
@@ -221,7 +217,11 @@ impl Segments {
     {
         let s = self.scale();
         let left = s.pixel_by(v);
-        match discrete::next_in(self.dates, v)? {
+        let p = Placed {
+            dates: self.dates,
+            value: v,
+        };
+        match p.next_in()? {
             Some(w) => between(left, s.pixel_by(w)),
             None => beside(left, self.margin_of()),
         }
@@ -232,7 +232,7 @@ impl Segments {
         ensures { result ≡ pixel_checked (segment_worked self.axis self.limits v) }
     {
         match v {
-            SegmentValue::Exact(w) => alone(self.scale().pixel_by(w)),
+            SegmentValue::Exact(w) => self.scale().pixel_by(w).asked(),
             SegmentValue::CenterOf(w) => self.centre(w),
             SegmentValue::Last => Ok(Hairline {
                 pixel: self.limits.high,

@@ -1,10 +1,8 @@
 -- `discrete::counted` meets its contract. Assumes nothing.
-use mathlib.Core.Path.{◌≡◌, sym, ◌∙◌, ap}
+use mathlib.Core.Path.{◌≡◌, sym, ◌∙◌}
 use mathlib.Core.Bool.{true}
-use Rattle.std.specs.Prelude.{Ok}
 use Rattle.asking.specs.Asking.{passes}
-use Rattle.asking.proofs.Asked.{all_pass, passed}
-use Rattle.axis.specs.Axes.{closed}
+use Rattle.asking.proofs.Asked.{all_pass}
 use Rattle.axis.specs.Questions.{plain_questions}
 use Rattle.counting.proofs.Counting.{index_dated}
 use Rattle.discrete.specs.Answers.{size_questions}
@@ -23,7 +21,3 @@ pub invariant_of-result : goal.invariant_of-result
 invariant_of-result c = record {
   dated = rw c.closed.ensures (counted c.args.a (pass (goal.at.invariant_of-result c).In_ok-ask_plain));
 }
-
-pub returns : goal.returns
-returns c = let a = c.args.a in
-    ap Ok c.closed.ensures ∙ passed (size_questions a) (Ok (closed a)) (pass (goal.at.returns c).In_ok-ask_plain)

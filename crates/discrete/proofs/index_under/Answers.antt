@@ -10,15 +10,13 @@ use mir.Facts.{to_z-of_z}
 use Rattle.laws.proofs.Signed.{read_sub}
 use Rattle.discrete.specs.Indices.{index_at, index_under}
 use Rattle.counting.proofs.Counting.{size_most}
+use Rattle.axis.proofs.Questions.{unmap_parts}
 use Rattle.discrete.proofs.Unmapping.{Pixels, pixels_apart}
 use Rattle.discrete.proofs.index_under.Goals as goal
-use Rattle.discrete.proofs.index_under.Goals.{Start}
+use Rattle.discrete.proofs.index_under.Goals.{After-width, Start}
 
 low_fits : (c : Start) → SFits w64 c.args.l.low
 low_fits c = search rules
-
-high_fits : (c : Start) → SFits w64 c.args.l.high
-high_fits c = search rules
 
 apart : (c : Start) → Pixels c.args.l c.args.p
 apart c = pixels_apart c.args.l c.args.p c.requires
@@ -31,23 +29,20 @@ overflow_sub-p c =
     inner c.args.p c.args.l.low c.ranges.p (low_fits (goal.at.overflow_sub-p c).Start)
     (apart (goal.at.overflow_sub-p c).Start).offset_fits
 
-pub overflow_sub-l : goal.overflow_sub-l
-overflow_sub-l c =
-    inner c.args.l.high c.args.l.low (high_fits (goal.at.overflow_sub-l c).Start) (low_fits (goal.at.overflow_sub-l c).Start)
-    (apart (goal.at.overflow_sub-l c).Start).width_fits
-
 offset_is : (s : Start) → to_z w64 (of_z w64 (to_z w64 (of_z w64 s.args.p) -ℤ to_z w64 (of_z w64 s.args.l.low)))
     ≡ s.args.p -ℤ s.args.l.low
 offset_is s = read_sub s.args.p s.args.l.low s.ranges.p (low_fits s) (apart s).offset_fits
 
-width_is : (s : Start) → to_z w64 (of_z w64 (to_z w64 (of_z w64 s.args.l.high) -ℤ to_z w64 (of_z w64 s.args.l.low)))
-    ≡ s.args.l.high -ℤ s.args.l.low
-width_is s = read_sub s.args.l.high s.args.l.low (high_fits s) (low_fits s) (apart s).width_fits
+width_is : (c : After-width) → to_z w64 (of_z w64 c.width.result) ≡ c.args.l.high -ℤ c.args.l.low
+width_is c = to_z-of_z {w = w64} {z = c.width.result} (search rules) ∙ c.width.ensures
+
+pub width-requires : goal.width-requires
+width-requires c = (unmap_parts c.args.l c.args.p c.requires).0
 
 pub index_at-requires : goal.index_at-requires
 index_at-requires c = let small : c.size_of.result ≤ 3652059 =
     omega (arith, c.size_of.ensures, size_most c.args.d.axis c.args.d.dated) in
-    rw (offset_is (goal.at.index_at-requires c).Start, width_is (goal.at.index_at-requires c).Start) (
+    rw (offset_is (goal.at.index_at-requires c).Start, width_is (goal.at.index_at-requires c).After-width) (
       (apart (goal.at.index_at-requires c).Start).offset_small,
       small,
       (apart (goal.at.index_at-requires c).Start).width_small,
@@ -57,8 +52,5 @@ index_at-requires c = let small : c.size_of.result ≤ 3652059 =
 pub returns : goal.returns
 unfolding index_under
 returns c = c.index_at.ensures
-    ∙ ap (λ (z : ℤ). index_at z c.size_of.result
-    (to_z w64 (of_z w64 (to_z w64 (of_z w64 c.args.l.high) -ℤ to_z w64 (of_z w64 c.args.l.low)))))
-    (offset_is (goal.at.returns c).Start)
-    ∙ ap (λ (z : ℤ). index_at (c.args.p -ℤ c.args.l.low) c.size_of.result z) (width_is (goal.at.returns c).Start)
+    ∙ (λ i. index_at (offset_is (goal.at.returns c).Start i) c.size_of.result (width_is (goal.at.returns c).After-width i))
     ∙ ap (λ (k : ℕ). index_at (c.args.p -ℤ c.args.l.low) k (c.args.l.high -ℤ c.args.l.low)) c.size_of.ensures

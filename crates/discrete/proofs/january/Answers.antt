@@ -1,10 +1,9 @@
 -- `discrete::january` meets its contract. Assumes nothing.
 use borrow.Author.Rules.{rules}
-use mathlib.Core.Path.{◌≡◌, sym, ◌∙◌, ap}
+use mathlib.Core.Path.{sym, ◌∙◌, ap}
 use native.Mathlib.Omega.{arith}
 use Prim.Native.Nat.{ℕ, ◌<◌}
 use lib.IntN.{pos}
-use Rattle.laws.specs.Numbers.{pos_part}
 use Rattle.calendar.specs.Gregorian.{day_number}
 use Rattle.values.specs.Values.{midnight}
 use Rattle.axis.specs.Questions.{checked}
@@ -15,7 +14,6 @@ use Rattle.discrete.proofs.Indices.{january_start, january_later}
 use Rattle.calendar.proofs.Questions.{day_beyond}
 use Rattle.axis.proofs.Checked.{in_range_law, out_of_range}
 use Rattle.discrete.proofs.january.Goals as goal
-use Rattle.discrete.proofs.january.Goals.{After-day_on}
 
 pub returns-in_err-ask : goal.returns-in_err-ask
 returns-in_err-ask c = let a = c.args.d.axis in
@@ -29,19 +27,13 @@ returns-in_err-ask c = let a = c.args.d.axis in
 pub day_number-day-requires : goal.day_number-day-requires
 day_number-day-requires c = (a_first c.args.year 1 c.requires (omega arith) (omega arith), search rules)
 
-pub day_on-requires : goal.day_on-requires
-day_on-requires c = is_day_law c.args.d.axis.start (starts c.args.d.axis c.args.d.dated)
-
-start_day : (c : After-day_on) → c.day_on.result ≡ pos_part c.args.d.axis.start.head
-start_day c = c.day_on.ensures
-
-pub returns-then-day-day_on : goal.returns-then-day-day_on
-returns-then-day-day_on c = let a = c.args.d.axis in
+pub returns-then-day-start_day : goal.returns-then-day-start_day
+returns-then-day-start_day c = let a = c.args.d.axis in
     in_range_law a.start (is_day_law a.start (starts a c.args.d.dated))
     ∙ ap checked
     (sym (january_start a c.args.year (omega (
       arith,
-      start_day (goal.at.returns-then-day-day_on c).After-day_on,
+      c.start_day.ensures,
       c.day_number-day.ensures,
     ))))
 
@@ -50,4 +42,4 @@ returns c = let a = c.args.d.axis in
     c.at_midnight.ensures
     ∙ ap (λ (k : ℕ). checked (midnight (pos k))) c.day_number-day.ensures
     ∙ ap checked
-    (sym (january_later a c.args.year (omega (arith, start_day (goal.at.returns c).After-day_on, c.day_number-day.ensures))))
+    (sym (january_later a c.args.year (omega (arith, c.start_day.ensures, c.day_number-day.ensures))))

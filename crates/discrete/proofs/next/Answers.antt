@@ -1,34 +1,23 @@
 -- `discrete::next` meets its contract. Assumes nothing.
 use borrow.Author.Rules.{rules}
-use mathlib.Core.Path.{◌≡◌, sym, ◌∙◌, ap}
-use mathlib.Core.Bool.{true}
-use Rattle.asking.specs.Asking.{passes}
+use mathlib.Core.Path.{refl, ◌∙◌}
 use Rattle.asking.proofs.Asked.{passed, refused}
-use Rattle.axis.specs.declared.Axis.{Axis}
 use Rattle.axis.specs.Axes.{closed}
 use Rattle.axis.specs.Questions.{checked_if}
 use Rattle.discrete.specs.Answers.{value_questions, next_in, next_answer}
-use Rattle.discrete.proofs.Answers.{axis_asked, value_asked}
 use Rattle.discrete.proofs.next.Goals as goal
-use Rattle.discrete.proofs.next.Goals.{In_ok-d}
 
-pub returns-in_err-d : goal.returns-in_err-d
+pub returns-in_err-p : goal.returns-in_err-p
 unfolding next_answer
-returns-in_err-d c = let x = c.args in
-    let e = refused (value_questions x.a x.v) (closed x.a) (checked_if (next_in (closed x.a) x.v)) c.in_err-d.field-0.0
-    (sym c.in_err-d.ensures) in
+returns-in_err-p c = let x = c.args in
+    let q = c.in_err-p.field-0.0 in
+    let e = refused (value_questions x.a x.v) (closed x.a) (checked_if (next_in (closed x.a) x.v)) q
+    (c.in_err-p.ensures.refused q refl) in
     search rules
-
-counts : (c : In_ok-d) → (passes (value_questions c.args.a c.args.v) ≡ true) × (c.in_ok-d.d.axis ≡ closed c.args.a)
-counts c = axis_asked (value_questions c.args.a c.args.v) (closed c.args.a) c.in_ok-d.d.axis c.in_ok-d.ensures
-
-pub next_in-requires : goal.next_in-requires
-next_in-requires c = let (pass, is) = counts (goal.at.next_in-requires c).In_ok-d in
-    rw is (value_asked c.args.a c.args.v pass).1
 
 pub returns : goal.returns
 unfolding next_answer
 returns c = let x = c.args in
-    let (pass, is) = counts (goal.at.returns c).In_ok-d in
-    c.next_in.ensures ∙ ap (λ (b : Axis). checked_if (next_in b x.v)) is
+    let (pass, axis, value) = c.in_ok-p.ensures.passed c.in_ok-p.p refl in
+    c.next_in.ensures ∙ (λ i. checked_if (next_in (axis i) (value i)))
     ∙ passed (value_questions x.a x.v) (checked_if (next_in (closed x.a) x.v)) pass

@@ -5,7 +5,7 @@ use Prim.Native.Nat.{ℕ, ◌+◌}
 use lib.IntN.{pos}
 use Rattle.values.specs.Values.{midnight}
 use Rattle.axis.specs.Questions.{checked}
-use Rattle.counting.proofs.Counting.{starts, is_day_law, in_months, in_years, in_weeks, in_days}
+use Rattle.counting.proofs.Counting.{starts, in_months, in_years, in_weeks, in_days}
 use Rattle.discrete.proofs.Indices.{value_months, value_years, value_weeks, value_days}
 use Rattle.discrete.proofs.value_at.Goals as goal
 
@@ -23,15 +23,12 @@ returns-in-Week c = let x = c.args in
     let (m, y, w) = in_weeks x.d.axis c.in-Week.is in
     c.week_at.ensures ∙ ap checked (sym (value_weeks x.d.axis x.i m y w))
 
-pub day_on-requires : goal.day_on-requires
-day_on-requires c = is_day_law c.args.d.axis.start (starts c.args.d.axis c.args.d.dated)
-
 pub at_midnight-requires : goal.at_midnight-requires
-at_midnight-requires c = omega (arith, c.day_on.ensures, (starts c.args.d.axis c.args.d.dated).head_least)
+at_midnight-requires c = omega (arith, c.start_day.ensures, (starts c.args.d.axis c.args.d.dated).head_least)
 
 pub returns-in-Date : goal.returns-in-Date
 returns-in-Date c = let x = c.args in
     let (m, y, w) = in_days x.d.axis c.in-Date.is in
     c.at_midnight.ensures
-    ∙ ap (λ (k : ℕ). checked (midnight (pos (k + x.i)))) c.day_on.ensures
+    ∙ ap (λ (k : ℕ). checked (midnight (pos (k + x.i)))) c.start_day.ensures
     ∙ ap checked (sym (value_days x.d.axis x.i m y w))

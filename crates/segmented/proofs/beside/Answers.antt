@@ -38,7 +38,7 @@ sum_fits c = let s = start c in
 pub returns : goal.returns
 returns c = let s = start (goal.at.returns c).After-half in
     let x = s.args in
-    c.alone.ensures
+    c.asked.ensures
     ∙ (λ i. pixel_checked (alone (record {
       pixel =
           (ap (λ (z : ℤ). to_z w64 (of_z w64 z)) (sum_is (goal.at.returns c).After-half) ∙ to_z-of_z

@@ -1,6 +1,6 @@
 -- `segmented::index_of` meets its contract. Assumes nothing.
 use borrow.Author.Rules.{rules}
-use mathlib.Core.Path.{◌≡◌, sym, ◌∙◌, ap}
+use mathlib.Core.Path.{◌≡◌, refl, sym, ◌∙◌, ap}
 use mathlib.Core.Bool.{true}
 use mathlib.Core.List.{List, [], ◌∷◌}
 use Rattle.std.specs.Prelude.{Ok}
@@ -9,7 +9,6 @@ use Rattle.asking.specs.Asking.{Question, ask, passes}
 use Rattle.asking.proofs.Asked.{told, passed, passed_first, refused, refused_first}
 use Rattle.axis.specs.Axes.{closed}
 use Rattle.discrete.specs.Answers.{size_questions}
-use Rattle.discrete.proofs.Answers.{axis_asked}
 use Rattle.segmented.specs.Segments.{segment_on, segment_of}
 use Rattle.segmented.specs.Answers.{segment_index_in, segment_index_answer}
 use Rattle.segmented.proofs.Answers.{on_kind, on_closed, segment_asked}
@@ -20,13 +19,14 @@ abbrev last : Start → List Question
 last s = ask refusal.Value (segment_on s.args.a s.args.s) ∷ []
 
 counts : (c : In_ok-d) → (passes (size_questions c.args.a) ≡ true) × (c.in_ok-d.d.axis ≡ closed c.args.a)
-counts c = axis_asked (size_questions c.args.a) (closed c.args.a) c.in_ok-d.d.axis c.in_ok-d.ensures
+counts c = c.in_ok-d.ensures.passed c.in_ok-d.d refl
 
 pub returns-in_err-d : goal.returns-in_err-d
 unfolding segment_index_answer
 returns-in_err-d c = let x = c.args in
     let e = refused_first (size_questions x.a) (last (goal.at.returns-in_err-d c).Start) (closed x.a)
-    (Ok (segment_index_in (closed x.a) (segment_of x.s))) c.in_err-d.field-0.0 (sym c.in_err-d.ensures) in
+    (Ok (segment_index_in (closed x.a) (segment_of x.s))) c.in_err-d.field-0.0
+    (c.in_err-d.ensures.refused c.in_err-d.field-0.0 refl) in
     search rules
 
 pub returns-in_err-v : goal.returns-in_err-v

@@ -1,5 +1,5 @@
 -- `segmented::map` meets its contract. Assumes nothing.
-use mathlib.Core.Path.{◌≡◌, sym, ◌∙◌, ap, subst}
+use mathlib.Core.Path.{◌≡◌, refl, sym, ◌∙◌, ap, subst}
 use mathlib.Core.Bool.{true}
 use mathlib.Core.List.{[], ◌∷◌}
 use Rattle.std.proofs.lemmas.Result.{err_from_is_err_and}
@@ -10,7 +10,7 @@ use Rattle.axis.specs.Axes.{closed}
 use Rattle.counting.specs.Counting.{size_of}
 use Rattle.counting.proofs.Counting.{size_most}
 use Rattle.discrete.specs.Answers.{size_questions}
-use Rattle.discrete.proofs.Answers.{counted, axis_asked}
+use Rattle.discrete.proofs.Answers.{counted}
 use Rattle.segmented.specs.declared.SegmentValue.{SegmentValue}
 use Rattle.segmented.specs.Segments.{SegmentOn, segment_of, segments, segment_mappable, segment_worked, pixel_checked}
 use Rattle.segmented.specs.Answers.{between_questions}
@@ -22,10 +22,10 @@ use Rattle.segmented.proofs.map.Goals.{After-segment_mappable, After-size_of-siz
 pub returns-in_err-dates : goal.returns-in_err-dates
 returns-in_err-dates c = let x = c.args in
     let p = err_from_is_err_and c.from_residual.result c.from_residual.ensures.1 in
-    rw (p.1, p.2) (axis_refused x.a x.l x.s (closed x.a) _ (sym c.in_err-dates.ensures))
+    rw (p.1, p.2) (axis_refused x.a x.l x.s (closed x.a) _ (c.in_err-dates.ensures.refused c.in_err-dates.field-0.0 refl))
 
 counts : (c : In_ok-dates) → (passes (size_questions c.args.a) ≡ true) × (c.in_ok-dates.dates.axis ≡ closed c.args.a)
-counts c = axis_asked (size_questions c.args.a) (closed c.args.a) c.in_ok-dates.dates.axis c.in_ok-dates.ensures
+counts c = c.in_ok-dates.ensures.passed c.in_ok-dates.dates refl
 
 pub returns-in_err-v : goal.returns-in_err-v
 returns-in_err-v c = let x = c.args in

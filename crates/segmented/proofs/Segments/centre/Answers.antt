@@ -39,8 +39,8 @@ left_is : (c : After-pixel_by-left) → c.pixel_by-left.result ≡ left (goal.at
 left_is c = let x = c.args in
     c.pixel_by-left.ensures ∙ by_scale (goal.at.After-pixel_by-left c).After-scale-s x.v
 
-pub next_in-requires : goal.next_in-requires
-next_in-requires c = rw c.args.self.counted (value_on_law c.args.self.axis c.args.v ∙ c.requires)
+pub invariant_of-p : goal.invariant_of-p
+invariant_of-p c = record { on = rw c.args.self.counted (value_on_law c.args.self.axis c.args.v ∙ c.requires) }
 
 next_is : (c : After-next_in) → let x = c.args in
     c.next_in.result ≡ checked_if (next_in (closed x.self.axis) x.v)

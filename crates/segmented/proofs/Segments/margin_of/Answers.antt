@@ -12,42 +12,24 @@ use mir.Facts.{to_z-of_z}
 use Rattle.floats.specs.Rounding.{round_f}
 use Rattle.floats.proofs.Values.{in_float_law}
 use Rattle.axis.proofs.PixelRanges.{limits_are, between_fits}
-use Rattle.mapping.proofs.Ranges.{wider}
+use Rattle.mapping.proofs.Ranges.{width_back}
 use Rattle.segmented.specs.Segments.{margin_of}
 use Rattle.segmented.proofs.Margins.{width_few}
 use Rattle.segmented.proofs.Segments.margin_of.Goals as goal
-use Rattle.segmented.proofs.Segments.margin_of.Goals.{After-round_to_i32, Start}
-
-low_fits : (s : Start) → SFits w64 s.args.self.limits.low
-low_fits s = search rules
-
-high_fits : (s : Start) → SFits w64 s.args.self.limits.high
-high_fits s = search rules
+use Rattle.segmented.proofs.Segments.margin_of.Goals.{After-round_to_i32, After-width-width, Start}
 
 abbrev width : Start → ℤ
 width s = s.args.self.limits.high -ℤ s.args.self.limits.low
 
-width_fits : (s : Start) → SFits w64 (width s)
-width_fits s = let x = s.args.self in
-    let (p, q) = limits_are x.limits x.page in
-    between_fits x.limits.high x.limits.low q p
-
-width_is : (s : Start) → let l = s.args.self.limits in
-    to_z w64 (of_z w64 (to_z w64 (of_z w64 l.high) -ℤ to_z w64 (of_z w64 l.low))) ≡ width s
-width_is s = rw (to_z-of_z (high_fits s), to_z-of_z (low_fits s)) (to_z-of_z (width_fits s))
+width_is : (c : After-width-width) → to_z w64 (of_z w64 c.width-width.result) ≡ width (goal.at.After-width-width c).Start
+width_is c = width_back c.args.self.limits c.width-width.result c.args.self.page c.width-width.ensures
 
 few : (s : Start) → nat_abs (width s) ≤ 65534
 few s = width_few s.args.self.size s.args.self.limits s.args.self.some s.args.self.page
 
-pub overflow_sub-width : goal.overflow_sub-width
-overflow_sub-width c =
-    rw (to_z-of_z (high_fits (goal.at.overflow_sub-width c).Start), to_z-of_z (low_fits (goal.at.overflow_sub-width c).Start))
-    (width_fits (goal.at.overflow_sub-width c).Start)
-
 pub int_to_float-width : goal.int_to_float-width
-int_to_float-width c =
-    rw (width_is (goal.at.int_to_float-width c).Start) (in_float_law binary32 (width (goal.at.int_to_float-width c).Start)
-    (omega (arith, few (goal.at.int_to_float-width c).Start)))
+int_to_float-width c = let s = (goal.at.int_to_float-width c).Start in
+    rw (width_is (goal.at.int_to_float-width c).After-width-width) (in_float_law binary32 (width s) (omega (arith, few s)))
 
 abbrev from : After-round_to_i32 → Start
 from c = (goal.at.After-round_to_i32 c).Start
@@ -67,9 +49,7 @@ back c = let s = from c in
     to_z-of_z {w = w32} {z = c.round_to_i32.result} (search rules)
     ∙ c.round_to_i32.ensures
     ∙ ap (λ (z : ℤ). to_signed 31 (round_f binary32 (div binary32 (of_int binary32 z) (of_int binary32 (pos s.args.self.size)))))
-    (width_is s)
+    (width_is (goal.at.After-round_to_i32 c).After-width-width)
 
 pub returns : goal.returns
-returns c = let s = from (goal.at.returns c).After-round_to_i32 in
-    let m = margin_of s.args.self.size s.args.self.limits in
-    rw (back (goal.at.returns c).After-round_to_i32) (to_z-of_z (wider m (margin_fits s)))
+returns c = to_z-of_z {w = w64} {z = c.from.result} (search rules) ∙ c.from.ensures ∙ back (goal.at.returns c).After-round_to_i32

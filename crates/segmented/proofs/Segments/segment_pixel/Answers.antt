@@ -19,12 +19,13 @@ high_fits : (s : Start) → SFits w64 s.args.self.limits.high
 high_fits s = search rules
 
 pub pixel_by-requires : goal.pixel_by-requires
-pixel_by-requires c = rw c.scale.ensures.axis (subst (λ (y : SegmentValue). SegmentOn c.args.self.axis y) c.in-Exact.is c.requires)
+pixel_by-requires c =
+    rw c.scale.ensures.axis (subst (λ (y : SegmentValue). SegmentOn c.args.self.axis y) c.in-Exact.is c.requires)
 
 pub returns-in-Exact : goal.returns-in-Exact
 unfolding segment_worked
 returns-in-Exact c = let x = c.args.self in
-    c.alone.ensures
+    c.asked.ensures
     ∙ ap (λ (h : Hairline). pixel_checked (alone h))
     (c.pixel_by.ensures
     ∙ (λ i. hairline (c.scale.ensures.axis i)
