@@ -1,7 +1,7 @@
 // Lines out of chunks of any size.
 #![tactic(auto)]
 
-ghost use Rattle.std.specs.Prelude.{◌≡◌, take};
+ghost use Rattle.std.specs.Prelude.{◌≡◌};
 ghost use Rattle.std.specs.Option.{option_copied};
 ghost use Rattle.feed.specs.Feed.{line_of, Ate};
 

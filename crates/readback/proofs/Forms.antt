@@ -18,7 +18,7 @@ use Rattle.text_read.specs.Bytes.{space_byte, minus_byte, point_byte, colon_byte
 use Rattle.text_read.specs.Fields.{until_of, field_of, digits_of, nanos_of, fraction_of, three_of, triple_of}
 use Rattle.text_read.specs.Fields.{read_date, read_stamp, seconds_of, read_span}
 use Rattle.std.specs.Prelude.{Some, Ok}
-use Rattle.text_read.specs.declared.Day.{Day}
+use Rattle.calendar.specs.declared.Ymd.{Ymd}
 use Rattle.text_read.specs.declared.Moment.{Moment}
 use Rattle.text_line.specs.Line.{on_day, is_time}
 use Rattle.text_write.specs.Texts.{fixed_text, decimal_text, ymd_text, date_text, fraction_text, date_time_text}
@@ -50,8 +50,8 @@ point_first true q = refl
 point_first false q = refl
 
 -- ---- a date
-abbrev pub typed : Date → Day
-typed d = record { year = d.year; month = d.month; day = d.day }
+abbrev pub typed : Date → Ymd
+typed d = record { year = pos d.year; month = pos d.month; day = pos d.day }
 
 -- what four digits and twice two can be
 pub record Short (d : Date) : Type 0 where

@@ -17,8 +17,8 @@ use Rattle.mapping.specs.Mapping.{mapped}
 use Rattle.mapping.specs.declared.Hairline.{Hairline}
 use Rattle.steps.specs.Promise.{nth}
 use Rattle.ticks.specs.Answers.{ticks_answer}
-use Rattle.text_read.specs.Bytes.{line_feed, space_byte, minus_byte, colon_byte, t_byte}
-use Rattle.text_read.specs.Fields.{until_of, field_of, triple_of, stamp_read, read_number, read_date}
+use Rattle.text_read.specs.Bytes.{line_feed, space_byte, colon_byte, t_byte}
+use Rattle.text_read.specs.Fields.{until_of, field_of, triple_of, ymd_of, stamp_read, read_number, read_date}
 use Rattle.text_read.specs.Lines.{in_form, fields_from}
 use Rattle.text_read.specs.declared.Moment.{Moment}
 use Rattle.text_line.specs.declared.Request.{Request}
@@ -33,7 +33,7 @@ unfoldable pub stamp_before : List ℕ → Option Moment
 stamp_before s =
     cond (eqb (until_of space_byte s) 19)
     (cond (eqb (get_or s 10 0) t_byte)
-    (stamp_read (triple_of 4 minus_byte s) (triple_of 2 colon_byte (take 8 (drop 11 s))) (Some 0))
+    (stamp_read (ymd_of s) (triple_of 2 colon_byte (take 8 (drop 11 s))) (Some 0))
     None)
     None
 

@@ -77,14 +77,6 @@ module _ (ws : List Row) where
   unfolding lacking
   not_lacking f = none_is (λ l. eqb (rows_for ws l) 0) lengths (λ l h. ne_eqb (rows_for ws l) 0 (λ e. omega (arith, f l h)))
 
-  pub is_doubled : SomeLength (λ l. 1 < rows_for ws l) → doubled ws ≡ true
-  unfolding doubled
-  is_doubled s = some_is (λ l. ltb 1 (rows_for ws l)) lengths s.0 s.1 (lt-ltb 1 (rows_for ws s.0) s.2)
-
-  pub not_doubled : EachLength (λ l. rows_for ws l ≤ 1) → doubled ws ≡ false
-  unfolding doubled
-  not_doubled f = none_is (λ l. ltb 1 (rows_for ws l)) lengths (λ l h. le-ltb 1 (rows_for ws l) (f l h))
-
   lacks : lacking ws ≡ true → SomeLength (λ l. rows_for ws l ≡ 0)
   unfolding lacking
   lacks e = let s = some_one (λ l. eqb (rows_for ws l) 0) lengths e in (s.0, s.1, eqb-true (rows_for ws s.0) 0 s.2)

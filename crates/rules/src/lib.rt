@@ -2,7 +2,7 @@
 // questions 12, 15 and 16, and the row of a length.
 #![tactic(auto)]
 
-ghost use Rattle.std.specs.Prelude.{◌≡◌, [], ◌∷◌, Ok};
+ghost use Rattle.std.specs.Prelude.{◌≡◌, Ok};
 ghost use Rattle.std.specs.Option.{option_map};
 ghost use Rattle.std.specs.Result.{result_map_both, result_ok};
 ghost use Rattle.asking.specs.Asking.{asked};
@@ -16,6 +16,9 @@ use asking::{Refusal, ask};
 // The span lengths are 0 to 3,652,058 days: the numbers below this one.
 const LENGTHS: u64 = 3652059;
 
+// The longest span, as it is typed.
+const LONGEST: i64 = 3652058;
+
 const NAMES: &[u8] = b"from to unit step";
 
 #[derive(Clone, Copy, Debug, Default, PartialEq, Eq)]
@@ -26,8 +29,8 @@ pub enum Unit {
     Year,
 }
 
-// Every step-th day, first of a month or January, for the lengths from..=to. No ghost field says that the numbers are in
-// range: the definitions that build rows, `row_read` and `zeros`, would hold proofs, and `zeros` is of no such row.
+// Every step-th day, first of a month or January, for the lengths from..=to. That the numbers are in range is no ghost field
+// of a row: the definitions that make rows would have to hold proofs, and one makes a row of zeros, which is out of range.
 #[derive(Clone, Copy, Default)]
 pub struct Row {
     pub from: u64,
@@ -71,10 +74,11 @@ impl TryFrom<&[u8]> for Unit {
     }
 }
 
+#[tactic(auto, unfolding(crate::specs::Rows::in_range))]
 fn in_range(t: Typed) -> bool
     ensures { result ≡ in_range t }
 {
-    (((0 <= t.from) & (t.from <= t.to)) & (t.to <= 3652058)) & ((1 <= t.step) & (t.step <= 1000))
+    (((0 <= t.from) & (t.from <= t.to)) & (t.to <= LONGEST)) & ((1 <= t.step) & (t.step <= 1000))
 }
 
 fn row_read(t: Typed) -> Option<Row>
@@ -98,13 +102,11 @@ fn read_row(s: &[u8]) -> Option<Row>
     if !text_read::in_form(s, 3) {
         return None;
     }
-    let b = text_read::rest_of(s);
-    let c = text_read::rest_of(b);
-    let d = text_read::rest_of(c);
-    let from = text_read::number(s)?;
-    let to = text_read::number(b)?;
-    let unit = Unit::try_from(text_read::field(c)).ok()?;
-    let step = text_read::number(d)?;
+    let mut fields = s.split(|b| *b == b' ');
+    let from = text_read::number(fields.next()?)?;
+    let to = text_read::number(fields.next()?)?;
+    let unit = Unit::try_from(fields.next()?).ok()?;
+    let step = text_read::number(fields.next()?)?;
     row_read(Typed {
         from,
         to,
@@ -165,7 +167,7 @@ impl Table {
     fn sizes(&self) -> u64
         ensures { result ≡ sizes (rows_of self.now.rows) }
     {
-        // a loop: what a sum asks of each row in turn does not follow from AllInRange
+        // a loop: `map(..).sum()` was tried, and its proof did not close that each call and the sum fit in 64 bits
         let mut n: u64 = 0;
         for w in self.rows.as_slice() {
             n += w.to + 1 - w.from;

@@ -6,6 +6,7 @@ use Rattle.std.specs.Option.{option_map, option_and_then}
 use Rattle.asking.specs.declared.Refusal.{Refusal}
 use Rattle.laws.specs.Numbers.{minus}
 use Rattle.laws.specs.Units.{per_second}
+use Rattle.calendar.specs.declared.Ymd.{Ymd}
 use Rattle.calendar.specs.Questions.{number_of}
 use Rattle.values.specs.declared.Kind.{Kind}
 use Rattle.values.specs.declared.Kind.TheVariants as kind
@@ -13,7 +14,6 @@ use Rattle.values.specs.declared.Value.{Value}
 use Rattle.values.specs.Values.{over_date_times, is_duration}
 use Rattle.text_read.specs.Fields.{field_of, read_number, read_date, read_stamp, read_span}
 use Rattle.text_read.specs.Lines.{same_as, named, in_form, fields_from}
-use Rattle.text_read.specs.declared.Day.{Day}
 use Rattle.text_read.specs.declared.Moment.{Moment}
 use Rattle.text_read.specs.declared.Duration.{Duration}
 use Rattle.text_line.specs.declared.Request.{Request}
@@ -57,11 +57,11 @@ day_at (Ok n) nano = record { head = pos n; tail = pos nano }
 day_at (Err q) nano = unreal
 
 -- the day number of a real date of the years 1 to 9999, and a nanosecond of that day
-unfoldable pub on_day : Day → ℕ → Value
-on_day d nano = day_at (number_of (record { year = pos d.year; month = pos d.month; day = pos d.day })) nano
+unfoldable pub on_day : Ymd → ℕ → Value
+on_day d nano = day_at (number_of d) nano
 
 -- a date as a value
-abbrev pub date_value : Day → Value
+abbrev pub date_value : Ymd → Value
 date_value d = on_day d 0
 
 -- 00:00:00 to 23:59:59
@@ -86,7 +86,7 @@ span_value p =
     (record { head = pos p.seconds; tail = pos p.nano })
 
 -- a field that is a date
-abbrev pub of_date : Option Day → Option Value
+abbrev pub of_date : Option Ymd → Option Value
 of_date d = option_map date_value d
 
 -- a field that is a date-time

@@ -3,36 +3,21 @@
 #![tactic(auto)]
 
 ghost use Rattle.std.specs.Prelude.{◌≡◌, ◌<◌, ◌^◌};
-ghost use Rattle.std.specs.List.{find};
-ghost use Rattle.std.specs.Option.{option_map};
 ghost use Rattle.laws.specs.Units.{per_second, per_day};
-ghost use Rattle.text_read.specs.Fields.{Typed};
-ghost use Rattle.text_read.specs.Lines.{same_as};
 ghost use Rattle.text_line.specs.Line.{is_names, kind_of, on_day, is_time, stamp_value, below_zero, span_value};
 ghost use Rattle.text_line.specs.Line.{read_value, read_line};
 
 use axis::{Axis, BoldPoints, Limits};
 use calendar::Ymd;
-use text_read::{Day, Duration, Moment};
+use text_read::{Duration, Moment};
 use values::{Kind, Value};
 
 // The names line.
 const NAMES: &[u8] = b"kind start end hint low high";
 
-// The kinds by their words.
-const KINDS: [(&[u8], Kind); 8] = [
-    (b"date", Kind::Date),
-    (b"month", Kind::Month),
-    (b"year", Kind::Year),
-    (b"stamp", Kind::Stamp),
-    (b"stampmonth", Kind::StampMonth),
-    (b"stampyear", Kind::StampYear),
-    (b"span", Kind::Span),
-    (b"week", Kind::Week),
-];
-
-// What is typed in form and is not real: no value of the kinds over dates and date-times, whose heads begin at 1.
-const UNREAL: Value = Value { head: 0, tail: 0 };
+// What is typed in form and is not real: no value of the kinds over dates and date-times, whose heads begin at 1. A value and
+// no Option, so that the axis' question 3 refuses it, behind the questions that come before.
+const NOT_REAL: Value = Value { head: 0, tail: 0 };
 
 // The numbers of a line. No question was asked of them yet.
 #[derive(Clone, Copy)]
@@ -49,37 +34,36 @@ pub fn is_names(s: &[u8]) -> bool
     s == NAMES
 }
 
-// A function, and no `TryFrom<&[u8]>`: `Kind` is of `values`, and only a type's own crate converts to it, which knows no words.
-// What the word names, of words beside what they name.
-fn named(words: &[(&[u8], Kind)], w: &[u8]) -> Option<Kind>
-    ensures { result ≡ option_map (λ p. p.1) (find (λ p. same_as w.now p.0.now) words.now) }
-{
-    words.iter().find(|p| w == p.0).map(|p| p.1)
-}
-
-// The kind that the word names.
+// The kind that the word names. A function, and no `TryFrom<&[u8]>`: `Kind` is of `values`, and only a type's own crate
+// converts to it, which knows no words.
+#[tactic(auto, unfolding(crate::specs::Line::kind_of))]
 fn kind_of(w: &[u8]) -> Option<Kind>
     ensures { result ≡ kind_of w.now }
 {
-    named(&KINDS, w)
+    match w {
+        b"date" => Some(Kind::Date),
+        b"month" => Some(Kind::Month),
+        b"year" => Some(Kind::Year),
+        b"stamp" => Some(Kind::Stamp),
+        b"stampmonth" => Some(Kind::StampMonth),
+        b"stampyear" => Some(Kind::StampYear),
+        b"span" => Some(Kind::Span),
+        b"week" => Some(Kind::Week),
+        _ => None,
+    }
 }
 
-// A day and a nanosecond of it. A date that is not real gets 0 and 0, which is no value of a kind that is asked for it.
-fn on_day(d: Day, nano: u64) -> Value
-    requires { Typed d × (nano < per_day) }
+// A day and a nanosecond of it.
+fn on_day(d: Ymd, nano: u64) -> Value
+    requires { nano < per_day }
     ensures { result ≡ on_day d nano }
 {
-    let t = Ymd {
-        year: d.year as i64,
-        month: d.month as i64,
-        day: d.day as i64,
-    };
-    match calendar::number_of(t) {
+    match calendar::number_of(d) {
         Ok(n) => Value {
             head: n as i64,
             tail: nano as i64,
         },
-        Err(_) => UNREAL,
+        Err(_) => NOT_REAL,
     }
 }
 
@@ -91,11 +75,11 @@ fn is_time(m: Moment) -> bool
 }
 
 fn stamp_value(m: Moment) -> Value
-    requires { Typed m.date × (m.nano < per_second) }
+    requires { m.nano < per_second }
     ensures { result ≡ stamp_value m }
 {
     if !is_time(m) {
-        return UNREAL;
+        return NOT_REAL;
     }
     on_day(
         m.date,

@@ -3,14 +3,14 @@
 use mathlib.Core.Path.{◌≡◌, refl, sym, ap, ◌∙◌}
 use mathlib.Core.Bool.{Bool, true, false, cond}
 use mathlib.Core.List.{List, [], ◌∷◌, ◌++◌, append_assoc, append-nil}
-use Prim.Native.Nat.{ℕ, zero, suc, ◌+◌, ◌-◌, ◌≤◌, ◌<◌}
+use Prim.Native.Nat.{ℕ, zero, suc, ◌+◌, ◌≤◌, ◌<◌}
 use native.Mathlib.Numerals.{add-one}
 use native.Mathlib.Omega.{arith}
 use lib.Dec.{eqb, ltb}
 use lib.ListN.{length, take, drop, drop_of_length-le}
-use lib.Seq.{take_all, drop-drop}
+use lib.Seq.{take_all}
 use borrow.Author.Tests.{ltb-true, ltb-false}
-use Rattle.std.specs.Prelude.{Option, Some, None, IfSome}
+use Rattle.std.specs.Prelude.{Some, None}
 use Rattle.arrayvec.specs.ArrayVec.{ArrayVec}
 use Rattle.text_read.specs.Bytes.{line_feed}
 use Rattle.text_read.specs.Fields.{until_of}
@@ -164,35 +164,6 @@ turned_end s chunk rest line clear {before} {out} {k} {n} g h goes e next w = by
       counted = tt;
       output = λ l more. written more [] (rw (← q));
     }
-
--- ---- turns
--- a turn over what is left of a chunk
-pub turned_both : {s t u : State} {chunk rest : List ℕ} {left : Option (List ℕ)} {before out last : ArrayVec ℕ} →
-    Turned s chunk (Some rest) t before out → Turned t rest left u out last → Turned s chunk left u before last
-turned_both {s} {t} {u} {chunk} {rest} {left} a b = record {
-  ending = end left b.ending b.shorter;
-  shorter = less left b.shorter;
-  counted = count left b.counted;
-  output = λ l more. a.output l more ∙ b.output (omega (arith, a.counted)) more;
-}
-  where
-    end : (o : Option (List ℕ)) → IfSome o (λ r. r ≡ drop (length rest - length r) rest) →
-        IfSome o (λ r. length r ≤ length rest - 1) → IfSome o (λ r. r ≡ drop (length chunk - length r) chunk)
-    end None e h = tt
-    end (Some r) e h =
-        let x = length chunk - length rest in
-        let y = length rest - length r in
-        let n : x + y ≡ length chunk - length r = omega (arith, a.shorter) in
-        e ∙ ap (drop y) a.ending ∙ drop-drop y x chunk ∙ ap (λ (k : ℕ). drop k chunk) n
-
-    less : (o : Option (List ℕ)) → IfSome o (λ r. length r ≤ length rest - 1) → IfSome o (λ r. length r ≤ length chunk - 1)
-    less None h = tt
-    less (Some r) h = omega (arith, a.shorter)
-
-    count : (o : Option (List ℕ)) → IfSome o (λ r. u.number + length r ≤ t.number + length rest) →
-        IfSome o (λ r. u.number + length r ≤ s.number + length chunk)
-    count None h = tt
-    count (Some r) h = omega (arith, a.counted)
 
 -- ---- the whole output
 -- bytes before the first of the lines

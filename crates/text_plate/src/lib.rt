@@ -13,7 +13,11 @@ use feed::Line;
 use text_rows::Printer;
 use text_write::Output;
 
-// The number of the line that was begun, 0 for the names line, and what is kept of it.
+// The most bytes that a line prints: 4,097 ticks of 75 bytes.
+const MOST: usize = 307275;
+
+// The number of the line that was begun, 0 for the names line, and what is kept of it. No Option: lines are counted from 0, and
+// the names line is the one at 0; a None would be counted on from by a case of its own.
 #[derive(Drop)]
 pub struct State {
     pub number: u64,
@@ -36,7 +40,8 @@ fn no_names(out: &mut Output)
     text_write::refusal_row(out, 0, Refusal::Table);
 }
 
-// Writes what a finished line prints. Is more read after it?
+// Writes what a finished line prints. Is more read after it? The room is asked at each call and is no ghost field, as for a
+// Printer.
 fn finished(number: u64, text: &[u8], printer: &mut Printer) -> bool
     requires { Room 307275 printer.old.out }
     ensures value { result ≡ goes_on number text.now }
@@ -89,7 +94,7 @@ impl State {
     {
         let mut rest = self.turn(chunk, printer)?;
         // a while: a turn says what is left, and goes on only where there is room, so no iterator over the chunk gives it
-        while !rest.is_empty() && 307275 <= printer.out.remaining_capacity() {
+        while !rest.is_empty() && MOST <= printer.out.remaining_capacity() {
             rest = self.turn(rest, printer)?;
         }
         Some(rest)

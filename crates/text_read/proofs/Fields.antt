@@ -11,7 +11,7 @@ use native.Mathlib.Nat.{pow-suc, pow-le-pow_right, mul-lt-mul_of_pos_right}
 use lib.Dec.{leb, ltb, eqb, lit<}
 use lib.ListN.{length, take, drop, get_or, drop_of_length-le}
 use lib.Pointwise.{pointwise}
-use lib.Seq.{drop-cons, take-nil, length-take-le}
+use lib.Seq.{drop-cons, take-nil}
 use Rattle.std.proofs.lemmas.Nat.{pow-add}
 use Rattle.std.specs.Prelude.{Option, None, Some}
 use Rattle.std.specs.List.{position_or_len, position}
@@ -19,6 +19,7 @@ use Rattle.std.specs.Option.{unwrap_or}
 use Rattle.std.proofs.lemmas.List.Recursion.{is_position_or_len}
 use borrow.Author.Tests.{eqb-true, eq-eqb, ne_eqb, lt-ltb, le-ltb, ltb-false, leb-true}
 use Rattle.laws.proofs.Tests.{both_true, and_true}
+use Rattle.calendar.specs.declared.Ymd.{Ymd}
 use Rattle.text_read.specs.Bytes.{space_byte, minus_byte, point_byte, zero_byte, nine_byte}
 use Rattle.text_read.specs.Fields.{until_of, field_of, is_digit, digits_from, digits_of, times, nanos_of, fraction_of, stamp_read}
 
@@ -150,11 +151,7 @@ fraction_some [] h e = absurd (h refl)
 fraction_some (b ∷ s) h e = rw (eq-eqb b point_byte e)
 
 -- a date-time whose fraction does not read
-pub stamp_unread : (a b : Option (ℕ × ℕ × ℕ)) → stamp_read a b None ≡ None
+pub stamp_unread : (a : Option Ymd) (b : Option (ℕ × ℕ × ℕ)) → stamp_read a b None ≡ None
 stamp_unread (Some d) (Some t) = refl
 stamp_unread (Some d) None = refl
 stamp_unread None b = refl
-
--- ---- a part from the front
-pub part_length : (n : ℕ) (s : List ℕ) → n ≤ length s → (n ≤ length s) × (n ≡ length (take n s))
-part_length n s h = (h, sym (length-take-le n s h))

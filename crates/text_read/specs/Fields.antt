@@ -4,7 +4,7 @@ use Rattle.std.specs.Prelude.{◌≡◌, Bool, true, false, ◌&&◌, cond, List
 use Rattle.std.specs.Prelude.{pos, ℤ, ◌-ℤ◌, length, take, drop, get_or, Option, None, Some}
 use Rattle.laws.specs.Units.{per_second}
 use Rattle.text_read.specs.Bytes.{space_byte, minus_byte, point_byte, zero_byte, nine_byte, colon_byte, t_byte}
-use Rattle.text_read.specs.declared.Day.{Day}
+use Rattle.calendar.specs.declared.Ymd.{Ymd}
 use Rattle.text_read.specs.declared.Moment.{Moment}
 use Rattle.text_read.specs.declared.Duration.{Duration}
 
@@ -68,13 +68,17 @@ triple_of w sep s =
     None
 
 -- three numbers as a date
-abbrev pub date_read : Option (ℕ × ℕ × ℕ) → Option Day
-date_read (Some (y, m, d)) = Some (record { year = y; month = m; day = d })
+abbrev pub date_read : Option (ℕ × ℕ × ℕ) → Option Ymd
+date_read (Some (y, m, d)) = Some (record { year = pos y; month = pos m; day = pos d })
 date_read None = None
 
+-- YYYY-MM-DD at the front
+abbrev pub ymd_of : List ℕ → Option Ymd
+ymd_of s = date_read (triple_of 4 minus_byte s)
+
 -- YYYY-MM-DD: ten bytes
-unfoldable pub read_date : List ℕ → Option Day
-read_date s = cond (eqb (until_of space_byte s) 10) (date_read (triple_of 4 minus_byte s)) None
+unfoldable pub read_date : List ℕ → Option Ymd
+read_date s = cond (eqb (until_of space_byte s) 10) (ymd_of s) None
 
 -- ---- fractions of a second
 -- so many times a whole number
@@ -92,9 +96,8 @@ fraction_of [] = Some 0
 fraction_of (b ∷ s) = cond (eqb b point_byte) (nanos_of s) None
 
 -- a date, a time of day and a fraction as a date-time
-abbrev pub stamp_read : Option (ℕ × ℕ × ℕ) → Option (ℕ × ℕ × ℕ) → Option ℕ → Option Moment
-stamp_read (Some (y, m, d)) (Some (h, n, c)) (Some q) =
-    Some (record { date = record { year = y; month = m; day = d }; hour = h; minute = n; second = c; nano = q })
+abbrev pub stamp_read : Option Ymd → Option (ℕ × ℕ × ℕ) → Option ℕ → Option Moment
+stamp_read (Some d) (Some (h, n, c)) (Some q) = Some (record { date = d; hour = h; minute = n; second = c; nano = q })
 stamp_read (Some d) (Some t) None = None
 stamp_read (Some d) None q = None
 stamp_read None t q = None
@@ -104,7 +107,7 @@ unfoldable pub read_stamp : List ℕ → Option Moment
 read_stamp s =
     cond (ltb (until_of space_byte s) 19) None
     (cond (eqb (get_or s 10 0) t_byte)
-    (stamp_read (triple_of 4 minus_byte s) (triple_of 2 colon_byte (take 8 (drop 11 s))) (fraction_of (drop 19 (field_of s))))
+    (stamp_read (ymd_of s) (triple_of 2 colon_byte (take 8 (drop 11 s))) (fraction_of (drop 19 (field_of s))))
     None)
 
 -- seconds and a fraction as a span, below zero or not
@@ -126,28 +129,17 @@ abbrev pub Digits : ℕ → Option ℕ → Type 0
 Digits k (Some n) = n < 10 ^ k
 Digits k None = Unit {0}
 
--- each number of a date has at most 12
-pub record Typed (d : Day) : Type 0 where
-  pub year : d.year < 10 ^ 12
-  pub month : d.month < 10 ^ 12
-  pub day : d.day < 10 ^ 12
-
--- so have three numbers
+-- each of three numbers has at most 12
 abbrev pub TypedThree : Option (ℕ × ℕ × ℕ) → Type 0
-TypedThree (Some (a, b, c)) = Typed (record { year = a; month = b; day = c })
+TypedThree (Some (a, b, c)) = (a < 10 ^ 12) × (b < 10 ^ 12) × (c < 10 ^ 12)
 TypedThree None = Unit {0}
 
--- so has a date that was read
-abbrev pub TypedDate : Option Day → Type 0
-TypedDate (Some d) = Typed d
-TypedDate None = Unit {0}
-
--- so has a date-time that was read, and its fraction is less than a second
+-- the fraction of a date-time that was read is less than a second
 abbrev pub TypedStamp : Option Moment → Type 0
-TypedStamp (Some m) = Typed m.date × (m.nano < per_second)
+TypedStamp (Some m) = m.nano < per_second
 TypedStamp None = Unit {0}
 
--- so have the seconds of a span that was read, and its fraction too
+-- so is that of a span that was read, and its seconds have at most 12 digits
 abbrev pub TypedSpan : Option Duration → Type 0
 TypedSpan (Some p) = (p.seconds < 10 ^ 12) × (p.nano < per_second)
 TypedSpan None = Unit {0}

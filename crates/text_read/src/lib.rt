@@ -4,22 +4,16 @@
 
 ghost use Rattle.std.specs.Prelude.{◌≡◌, ◌+◌, ◌≤◌, length, take, MatchOption};
 ghost use Rattle.text_read.specs.Lines.{in_form, rest_of};
-ghost use Rattle.text_read.specs.Fields.{until_of, field_of, digits_of, read_number, triple_of, read_date};
+ghost use Rattle.text_read.specs.Fields.{until_of, field_of, digits_of, read_number, triple_of, ymd_of, read_date};
 ghost use Rattle.text_read.specs.Fields.{nanos_of, fraction_of, read_stamp, seconds_of, read_span};
-ghost use Rattle.text_read.specs.Fields.{SplitAt, Digits, TypedThree, TypedDate, TypedStamp, TypedSpan};
+ghost use Rattle.text_read.specs.Fields.{SplitAt, Digits, TypedThree, TypedStamp, TypedSpan};
 
-// A date as it is typed, real or not.
-#[derive(Clone, Copy)]
-pub struct Day {
-    pub year: u64,
-    pub month: u64,
-    pub day: u64,
-}
+use calendar::Ymd;
 
 // A date-time as it is typed, real or not.
 #[derive(Clone, Copy)]
 pub struct Moment {
-    pub date: Day,
+    pub date: Ymd,
     pub hour: u64,
     pub minute: u64,
     pub second: u64,
@@ -27,7 +21,8 @@ pub struct Moment {
     pub nano: u64,
 }
 
-// A duration as it is typed: seconds and nanoseconds, both away from zero.
+// A duration as it is typed: seconds and nanoseconds, both away from zero. The sign stands beside them: -0.5 has no second to
+// bear it, and one number of nanoseconds would not fit in 64 bits.
 #[derive(Clone, Copy)]
 pub struct Duration {
     pub below: bool,
@@ -119,16 +114,27 @@ fn triple(s: &[u8], w: usize, sep: u8) -> Option<(u64, u64, u64)>
     Some((a, b, c))
 }
 
+// YYYY-MM-DD at the front, real or not.
+fn ymd(s: &[u8]) -> Option<Ymd>
+    requires { 10 ≤ length s.now }
+    ensures { result ≡ ymd_of s.now }
+{
+    let (year, month, day) = triple(s, 4, b'-')?;
+    Some(Ymd {
+        year: year as i64,
+        month: month as i64,
+        day: day as i64,
+    })
+}
+
 // YYYY-MM-DD.
-pub fn date(s: &[u8]) -> Option<Day>
-    ensures value { result ≡ read_date s.now }
-    ensures typed_date { TypedDate result }
+pub fn date(s: &[u8]) -> Option<Ymd>
+    ensures { result ≡ read_date s.now }
 {
     if until(s, b' ') != 10 {
         return None;
     }
-    let (year, month, day) = triple(s, 4, b'-')?;
-    Some(Day { year, month, day })
+    ymd(s)
 }
 
 // 1 to 9 digits, of which the first counts tenths of a second: the nanoseconds.
@@ -163,11 +169,11 @@ pub fn stamp(s: &[u8]) -> Option<Moment>
     if k < 19 || s[10] != b'T' {
         return None;
     }
-    let (year, month, day) = triple(s, 4, b'-')?;
+    let date = ymd(s)?;
     let (hour, minute, second) = triple(&s[11..19], 2, b':')?;
     let nano = fraction(&s[19..k])?;
     Some(Moment {
-        date: Day { year, month, day },
+        date,
         hour,
         minute,
         second,

@@ -1,7 +1,7 @@
 -- A list's fractions and lines, one more for each tick; that every tick of a list that is handed back has a text and its
 -- room; and the answer to a line by its cases. Assumes nothing.
 use mathlib.Core.Path.{◌≡◌, refl, sym, ◌∙◌}
-use mathlib.Core.Bool.{true, false, ◌||◌}
+use mathlib.Core.Bool.{true, false}
 use mathlib.Core.List.{List, [], ◌++◌}
 use Prim.Native.Nat.{ℕ, ◌+◌, ◌*◌, ◌/◌, ◌≤◌}
 use native.Mathlib.Numerals.{add-one}
@@ -20,7 +20,6 @@ use Rattle.axis.specs.declared.BoldPoints.{BoldPoints}
 use Rattle.axis.specs.declared.Limits.{Limits}
 use Rattle.steps.specs.Listing.{numbers, listed_of}
 use Rattle.steps.proofs.Pairs.{length_numbers}
-use Rattle.steps.specs.Promise.{nth}
 use Rattle.plans.specs.Plans.{Accepted}
 use Rattle.axis.specs.declared.Hint.TheVariants.{Bold}
 use Rattle.ticks.specs.Answers.{tick_questions, ticks_of, ticks_answer, ticks_handed}
@@ -30,7 +29,7 @@ use Rattle.ticks.proofs.Values.{tick_value}
 use Rattle.text_line.specs.declared.Request.{Request}
 use Rattle.text_line.specs.Line.{read_line}
 use Rattle.text_write.specs.Rows.{refusal_text}
-use Rattle.text_rows.specs.Answers.{has_fraction, fraction_before, tick_row, ticks_text, Printable, list_text}
+use Rattle.text_rows.specs.Answers.{fraction_before, tick_row, ticks_text, Printable, list_text}
 use Rattle.text_rows.specs.Answers.{request_text, rows_of}
 
 -- ---- the fractions of a list, and its lines, tick by tick
@@ -38,10 +37,6 @@ module _ (list : List ℤ) where
   pub no_fraction : fraction_before list 0 ≡ false
   unfolding fraction_before
   no_fraction = refl
-
-  pub next_fraction : (k : ℕ) → fraction_before list (k + 1) ≡ has_fraction (nth list k) || fraction_before list k
-  unfolding fraction_before
-  next_fraction k = rw (add-one k)
 
 module _ (number : ℕ) (a : Axis) (l : Limits) (list : List ℤ) where
   pub no_ticks : ticks_text number a l list 0 ≡ []

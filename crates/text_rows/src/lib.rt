@@ -11,8 +11,9 @@ use text_line::Request;
 use text_write::Output;
 use values::Value;
 
-// What lines are printed with: the output, and the numbers that are lent to a list, with room for every list. The output
-// stands first: behind the numbers, a long list takes a tenth longer.
+// What lines are printed with: the output, and the numbers that are lent to a list, with room for every list. They are numbers,
+// two for a tick, and no values, as the C interface lends them. The output stands first: behind the numbers, a long list takes a
+// tenth longer.
 #[derive(Drop)]
 pub struct Printer {
     pub out: Output,

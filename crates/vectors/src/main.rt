@@ -3,7 +3,7 @@
 // for the floor or the ceiling of a date-time, its day and nanosecond, and the answered day. A line with # is a comment.
 #![tactic(auto)]
 
-ghost use Rattle.std.specs.Prelude.{◌≡◌, ◌≤◌, length, IfOk};
+ghost use Rattle.std.specs.Prelude.{◌≤◌, length, IfOk};
 
 use calendar::{Date, DateTime, LAST_DAY, Ymd};
 use std::io::Read as _;

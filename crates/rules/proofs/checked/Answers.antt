@@ -1,10 +1,10 @@
 -- `rules::checked` meets its contract. Assumes nothing.
-use mathlib.Core.Path.{◌≡◌, refl, sym, ap, ◌∙◌}
+use mathlib.Core.Path.{◌≡◌, sym, ap, ◌∙◌}
 use mathlib.Core.List.{List}
-use Rattle.std.specs.Prelude.{Option, None, Some, Ok, Err}
-use Rattle.std.specs.Option.{option_map, ok_or}
+use Rattle.std.specs.Prelude.{None, Some, Ok}
+use Rattle.std.specs.Option.{option_map}
 use Rattle.std.proofs.lemmas.Result.{err_from_is_err_and}
-use Rattle.asking.specs.declared.Refusal.{Refusal}
+use native.Mathlib.Omega.{arith}
 use Rattle.asking.proofs.Asked.{all_pass, passed, refused}
 use Rattle.rules.specs.declared.Row.{Row}
 use Rattle.rules.specs.declared.Table.{Table}
@@ -17,32 +17,16 @@ use Rattle.rules.proofs.checked.Goals.{In_ok-table}
 abbrev table_rows : Table → List Row
 table_rows t = rows_of t.rows
 
--- what was read, by the answer for C
-module _ (o : Option Table) (q : Refusal) where
-  unread : {p : Refusal} → ok_or o q ≡ Err p → (o ≡ None) × (q ≡ p)
-  unread {p} e = go o refl e
-    where
-      go : (x : Option Table) → o ≡ x → ok_or x q ≡ Err p → (o ≡ None) × (q ≡ p)
-      go None f e = (f, cc)
-      go (Some r) f e = absurd (let z : ⊥ = cc in z)
-
-  was_read : {r : Table} → ok_or o q ≡ Ok r → o ≡ Some r
-  was_read {r} e = go o refl e
-    where
-      go : (x : Option Table) → o ≡ x → ok_or x q ≡ Ok r → o ≡ Some r
-      go None f e = absurd (let z : ⊥ = cc in z)
-      go (Some s) f e = cc
-
 pub returns-in_err-table : goal.returns-in_err-table
 returns-in_err-table c = let p = err_from_is_err_and c.from_residual.result c.from_residual.ensures.1 in
-    let (n, q) = unread c.read_table.result _ (sym c.ok_or.ensures.value ∙ c.in_err-table.was) in
-    rw (p.1, p.2, ← q) (sym (asked_unread c.args.s.now (sym c.read_table.ensures ∙ ap (option_map table_rows) n)))
+    let n : c.read_table.result ≡ None = grind arith in
+    rw (p.1, p.2, asked_unread c.args.s.now (sym c.read_table.ensures ∙ ap (option_map table_rows) n)) (grind arith)
 
 -- the rows
 read : (c : In_ok-table) → table_of c.args.s.now ≡ Some (rows_of c.in_ok-table.table.rows)
 read c =
     sym c.read_table.ensures
-    ∙ ap (option_map table_rows) (was_read c.read_table.result _ (sym c.ok_or.ensures.value ∙ c.in_ok-table.was))
+    ∙ ap (option_map table_rows) (let r : c.read_table.result ≡ Some c.in_ok-table.table = grind arith in r)
 
 pub returns-in_err-ask_lengths : goal.returns-in_err-ask_lengths
 returns-in_err-ask_lengths c = let ws = rows_of c.in_ok-table.table.rows in

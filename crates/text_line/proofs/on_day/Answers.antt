@@ -1,31 +1,21 @@
--- `text_line::on_day` meets its contract: the numbers of a typed date, read back from their bits, are themselves.
--- Assumes nothing.
-use mathlib.Core.Path.{◌≡◌, sym, ◌∙◌}
+-- `text_line::on_day` meets its contract: the numbers of a day, read back from their bits, are themselves. Assumes nothing.
+use mathlib.Core.Path.{sym, ◌∙◌}
 use Prim.Native.Nat.{◌≤◌, ◌<◌, ◌^◌}
 use native.Mathlib.Omega.{arith}
-use lib.IntN.{pos}
 use Rattle.laws.proofs.Signed.{count_fits, read_count}
-use Rattle.calendar.specs.Questions.{last_day, number_of}
+use Rattle.calendar.specs.Questions.{last_day}
 use Rattle.calendar.proofs.Questions.{number_range}
 use Rattle.text_line.specs.Line.{on_day}
 use Rattle.text_line.proofs.on_day.Goals as goal
-use Rattle.text_line.proofs.on_day.Goals.{After-number_of, In-Ok}
-
-said : (c : After-number_of) → let d = c.args.d in
-    c.number_of.result ≡ number_of (record { year = pos d.year; month = pos d.month; day = pos d.day })
-said c = let d = c.args.d in
-    let y : d.year < 2 ^ 63 = omega arith in
-    let m : d.month < 2 ^ 63 = omega arith in
-    let k : d.day < 2 ^ 63 = omega arith in
-    rw (read_count d.year y, read_count d.month m, read_count d.day k) at c.number_of.ensures
+use Rattle.text_line.proofs.on_day.Goals.{In-Ok}
 
 pub returns-in-Err : goal.returns-in-Err
 unfolding on_day
-returns-in-Err c = rw (← said (goal.at.returns-in-Err c).After-number_of, c.in-Err.is)
+returns-in-Err c = rw (← c.number_of.ensures, c.in-Err.is)
 
 -- the answer's number is a day's
 day_most : (c : In-Ok) → c.in-Ok.n ≤ last_day
-day_most c = number_range _ c.in-Ok.n (sym (said (goal.at.In-Ok c).After-number_of) ∙ c.in-Ok.is)
+day_most c = number_range _ c.in-Ok.n (sym c.number_of.ensures ∙ c.in-Ok.is)
 
 pub returns-in-Ok : goal.returns-in-Ok
 unfolding on_day
@@ -34,7 +24,7 @@ returns-in-Ok c = let nano = c.args.nano in
     rw (
       read_count c.in-Ok.n (omega (arith, day_most (goal.at.returns-in-Ok c).In-Ok)),
       read_count nano short,
-      ← said (goal.at.returns-in-Ok c).After-number_of,
+      ← c.number_of.ensures,
       c.in-Ok.is,
     )
 

@@ -14,16 +14,16 @@ returns-then-k-lt19-clause-value c = elim c.then-k-lt19.branch [
       rw (← c.until-k.ensures.value, le-ltb _ 19 w.if-k-lt19.false, ne_eqb _ _ w.if-s-ne84.true)
 ]
 
-pub returns-in_err-year-clause-value : goal.returns-in_err-year-clause-value
+pub returns-in_err-date-clause-value : goal.returns-in_err-date-clause-value
 unfolding read_stamp
-returns-in_err-year-clause-value c =
+returns-in_err-date-clause-value c =
     rw (
       c.from_residual.ensures,
       ← c.until-k.ensures.value,
       le-ltb _ 19 c.if-k-lt19.false,
       eq-eqb _ _ c.if-s-ne84.false,
-      ← c.triple.ensures.value,
-      c.in_err-year.was,
+      ← c.ymd.ensures,
+      c.in_err-date.was,
     )
 
 pub returns-in_err-hour-clause-value : goal.returns-in_err-hour-clause-value
@@ -34,9 +34,9 @@ returns-in_err-hour-clause-value c =
       ← c.until-k.ensures.value,
       le-ltb _ 19 c.if-k-lt19.false,
       eq-eqb _ _ c.if-s-ne84.false,
+      ← c.ymd.ensures,
+      c.in_ok-date.was,
       ← c.triple.ensures.value,
-      c.in_ok-year.was,
-      ← c.triple-2.ensures.value,
       c.in_err-hour.was,
     )
 
@@ -48,9 +48,9 @@ returns-in_err-nano-clause-value c =
       ← c.until-k.ensures.value,
       le-ltb _ 19 c.if-k-lt19.false,
       eq-eqb _ _ c.if-s-ne84.false,
+      ← c.ymd.ensures,
+      c.in_ok-date.was,
       ← c.triple.ensures.value,
-      c.in_ok-year.was,
-      ← c.triple-2.ensures.value,
       c.in_ok-hour.was,
       drop_take,
       ← c.fraction.ensures.value,
@@ -64,9 +64,9 @@ returns-clause-value c =
       ← c.until-k.ensures.value,
       le-ltb _ 19 c.if-k-lt19.false,
       eq-eqb _ _ c.if-s-ne84.false,
+      ← c.ymd.ensures,
+      c.in_ok-date.was,
       ← c.triple.ensures.value,
-      c.in_ok-year.was,
-      ← c.triple-2.ensures.value,
       c.in_ok-hour.was,
       drop_take,
       ← c.fraction.ensures.value,

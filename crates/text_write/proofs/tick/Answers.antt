@@ -1,8 +1,7 @@
 -- `text_write::tick` meets its contract: each arm is one of the definition's. Assumes nothing.
 use borrow.Author.Rules.{rules}
-use mathlib.Core.Path.{◌≡◌, sym, ◌∙◌, ap}
-use mathlib.Core.Bool.{true, false}
-use Prim.Native.Nat.{ℕ, ◌≤◌}
+use mathlib.Core.Path.{◌≡◌, ◌∙◌, ap}
+use Prim.Native.Nat.{ℕ}
 use native.Mathlib.Omega.{arith}
 use lib.IntN.{ℤ, nat_abs}
 use mir.Syntax.{w64}
@@ -12,7 +11,7 @@ use Rattle.laws.specs.Numbers.{pos_part, neg_part}
 use Rattle.laws.proofs.Signed.{abs}
 use Rattle.calendar.specs.Gregorian.{date_of}
 use Rattle.values.proofs.Values.{in_dates, in_times, dates_no_times, dates_no_duration, times_no_duration, day_value}
-use Rattle.text_write.specs.Texts.{stamp_text, ymd_text}
+use Rattle.text_write.specs.Texts.{ymd_text}
 use Rattle.text_write.specs.Rows.{tick_text}
 use Rattle.text_write.proofs.Writing.{within, same_text}
 use Rattle.text_write.proofs.tick.Goals as goal
