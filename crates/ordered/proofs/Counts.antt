@@ -1,5 +1,5 @@
 -- Answers that are signed numbers: a count of ticks, whose list has room in a slice, of rows, and a period. Assumes nothing.
-use mathlib.Core.Path.{◌≡◌, refl, sym}
+use mathlib.Core.Path.{◌≡◌, refl, sym, ap, ◌∙◌}
 use mathlib.Core.Bool.{Bool, true, false, cond}
 use mathlib.Core.List.{List}
 use Prim.Native.Nat.{ℕ, ◌*◌, ◌^◌, ◌≤◌, ◌<◌}
@@ -28,7 +28,8 @@ use Rattle.segmented.specs.Answers.{segment_kind_questions, segment_ticks_answer
 use Rattle.rules.specs.Table.{rows_in, table_questions, rules_answer}
 use Rattle.rules.proofs.Judged.{rows_few}
 use Rattle.ruled.specs.Answers.{ruled_questions, ruled_on, ruled_answer}
-use Rattle.ordered.specs.Replies.{number_in}
+use Rattle.ordered.specs.declared.OrderedNumber.{OrderedNumber}
+use Rattle.ordered.specs.Replies.{number_in, number_reply}
 
 -- ---- what a call answered fits a signed number where what it has to answer does
 pub number_fits : (x : Result ℕ Refusal) {a : Result ℕ Refusal} → x ≡ a → ((n : ℕ) → a ≡ Ok n → n < 2 ^ 63) →
@@ -36,27 +37,32 @@ pub number_fits : (x : Result ℕ Refusal) {a : Result ℕ Refusal} → x ≡ a 
 number_fits (Ok n) e small = small n (sym e)
 number_fits (Err q) e small = omega arith
 
-pub index_fits : (x : Result (Option ℕ) Refusal) {a : Result (Option ℕ) Refusal} → x ≡ a →
+index_fits : (x : Result (Option ℕ) Refusal) {a : Result (Option ℕ) Refusal} → x ≡ a →
     ((n : ℕ) → a ≡ Ok (Some n) → n < 2 ^ 63) → number_in x < 2 ^ 63
 index_fits (Ok (Some n)) e small = small n (sym e)
 index_fits (Ok None) e small = omega arith
 index_fits (Err q) e small = omega arith
 
 -- an answer has an axis, where question 1 is asked before it
-pub answered_on : {A B : Type 0} (x : Result A Refusal) (f : A → Result B Refusal) (b : B) → and_then x f ≡ Ok b →
+answered_on : {A B : Type 0} (x : Result A Refusal) (f : A → Result B Refusal) (b : B) → and_then x f ≡ Ok b →
     (a : A) × (f a ≡ Ok b)
 answered_on (Ok a) f b e = (a, e)
 answered_on (Err q) f b e = absurd (let z : ⊥ = cc in z)
 
+-- so it fits where it does on every axis, and the reply is of what is answered on x
 module _ (x : Result Axis Refusal) where
-  -- so it fits where it does on every axis
-  pub number_on : (f : Axis → Result ℕ Refusal) (r : Result ℕ Refusal) → r ≡ and_then x f →
-      ((a : Axis) (n : ℕ) → f a ≡ Ok n → n < 2 ^ 63) → result_unwrap_or r 0 < 2 ^ 63
-  number_on f r e small = number_fits r e (λ n p. let (a, q) = answered_on x f n p in small a n q)
+  pub number_on : (f : Axis → Result ℕ Refusal) {r : Result ℕ Refusal} {reply : OrderedNumber} →
+      (result_unwrap_or r 0 < 2 ^ 63 → reply ≡ number_reply r) → ((a : Axis) (n : ℕ) → f a ≡ Ok n → n < 2 ^ 63) →
+      r ≡ and_then x f → reply ≡ number_reply (and_then x f)
+  number_on f {r} said small e =
+      said (number_fits r e (λ n p. let (a, q) = answered_on x f n p in small a n q)) ∙ ap number_reply e
 
-  pub index_on : (f : Axis → Result (Option ℕ) Refusal) (r : Result (Option ℕ) Refusal) → r ≡ and_then x f →
-      ((a : Axis) (n : ℕ) → f a ≡ Ok (Some n) → n < 2 ^ 63) → number_in r < 2 ^ 63
-  index_on f r e small = index_fits r e (λ n p. let (a, q) = answered_on x f (Some n) p in small a n q)
+  pub index_on : {R : Type 0} (as_reply : Result (Option ℕ) Refusal → R) (f : Axis → Result (Option ℕ) Refusal)
+      {r : Result (Option ℕ) Refusal} {reply : R} →
+      (number_in r < 2 ^ 63 → reply ≡ as_reply r) → ((a : Axis) (n : ℕ) → f a ≡ Ok (Some n) → n < 2 ^ 63) →
+      r ≡ and_then x f → reply ≡ as_reply (and_then x f)
+  index_on as_reply f {r} said small e =
+      said (index_fits r e (λ n p. let (a, q) = answered_on x f (Some n) p in small a n q)) ∙ ap as_reply e
 
 -- ---- a count of ticks: the lent numbers have room for two of each
 listed_most : (l : List Value) (k n : ℕ) → k < 2 ^ 64 → listed_of l k ≡ Ok n → n < 2 ^ 63
@@ -66,20 +72,36 @@ listed_most l k n most = by_room (leb (2 * length l) k) (leb-true (2 * length l)
     by_room true room e = let z : length l ≡ n = cc in omega (arith, room refl)
     by_room false room e = absurd (let z : ⊥ = cc in z)
 
-pub ticks_most : (a : Axis) (h : Hint) (k n : ℕ) → k < 2 ^ 64 → ticks_answer a h k ≡ Ok n → n < 2 ^ 63
+ticks_most : (a : Axis) (h : Hint) (k n : ℕ) → k < 2 ^ 64 → ticks_answer a h k ≡ Ok n → n < 2 ^ 63
 unfolding ticks_answer
 ticks_most a h k n most e =
     listed_most (ticks_of a h) k n most (answered_ok (tick_questions a h) (listed_of (ticks_of a h) k) n e).1
 
-pub segment_ticks_most : (a : Axis) (h : Hint) (k n : ℕ) → k < 2 ^ 64 → segment_ticks_answer a h k ≡ Ok n → n < 2 ^ 63
+pub ticks_on : (x : Result Axis Refusal) (h : Hint) (k : ℕ) {r : Result ℕ Refusal} {reply : OrderedNumber} →
+    (result_unwrap_or r 0 < 2 ^ 63 → reply ≡ number_reply r) → k < 2 ^ 64 → r ≡ and_then x (λ a. ticks_answer a h k) →
+    reply ≡ number_reply (and_then x (λ a. ticks_answer a h k))
+ticks_on x h k said most = number_on x (λ a. ticks_answer a h k) said (λ a n. ticks_most a h k n most)
+
+segment_ticks_most : (a : Axis) (h : Hint) (k n : ℕ) → k < 2 ^ 64 → segment_ticks_answer a h k ≡ Ok n → n < 2 ^ 63
 unfolding segment_ticks_answer
 segment_ticks_most a h k n most e =
     ticks_most a h k n most (answered_ok (segment_kind_questions a) (ticks_answer a h k) n e).1
 
-pub ruled_most : (t : List ℕ) (a : Axis) (k n : ℕ) → k < 2 ^ 64 → ruled_answer t a k ≡ Ok n → n < 2 ^ 63
+pub segment_ticks_on : (x : Result Axis Refusal) (h : Hint) (k : ℕ) {r : Result ℕ Refusal} {reply : OrderedNumber} →
+    (result_unwrap_or r 0 < 2 ^ 63 → reply ≡ number_reply r) → k < 2 ^ 64 →
+    r ≡ and_then x (λ a. segment_ticks_answer a h k) → reply ≡ number_reply (and_then x (λ a. segment_ticks_answer a h k))
+segment_ticks_on x h k said most =
+    number_on x (λ a. segment_ticks_answer a h k) said (λ a n. segment_ticks_most a h k n most)
+
+ruled_most : (t : List ℕ) (a : Axis) (k n : ℕ) → k < 2 ^ 64 → ruled_answer t a k ≡ Ok n → n < 2 ^ 63
 unfolding ruled_answer
 ruled_most t a k n most e =
     listed_most (ruled_on t a) k n most (answered_ok (ruled_questions t a) (listed_of (ruled_on t a) k) n e).1
+
+pub table_on : (x : Result Axis Refusal) (t : List ℕ) (k : ℕ) {r : Result ℕ Refusal} {reply : OrderedNumber} →
+    (result_unwrap_or r 0 < 2 ^ 63 → reply ≡ number_reply r) → k < 2 ^ 64 → r ≡ and_then x (λ a. ruled_answer t a k) →
+    reply ≡ number_reply (and_then x (λ a. ruled_answer t a k))
+table_on x t k said most = number_on x (λ a. ruled_answer t a k) said (λ a n. ruled_most t a k n most)
 
 -- ---- the rows of a table
 pub rows_most : (t : List ℕ) (n : ℕ) → rules_answer t ≡ Ok n → n < 2 ^ 63

@@ -1,5 +1,5 @@
 -- House rules: the table's refusal stands before question 1. Assumes nothing.
-use mathlib.Core.Path.{◌≡◌, refl}
+use mathlib.Core.Path.{◌≡◌, refl, ap, ◌∙◌}
 use mathlib.Core.Bool.{Bool, true, false, cond}
 use mathlib.Core.List.{List, [], ◌∷◌}
 use Prim.Native.Nat.{ℕ}
@@ -10,7 +10,7 @@ use Rattle.asking.specs.Asking.{Question, asked, and_then}
 use Rattle.axis.specs.declared.Axis.{Axis}
 use Rattle.rules.specs.Table.{table_questions}
 use Rattle.ruled.specs.Answers.{ruled_answer}
-use Rattle.ordered.specs.Replies.{after, table_first, ruled_call}
+use Rattle.ordered.specs.Replies.{after, number_reply, table_first, ruled_call}
 
 -- a refusal behind a row answers nothing, and writes nothing
 module _ (q : Refusal) where
@@ -33,12 +33,20 @@ module _ (q : Refusal) where
       by_test false e = refl
 
 -- so the calls may ask the table first and then go on from the axis
-pub counted : (table : List ℕ) (x : Result Axis Refusal) (k : ℕ) →
-    and_then (table_first table x) (λ a. ruled_answer table a k) ≡ ruled_call table x k
-counted table (Ok a) k = refl
-counted table (Err q) k = answers_none q (table_questions table) (λ a. ruled_answer table a k)
+module _ (table : List ℕ) where
+  counted_first : (x : Result Axis Refusal) (k : ℕ) →
+      and_then (table_first table x) (λ a. ruled_answer table a k) ≡ ruled_call table x k
+  counted_first (Ok a) k = refl
+  counted_first (Err q) k = answers_none q (table_questions table) (λ a. ruled_answer table a k)
 
-pub written : (table : List ℕ) (x : Result Axis Refusal) (f : Axis → List ℤ) (d : List ℤ) →
-    after (table_first table x) f d ≡ after x f d
-written table (Ok a) f d = refl
-written table (Err q) f d = writes_none q (table_questions table) f d
+  written_first : (x : Result Axis Refusal) (f : Axis → List ℤ) (d : List ℤ) → after (table_first table x) f d ≡ after x f d
+  written_first (Ok a) f d = refl
+  written_first (Err q) f d = writes_none q (table_questions table) f d
+
+  pub counted : (x : Result Axis Refusal) {y : Result Axis Refusal} (k : ℕ) → y ≡ table_first table x →
+      number_reply (and_then y (λ a. ruled_answer table a k)) ≡ number_reply (ruled_call table x k)
+  counted x k e = ap number_reply (ap (λ z. and_then z (λ a. ruled_answer table a k)) e ∙ counted_first x k)
+
+  pub written : (x : Result Axis Refusal) {y : Result Axis Refusal} (f : Axis → List ℤ) (d : List ℤ) → y ≡ table_first table x →
+      after y f d ≡ after x f d
+  written x f d e = ap (λ z. after z f d) e ∙ written_first x f d

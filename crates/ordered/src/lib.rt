@@ -32,14 +32,14 @@ use weeks::{WeekDate, Ywd};
 
 // A day number, count, size or index.
 #[repr(C)]
-#[derive(Clone, Copy)]
+#[derive(Clone, Copy, Default)]
 pub struct OrderedNumber {
     pub status: i64,
     pub value: i64,
 }
 
 #[repr(C)]
-#[derive(Clone, Copy)]
+#[derive(Clone, Copy, Default)]
 pub struct OrderedPixel {
     pub status: i64,
     pub pixel: i64,
@@ -55,7 +55,7 @@ pub struct OrderedPeriod {
 }
 
 #[repr(C)]
-#[derive(Clone, Copy)]
+#[derive(Clone, Copy, Default)]
 pub struct OrderedValue {
     pub status: i64,
     pub head: i64,
@@ -64,7 +64,7 @@ pub struct OrderedValue {
 
 // A value, and the next place of the cursor.
 #[repr(C)]
-#[derive(Clone, Copy)]
+#[derive(Clone, Copy, Default)]
 pub struct OrderedStep {
     pub status: i64,
     pub head: i64,
@@ -74,7 +74,7 @@ pub struct OrderedStep {
 
 // A segment value: 1 exact, 2 centre, 3 last.
 #[repr(C)]
-#[derive(Clone, Copy)]
+#[derive(Clone, Copy, Default)]
 pub struct OrderedSegment {
     pub status: i64,
     pub segment: i64,
@@ -83,7 +83,7 @@ pub struct OrderedSegment {
 }
 
 #[repr(C)]
-#[derive(Clone, Copy)]
+#[derive(Clone, Copy, Default)]
 pub struct OrderedDate {
     pub status: i64,
     pub year: i64,
@@ -92,7 +92,7 @@ pub struct OrderedDate {
 }
 
 #[repr(C)]
-#[derive(Clone, Copy)]
+#[derive(Clone, Copy, Default)]
 pub struct OrderedWeekDate {
     pub status: i64,
     pub year: i64,
@@ -120,11 +120,11 @@ impl From<Result<Option<u64>, Refusal>> for OrderedNumber {
             },
             Ok(None) => OrderedNumber {
                 status: -1,
-                value: 0,
+                ..Default::default()
             },
             Err(q) => OrderedNumber {
                 status: i64::from(q),
-                value: 0,
+                ..Default::default()
             },
         }
     }
@@ -156,9 +156,7 @@ impl From<Result<Date, Refusal>> for OrderedDate {
             },
             Err(q) => OrderedDate {
                 status: i64::from(q),
-                year: 0,
-                month: 0,
-                day: 0,
+                ..Default::default()
             },
         }
     }
@@ -179,9 +177,7 @@ impl From<Result<WeekDate, Refusal>> for OrderedWeekDate {
             },
             Err(q) => OrderedWeekDate {
                 status: i64::from(q),
-                year: 0,
-                week: 0,
-                weekday: 0,
+                ..Default::default()
             },
         }
     }
@@ -200,9 +196,7 @@ impl From<Result<Hairline, Refusal>> for OrderedPixel {
             },
             Err(q) => OrderedPixel {
                 status: i64::from(q),
-                pixel: 0,
-                exact: 0,
-                lost: 0,
+                ..Default::default()
             },
         }
     }
@@ -228,13 +222,11 @@ impl From<Result<Option<Value>, Refusal>> for OrderedValue {
             },
             Ok(None) => OrderedValue {
                 status: -1,
-                head: 0,
-                tail: 0,
+                ..Default::default()
             },
             Err(q) => OrderedValue {
                 status: i64::from(q),
-                head: 0,
-                tail: 0,
+                ..Default::default()
             },
         }
     }
@@ -253,15 +245,12 @@ impl From<Result<(Option<Value>, Cursor), Refusal>> for OrderedStep {
             },
             Ok((None, c)) => OrderedStep {
                 status: -1,
-                head: 0,
-                tail: 0,
                 next: c.place,
+                ..Default::default()
             },
             Err(q) => OrderedStep {
                 status: i64::from(q),
-                head: 0,
-                tail: 0,
-                next: 0,
+                ..Default::default()
             },
         }
     }
@@ -287,20 +276,15 @@ impl From<Result<Option<SegmentValue>, Refusal>> for OrderedSegment {
             Ok(Some(SegmentValue::Last)) => OrderedSegment {
                 status: 0,
                 segment: 3,
-                head: 0,
-                tail: 0,
+                ..Default::default()
             },
             Ok(None) => OrderedSegment {
                 status: -1,
-                segment: 0,
-                head: 0,
-                tail: 0,
+                ..Default::default()
             },
             Err(q) => OrderedSegment {
                 status: i64::from(q),
-                segment: 0,
-                head: 0,
-                tail: 0,
+                ..Default::default()
             },
         }
     }
@@ -375,7 +359,7 @@ fn count_ticks(axis: Result<Axis, Refusal>, h: Hint, lent_len: u64) -> OrderedNu
     OrderedNumber::from(axis.and_then(|a| ticks::count(a, h, lent_len)))
 }
 
-// Of what a closure captures and writes nothing is known after the call, so a list's closure is handed the lent numbers.
+// The lent numbers are a parameter of the closure: if it captured them, nothing would be known of what it leaves in them.
 fn list_on<F: FnOnce(Axis, &mut [i64]) -> Result<u64, Refusal>>(
     axis: Result<Axis, Refusal>,
     lent: &mut [i64],

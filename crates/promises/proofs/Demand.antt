@@ -26,7 +26,6 @@ use Rattle.ticks.specs.Answers.{ticks_answer, ticks_written}
 use Rattle.ticks.proofs.Answers.{by_row, in_lent, written_length}
 use Rattle.ticks.proofs.Promise.{list_fine, handed_fine}
 use Rattle.segmented.specs.Answers.{segment_kind_questions, segment_ticks_answer, segment_ticks_written}
-use Rattle.ordered.specs.declared.OrderedNumber.{OrderedNumber}
 use Rattle.ordered.specs.declared.OrderedPixel.{OrderedPixel}
 use Rattle.ordered.specs.Replies.{number_reply, pixel_reply}
 use Rattle.promises.specs.Demand.{FineList, DaysApart, Demand3}
@@ -94,10 +93,6 @@ demand_3 a h d l i j = record {
 }
 
 -- ---- of what a call handed back, which is as defined
-pub list_as : (a : Axis) (h : Hint) {r s : OrderedNumber} {l m : List ℤ} → (r ≡ s) × (l ≡ m) → FineList a h s m →
-    FineList a h r l
-list_as a h (q, w) f = rw (q, w) f
-
 pub pixels_as : (a : Axis) (l : Limits) (i j : ℤ) {x y u v : OrderedPixel} → x ≡ u → y ≡ v → DaysApart a l i j u v →
     DaysApart a l i j x y
 pixels_as a l i j p q f = rw (p, q) f

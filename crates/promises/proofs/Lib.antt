@@ -1,8 +1,8 @@
 -- The claim, proved.
 pub mod Rows
 pub mod Demand
+pub mod Calls
 pub mod Numbers
-pub mod Pixels
 pub mod DayNumbers
 pub mod DateAxes
 pub mod OpenRows

@@ -1,5 +1,8 @@
-// Claims about what the calls of C hand back: functions that make the calls, and ensure the claim of their answers. It is of the
-// axis that the six numbers are; where question 1 refuses them, the call is refused and leaves the lent numbers.
+// Claims about what the calls of C answer. Each function here makes such calls and ensures the claim: of the axis that the six
+// numbers make, and where question 1 refuses the numbers, that the call is refused and leaves the lent numbers as they were.
+// C's interface has a call for each hint and each list, and an axis is six numbers there: so twins, as ticks_bold and
+// ticks_light, lists_bold and lists_light, map_days and map_ends, have a function each, and all functions take six numbers.
+//
 // Demand 3 stands in specs/Demand.antt, one list for date-times and dates in specs/OneList.antt, how far a pixel may be off in
 // specs/HowFarOff.antt, how it is drawn in specs/Hairlines.antt, house rules in specs/HouseRules.antt; theorems in proofs/.
 #![tactic(auto)]
@@ -90,7 +93,7 @@ pub fn ticks_light(
     )
 }
 
-// C's interface: the twin of ticks_bold, since each call of C has a function with its claim, and the claim is the same.
+// The twin of ticks_bold, by the call of segment axes; the claim is the same.
 pub fn segment_ticks_bold(
     kind: i64,
     start_head: i64,
@@ -118,7 +121,7 @@ pub fn segment_ticks_bold(
     )
 }
 
-// C's interface: the twin of ticks_light, as above.
+// The twin of ticks_light, as above.
 pub fn segment_ticks_light(
     kind: i64,
     start_head: i64,

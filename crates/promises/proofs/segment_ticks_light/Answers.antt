@@ -1,22 +1,15 @@
 -- `promises::segment_ticks_light` meets its contract: the theorem, of what the export answers and leaves. Assumes nothing.
-use mathlib.Core.Path.{◌∙◌}
-use lib.ListN.{length}
-use Rattle.asking.specs.Asking.{and_then}
+use Rattle.std.proofs.Common.{rules}
 use Rattle.axis.specs.declared.Hint.TheVariants.{Light}
 use Rattle.segmented.specs.Answers.{segment_ticks_answer, segment_ticks_written}
-use Rattle.ordered.specs.Replies.{after, number_reply}
-use Rattle.axis.proofs.Axes.{axis_read}
-use Rattle.ordered.proofs.Axes.{light_read, both_read}
-use Rattle.promises.proofs.Demand.{segments_fine, list_as}
+use Rattle.promises.proofs.Demand.{segments_fine}
+use Rattle.promises.proofs.Calls.{list_called}
 use Rattle.promises.proofs.segment_ticks_light.Goals as goal
 
 pub returns-clause-listed : goal.returns-clause-listed
-returns-clause-listed c a e = let x = c.args in
-    let f = c.ranges in
-    let d = x.lent.now in
-    let h = Light (record { bold = x.bold; n = x.n }) in
-    list_as a h
-    (both_read (λ y k. number_reply (and_then y (λ b. segment_ticks_answer b k (length d))))
-    (λ y k. after y (λ b. segment_ticks_written b k d) d)
-    (axis_read f.kind f.start_head f.start_tail f.end_head f.end_tail f.end_excluded ∙ e) (light_read f.bold f.n)
-    (c.ordered_segment_ticks_light.ensures.value, c.ordered_segment_ticks_light.ensures.after_call)) (segments_fine a h d)
+returns-clause-listed c a e = let is = c.ordered_segment_ticks_light.ensures in
+    let h = Light (record { bold = c.args.bold; n = c.args.n }) in
+    let d = c.args.lent.now in
+    list_called segment_ticks_answer segment_ticks_written segments_fine a h d is.value is.after_call
+    (search rules)
+    (search rules)
