@@ -1,12 +1,13 @@
 -- The shift to the first tick, by the code's tests, and durations counted from zero. Assumes nothing.
 use mathlib.Core.Path.{◌≡◌, refl}
 use mathlib.Core.Bool.{true}
-use Prim.Native.Nat.{ℕ, zero, suc, ◌%◌, ◌≤◌, ◌<◌}
+use Prim.Native.Nat.{ℕ, zero, suc, ◌-◌, ◌%◌, ◌≤◌, ◌<◌}
 use native.Mathlib.Nat.{mod-lt}
 use native.Mathlib.Omega.{arith}
 use lib.Dec.{eqb}
 use lib.IntN.{ℤ, pos, negsuc, nat_abs, neg_ℤ, ◌-ℤ◌}
 use lib.Signed.{lt_z, rem_z}
+use borrow.Author.Tests.{ne_eqb}
 use Rattle.laws.proofs.Signed.{sub, same}
 use Rattle.values.specs.declared.Kind.TheVariants.{Span}
 use Rattle.values.specs.declared.Value.{Value}
@@ -15,6 +16,12 @@ use Rattle.values.specs.Differences.{nanoseconds, difference}
 use Rattle.plans.specs.Times.{shift_up, shift_of}
 use Rattle.laws.specs.Numbers.{as_u64}
 use Rattle.plans.proofs.Cases.{choose}
+
+-- ---- a duration above zero goes up to a multiple
+module _ (z : ℤ) (k : ℕ) (e : as_u64 z % k ≡ 0 → ⊥) where
+  pub shift_up_law : lt_z (pos 0) z ≡ true → k - nat_abs (rem_z z (pos k)) ≡ shift_of z k
+  unfolding shift_of
+  shift_up_law h = rw (ne_eqb (as_u64 z % k) 0 e, h)
 
 -- ---- a shift is at most a period
 pub turned_size : (n : ℕ) → nat_abs (neg_ℤ (pos n)) ≡ n

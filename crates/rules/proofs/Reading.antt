@@ -311,14 +311,3 @@ module _ {S A B : Type 0} {steps : S → Option A → S → Type 0} {v : A → B
   after_first (y ∷ ys) road r x u e p =
       let (f, g) = road.runs.1 x u (subst (λ o. steps s o u) e p) in
       (ap (λ (z : B). z ∷ ys) (sym f), record { runs = g })
-
-  -- the same, where the first item is known, and that it does not end before it
-  pub begins : {all ys : List B} → all ≡ ys → YieldsList steps v s all → YieldsList steps v s ys
-  begins e road = subst (λ (l : List B). YieldsList steps v s l) e road
-
-  pub taken : {y : B} {ys : List B} → YieldsList steps v s (y ∷ ys) → {r : Option A} {x : A} {u : S} → r ≡ Some x → steps s r u
-      → (v x ≡ y) × YieldsList steps v u ys
-  taken road {r} {x} {u} e p = let (f, g) = road.runs.1 x u (subst (λ o. steps s o u) e p) in (f, record { runs = g })
-
-  pub not_over : {y : B} {ys : List B} → YieldsList steps v s (y ∷ ys) → {r : Option A} {u : S} → r ≡ None → steps s r u → ⊥
-  not_over road {r} {u} e p = road.runs.0 u (subst (λ o. steps s o u) e p)

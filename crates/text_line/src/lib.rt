@@ -135,17 +135,13 @@ pub fn read_line(s: &[u8]) -> Option<Request>
     if !text_read::in_form(s, 5) {
         return None;
     }
-    let kind = kind_of(text_read::field(s))?;
-    let a = text_read::rest_of(s);
-    let b = text_read::rest_of(a);
-    let c = text_read::rest_of(b);
-    let d = text_read::rest_of(c);
-    let e = text_read::rest_of(d);
-    let start = read_value(kind, a)?;
-    let end = read_value(kind, b)?;
-    let n = text_read::number(c)?;
-    let low = text_read::number(d)?;
-    let high = text_read::number(e)?;
+    let mut fields = s.split(|b| *b == b' ');
+    let kind = kind_of(fields.next()?)?;
+    let start = read_value(kind, fields.next()?)?;
+    let end = read_value(kind, fields.next()?)?;
+    let n = text_read::number(fields.next()?)?;
+    let low = text_read::number(fields.next()?)?;
+    let high = text_read::number(fields.next()?)?;
     Some(Request {
         axis: Axis {
             kind,

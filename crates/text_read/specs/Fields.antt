@@ -13,12 +13,6 @@ unfoldable pub until_of : ℕ → List ℕ → ℕ
 until_of c [] = 0
 until_of c (b ∷ s) = cond (eqb b c) 0 (suc (until_of c s))
 
--- the first c of s stands between the two
-pub record SplitAt (c : ℕ) (s before behind : List ℕ) : Type 0 where
-  pub inside : until_of c s < length s
-  pub front : before ≡ take (until_of c s) s
-  pub rest : behind ≡ drop (until_of c s + 1) s
-
 -- the bytes of the field at the front of s
 abbrev pub field_of : List ℕ → List ℕ
 field_of s = take (until_of space_byte s) s

@@ -2,11 +2,11 @@
 // where the field has not the form. A field ends before the next space, or where the line ends.
 #![tactic(auto)]
 
-ghost use Rattle.std.specs.Prelude.{◌≡◌, ◌+◌, ◌≤◌, length, take, MatchOption};
-ghost use Rattle.text_read.specs.Lines.{in_form, rest_of};
+ghost use Rattle.std.specs.Prelude.{◌≡◌, ◌+◌, ◌≤◌, length, take};
+ghost use Rattle.text_read.specs.Lines.{in_form};
 ghost use Rattle.text_read.specs.Fields.{until_of, field_of, digits_of, read_number, triple_of, ymd_of, read_date};
 ghost use Rattle.text_read.specs.Fields.{nanos_of, fraction_of, read_stamp, seconds_of, read_span};
-ghost use Rattle.text_read.specs.Fields.{SplitAt, Digits, TypedThree, TypedStamp, TypedSpan};
+ghost use Rattle.text_read.specs.Fields.{Digits, TypedThree, TypedStamp, TypedSpan};
 
 use calendar::Ymd;
 
@@ -38,14 +38,6 @@ pub fn until(s: &[u8], c: u8) -> usize
     s.iter().position(|b| *b == c).unwrap_or(s.len())
 }
 
-// What stands before the first c, and what stands behind it.
-pub fn split_once(s: &[u8], c: u8) -> Option<(&[u8], &[u8])>
-    ensures { MatchOption result (until_of c s.now ≡ length s.now) (λ p. SplitAt c s.now p.0.now p.1.now) }
-{
-    let k = until(s, c);
-    Some((&s[..k], s.get(k + 1..)?))
-}
-
 // At most 120 bytes, and so many spaces.
 pub fn in_form(s: &[u8], spaces: usize) -> bool
     ensures { result ≡ in_form spaces s.now }
@@ -58,16 +50,6 @@ pub fn field(s: &[u8]) -> &[u8]
     ensures { result.now ≡ field_of s.now }
 {
     &s[..until(s, b' ')]
-}
-
-// The part after the first space, or an empty part.
-pub fn rest_of(s: &[u8]) -> &[u8]
-    ensures { result.now ≡ rest_of s.now }
-{
-    match split_once(s, b' ') {
-        Some((_, rest)) => rest,
-        None => &[],
-    }
 }
 
 // 1 to 12 digits and nothing else: their value.

@@ -24,8 +24,10 @@ pub struct Printer {
 fn shows_fractions(list: &[i64]) -> bool
     ensures { result ≡ shows_fractions list.now }
 {
-    list.chunks_exact(2)
-        .any(|tick| tick[1].max(0) as u64 % 1000000000 != 0)
+    list.as_chunks::<2>()
+        .0
+        .iter()
+        .any(|[_, tail]| (*tail).max(0) as u64 % 1000000000 != 0)
 }
 
 // A line for each tick of a list. What mapping asks of the axis and the limits, and their scale, is the same for all.
@@ -35,10 +37,10 @@ fn list_rows(number: u64, a: Axis, l: Limits, list: &[i64], out: &mut Output)
 {
     let m = mapping::prepare(a, l);
     let shown = shows_fractions(list);
-    for tick in list.chunks_exact(2) {
+    for [head, tail] in list.as_chunks::<2>().0 {
         let v = Value {
-            head: tick[0],
-            tail: tick[1],
+            head: *head,
+            tail: *tail,
         };
         let p = mapping::map_ready(m, v);
         text_write::row(out, number, shown, a.kind, v, p);

@@ -7,9 +7,8 @@ use Rattle.std.proofs.lemmas.Iterator.Splits.{YieldsList-from_slice_split}
 use Rattle.text_read.specs.Bytes.{space_byte}
 use Rattle.text_read.specs.Fields.{field_of, read_number}
 use Rattle.text_read.specs.Lines.{rest_of}
-use Rattle.text_read.proofs.Parts.{formed, fields, parts, number_alone}
+use Rattle.text_read.proofs.Parts.{formed, fields, parts, number_alone, begins, taken, not_over}
 use Rattle.rules.specs.Rows.{read_row}
-use Rattle.rules.proofs.Reading.{begins, taken, not_over}
 use Rattle.rules.proofs.read_row.Goals as goal
 use Rattle.rules.proofs.read_row.Goals.{After-split-fields, In_ok-next, In_ok-next-2, In_ok-next-3, In_ok-next-4}
 

@@ -11,7 +11,6 @@ use mir.Val.{SFits, to_z, of_z}
 use mir.Facts.{to_z-of_z}
 use Rattle.floats.specs.Rounding.{round_f}
 use Rattle.floats.proofs.Values.{in_float_law}
-use Rattle.axis.proofs.PixelRanges.{limits_are, between_fits}
 use Rattle.mapping.proofs.Ranges.{width_back}
 use Rattle.segmented.specs.Segments.{margin_of}
 use Rattle.segmented.proofs.Margins.{width_few}

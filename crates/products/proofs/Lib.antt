@@ -1,0 +1,2 @@
+-- Laws of products by halves.
+pub mod Halves

@@ -1,0 +1,2 @@
+-- The laws of a line.
+pub mod Values
