@@ -1,16 +1,16 @@
 -- Which rows are for a span length, and whether each length has exactly one. Definitions only.
-use Rattle.std.specs.Prelude.{Bool, false, cond, ◌&&◌, ◌||◌, List, [], ◌∷◌, ℕ, zero, suc, leb, ltb, eqb, Option}
+use Rattle.std.specs.Prelude.{Bool, false, cond, ◌&&◌, ◌||◌, List, [], ◌∷◌, ℕ, zero, suc, leb, ltb, eqb, take, Option}
 use Rattle.std.specs.List.{find}
-use Rattle.arrayvec.specs.ArrayVec.{ArrayVec}
 use Rattle.rules.specs.declared.Row.{Row}
+use Rattle.rules.specs.declared.rows.Rules.{Rules}
 
 -- the span lengths are 0 to 3,652,058: the numbers below this one
 unfoldable pub lengths : ℕ
 lengths = 3652059
 
 -- the rows of a table, in their order
-abbrev pub rows_of : ArrayVec Row → List Row
-rows_of r = r.items
+abbrev pub rows_of : Rules → List Row
+rows_of r = take r.len r.rows
 
 -- a row is for the lengths between its two ends, both included
 abbrev pub is_for : Row → ℕ → Bool

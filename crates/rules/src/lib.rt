@@ -10,8 +10,11 @@ ghost use Rattle.rules.specs.Rows.{unit_of, in_range, row_read, read_row, AllInR
 ghost use Rattle.rules.specs.Cover.{rows_of, is_for, row_for, lacking};
 ghost use Rattle.rules.specs.Table.{table_of, sizes, length_questions, table_questions, rows_in, rules_answer};
 
-use arrayvec::ArrayVec;
 use asking::{Refusal, ask};
+
+mod rows;
+
+pub use rows::Rules;
 
 // The span lengths are 0 to 3,652,058 days: the numbers below this one.
 const LENGTHS: u64 = 3652059;
@@ -38,9 +41,6 @@ pub struct Row {
     pub unit: Unit,
     pub step: u64,
 }
-
-// The rows of a table lie in the value itself: nothing is allocated.
-pub type Rules = ArrayVec<Row, 64>;
 
 // A table that reads: the numbers of its rows are in range.
 #[derive(Drop)]

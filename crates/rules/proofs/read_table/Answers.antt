@@ -91,7 +91,7 @@ pub returns-in_err-read_row : goal.returns-in_err-read_row
 returns-in_err-read_row c =
     let p = goal.at.returns-in_err-read_row c in
     let (h, e) = turn p.In-Some in
-    let u = stop_unread c.loop-line.rows.items _ _ _ h e (sym c.read_row.ensures ∙ c.in_err-read_row.was) in
+    let u = stop_unread (rows_of c.loop-line.rows) _ _ _ h e (sym c.read_row.ensures ∙ c.in_err-read_row.was) in
     rw c.from_residual-in_err-read_row.ensures
     (sym (unread_line _ _ _ (names p.In_ok-next) (named _ c.if-ne.ensures) (c.loop-line.invariant.read ∙ u)))
 
@@ -100,7 +100,7 @@ loop-line-preserved c =
     let (h, e) = turn (goal.at.loop-line-preserved c).In-Some in
     let n : length (c.loop-line.yielded ++ (c.in-Some.line ∷ [])) ≡ length c.loop-line.yielded + 1 =
     length-append c.loop-line.yielded _ in
-    let one = length-append c.loop-line.rows.items (c.in_ok-read_row.field-0 ∷ []) in
+    let one = length-append (rows_of c.loop-line.rows) (c.in_ok-read_row.field-0 ∷ []) in
     let (items, few) =
     room c.try_push.result _ (sym c.ok.ensures.value ∙ c.in_ok-ok.was) c.try_push.ensures.ok c.try_push.ensures.variant in
     record {
@@ -109,7 +109,7 @@ loop-line-preserved c =
       few = rw items (omega (arith, one, few));
       count = rw (items, n) (omega (arith, one, c.loop-line.invariant.count));
       read = rw (items, n) (c.loop-line.invariant.read
-          ∙ go_on c.loop-line.rows.items _ _ _ h e (sym c.read_row.ensures ∙ c.in_ok-read_row.was));
+          ∙ go_on (rows_of c.loop-line.rows) _ _ _ h e (sym c.read_row.ensures ∙ c.in_ok-read_row.was));
     }
 
 pub returns-in_err-ok : goal.returns-in_err-ok
@@ -128,7 +128,7 @@ all c =
     all_read _ _ _ (names p.In_ok-next) (named _ c.if-ne.ensures)
     (omega (arith, e.1, c.loop-line.invariant.few, c.loop-line.invariant.count))
     ∙ c.loop-line.invariant.read
-    ∙ over c.loop-line.rows.items (row_lines c.args.s.now) (length c.loop-line.yielded) (omega (arith, e.1))
+    ∙ over (rows_of c.loop-line.rows) (row_lines c.args.s.now) (length c.loop-line.yielded) (omega (arith, e.1))
 
 pub invariant_of-result : goal.invariant_of-result
 invariant_of-result c =

@@ -1,0 +1,62 @@
+// The rows of a table, in the value itself: nothing is allocated, and a copy is a copy of its bytes.
+ghost use Rattle.std.specs.Prelude.{◌≤◌};
+
+use crate::Row;
+use asking::Refusal;
+
+// The most rows that a table has.
+const MOST: usize = 64;
+
+// The first len of the rows are those of the table. What lies behind them is nobody's: `rows_of` says the table's.
+#[derive(Clone, Copy)]
+pub struct Rules {
+    rows: [Row; MOST],
+    len: usize,
+    pub ghost few: { len ≤ 64 },
+}
+
+impl Rules {
+    ghost use Rattle.std.specs.Prelude.{◌≡◌, ◌<◌, ◌↔◌, [], ◌∷◌, ◌++◌, length, IsOk, OnOk, OnErr};
+    ghost use Rattle.rules.specs.Cover.{rows_of};
+
+    // No rows.
+    pub fn new() -> Rules
+        ensures { rows_of result ≡ [] }
+    {
+        Rules {
+            rows: [Row::default(); MOST],
+            len: 0,
+        }
+    }
+
+    // One row more, where there is room: it is written in its place, and no other row is touched.
+    pub fn try_push(&mut self, w: Row) -> Result<(), Refusal>
+        ensures variant { IsOk result ↔ (length (rows_of self.old) < 64) }
+        ensures ok { OnOk result (rows_of self.new ≡ rows_of self.old ++ w ∷ []) }
+        ensures err { OnErr result (self.new ≡ self.old) }
+        ensures full { OnErr result (length (rows_of self.old) ≡ 64) }
+    {
+        if self.len == MOST {
+            return Err(Refusal::Table);
+        }
+        self.rows[self.len] = w;
+        self.len += 1;
+        Ok(())
+    }
+
+    // The rows, in their order.
+    pub fn as_slice(&self) -> &[Row]
+        ensures value { result.now ≡ rows_of self.now }
+        ensures fits { length result.now ≤ 64 }
+    {
+        &self.rows[..self.len]
+    }
+
+    // How many there are.
+    pub fn len(&self) -> usize
+        ensures value { result ≡ length (rows_of self.now) }
+        ensures fits { result ≤ 64 }
+    {
+        self.as_slice().len()
+    }
+}
