@@ -1,7 +1,7 @@
 -- The forms of a line's fields, over the bytes from a field's start: numbers, dates, date-times, spans. Definitions only.
 -- A field is what stands before the next space, or all to the line's end.
 use Rattle.std.specs.Prelude.{◌≡◌, Bool, true, false, ◌&&◌, cond, List, [], ◌∷◌, ℕ, suc, ◌+◌, ◌*◌, ◌-◌, ◌^◌, ◌<◌, leb, ltb, eqb}
-use Rattle.std.specs.Prelude.{pos, ℤ, ◌-ℤ◌, length, take, drop, get_or, Option, None, Some}
+use Rattle.std.specs.Prelude.{pos, negsuc, ℤ, ◌-ℤ◌, length, take, drop, get_or, Option, None, Some}
 use Rattle.laws.specs.Units.{per_second}
 use Rattle.text_read.specs.Bytes.{space_byte, minus_byte, point_byte, zero_byte, nine_byte, colon_byte, t_byte}
 use Rattle.calendar.specs.declared.Ymd.{Ymd}
@@ -123,17 +123,33 @@ abbrev pub Digits : ℕ → Option ℕ → Type 0
 Digits k (Some n) = n < 10 ^ k
 Digits k None = Unit {0}
 
+-- so has a signed one, and it is not below zero
+abbrev pub Signless : ℕ → ℤ → Type 0
+Signless k (pos n) = n < 10 ^ k
+Signless k (negsuc n) = ⊥
+
 -- each of three numbers has at most 12
 abbrev pub TypedThree : Option (ℕ × ℕ × ℕ) → Type 0
 TypedThree (Some (a, b, c)) = (a < 10 ^ 12) × (b < 10 ^ 12) × (c < 10 ^ 12)
 TypedThree None = Unit {0}
 
--- the fraction of a date-time that was read is less than a second
+-- so has each number of a date
+pub record Typed (d : Ymd) : Type 0 where
+  pub year : Signless 12 d.year
+  pub month : Signless 12 d.month
+  pub day : Signless 12 d.day
+
+-- so has a date that was read
+abbrev pub TypedDate : Option Ymd → Type 0
+TypedDate (Some d) = Typed d
+TypedDate None = Unit {0}
+
+-- so has a date-time that was read, and its fraction is less than a second
 abbrev pub TypedStamp : Option Moment → Type 0
-TypedStamp (Some m) = m.nano < per_second
+TypedStamp (Some m) = Typed m.date × (m.nano < per_second)
 TypedStamp None = Unit {0}
 
--- so is that of a span that was read, and its seconds have at most 12 digits
+-- so have the seconds of a span that was read, and its fraction too
 abbrev pub TypedSpan : Option Duration → Type 0
 TypedSpan (Some p) = (p.seconds < 10 ^ 12) × (p.nano < per_second)
 TypedSpan None = Unit {0}

@@ -6,7 +6,7 @@ ghost use Rattle.std.specs.Prelude.{◌≡◌, ◌+◌, ◌≤◌, length, take}
 ghost use Rattle.text_read.specs.Lines.{in_form};
 ghost use Rattle.text_read.specs.Fields.{until_of, field_of, digits_of, read_number, triple_of, ymd_of, read_date};
 ghost use Rattle.text_read.specs.Fields.{nanos_of, fraction_of, read_stamp, seconds_of, read_span};
-ghost use Rattle.text_read.specs.Fields.{Digits, TypedThree, TypedStamp, TypedSpan};
+ghost use Rattle.text_read.specs.Fields.{Digits, TypedThree, TypedDate, TypedStamp, TypedSpan};
 
 use calendar::Ymd;
 
@@ -99,7 +99,8 @@ fn triple(s: &[u8], w: usize, sep: u8) -> Option<(u64, u64, u64)>
 // YYYY-MM-DD at the front, real or not.
 fn ymd(s: &[u8]) -> Option<Ymd>
     requires { 10 ≤ length s.now }
-    ensures { result ≡ ymd_of s.now }
+    ensures value { result ≡ ymd_of s.now }
+    ensures typed_date { TypedDate result }
 {
     let (year, month, day) = triple(s, 4, b'-')?;
     Some(Ymd {
@@ -111,7 +112,8 @@ fn ymd(s: &[u8]) -> Option<Ymd>
 
 // YYYY-MM-DD.
 pub fn date(s: &[u8]) -> Option<Ymd>
-    ensures { result ≡ read_date s.now }
+    ensures value { result ≡ read_date s.now }
+    ensures typed_date { TypedDate result }
 {
     if until(s, b' ') != 10 {
         return None;

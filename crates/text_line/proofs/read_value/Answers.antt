@@ -66,7 +66,7 @@ returns-in_err-date-in-Date c =
       c.from_residual-in_err-date-in-Date.ensures,
       t,
       d,
-      ← c.date.ensures,
+      ← c.date.ensures.value,
       c.in_err-date-in-Date.was,
     )
 
@@ -74,4 +74,4 @@ pub returns-in_ok-date-in-Date : goal.returns-in_ok-date-in-Date
 unfolding read_value
 returns-in_ok-date-in-Date c =
     let (t, d) = dates c.args.kind c.in-Date.is in
-    rw (c.on_day.ensures, t, d, ← c.date.ensures, c.in_ok-date-in-Date.was)
+    rw (c.on_day.ensures, t, d, ← c.date.ensures.value, c.in_ok-date-in-Date.was)
