@@ -10,7 +10,7 @@ lengths = 3652059
 
 -- the rows of a table, in their order
 abbrev pub rows_of : Rules → List Row
-rows_of r = take r.len r.rows
+rows_of r = take r.count r.rows
 
 -- a row is for the lengths between its two ends, both included
 abbrev pub is_for : Row → ℕ → Bool

@@ -7,12 +7,12 @@ use asking::Refusal;
 // The most rows that a table has.
 const MOST: usize = 64;
 
-// The first len of the rows are those of the table. What lies behind them is nobody's: `rows_of` says the table's.
+// The first count of the rows are the table's; what lies behind them is none of it, and no clause speaks of it.
 #[derive(Clone, Copy)]
 pub struct Rules {
     rows: [Row; MOST],
-    len: usize,
-    pub ghost few: { len ≤ 64 },
+    count: usize,
+    pub ghost few: { count ≤ 64 },
 }
 
 impl Rules {
@@ -25,7 +25,7 @@ impl Rules {
     {
         Rules {
             rows: [Row::default(); MOST],
-            len: 0,
+            count: 0,
         }
     }
 
@@ -36,11 +36,11 @@ impl Rules {
         ensures err { OnErr result (self.new ≡ self.old) }
         ensures full { OnErr result (length (rows_of self.old) ≡ 64) }
     {
-        if self.len == MOST {
+        if self.count == MOST {
             return Err(Refusal::Table);
         }
-        self.rows[self.len] = w;
-        self.len += 1;
+        self.rows[self.count] = w;
+        self.count += 1;
         Ok(())
     }
 
@@ -49,7 +49,7 @@ impl Rules {
         ensures value { result.now ≡ rows_of self.now }
         ensures fits { length result.now ≤ 64 }
     {
-        &self.rows[..self.len]
+        &self.rows[..self.count]
     }
 
     // How many there are.
