@@ -1,2 +1,3 @@
--- The laws of a line.
+-- The laws of a line, and the kinds that a word names.
+pub mod Lines
 pub mod Values
