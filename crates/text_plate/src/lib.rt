@@ -18,7 +18,7 @@ const MOST: usize = 307275;
 
 // The number of the line that was begun, 0 for the names line, and what is kept of it. No Option: lines are counted from 0, and
 // the names line is the one at 0; a None would be counted on from by a case of its own.
-#[derive(Drop)]
+#[derive(Clone, Copy)]
 pub struct State {
     pub number: u64,
     pub line: Line,
