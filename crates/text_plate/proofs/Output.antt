@@ -161,7 +161,7 @@ turned_end s chunk rest line clear {before} {out} {k} {n} g h goes e next w = by
     by_goes false q = record {
       ending = tt;
       shorter = tt;
-      counted = tt;
+      counted = omega (arith, less, next.1);
       output = λ l more. written more [] (rw (← q));
     }
 

@@ -40,12 +40,17 @@ abbrev pub still : Option (List ℕ) → State → List ℕ → List ℕ
 still None s more = []
 still (Some rest) s more = to_come s.number s.line.items (rest ++ more)
 
+-- how many bytes are left
+abbrev pub left_over : Option (List ℕ) → ℕ
+left_over None = 0
+left_over (Some rest) = length rest
+
 -- After a turn over a chunk, or several: what is left is the chunk's end, some of the chunk is read, no more lines are
--- counted than bytes, and whatever input comes after the chunk, what was still to be printed is what was written and what is
--- to come after it. No input has so many lines that the last number is reached
+-- counted than bytes, also where nothing more is printed, and whatever input comes after the chunk, what was still to be
+-- printed is what was written and what is to come after it. No input has so many lines that the last number is reached
 pub record Turned (s : State) (chunk : List ℕ) (left : Option (List ℕ)) (after : State) (before out : ArrayVec ℕ) : Type 0 where
   pub ending : IfSome left (λ rest. rest ≡ drop (length chunk - length rest) chunk)
   pub shorter : IfSome left (λ rest. length rest ≤ length chunk - 1)
-  pub counted : IfSome left (λ rest. after.number + length rest ≤ s.number + length chunk)
+  pub counted : after.number + left_over left ≤ s.number + length chunk
   pub output : s.number + length chunk ≤ 18446744073709551615 → (more : List ℕ)
       → before.items ++ to_come s.number s.line.items (chunk ++ more) ≡ out.items ++ still left after more
