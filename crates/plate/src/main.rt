@@ -9,7 +9,7 @@ use std::io::Read;
 use std::rt::Env;
 use text_plate::State;
 use text_rows::Printer;
-use text_write::Output;
+use text_write::{CAPACITY, Output};
 
 // What failed, a read or a write, and why.
 #[derive(Drop)]
@@ -51,7 +51,7 @@ fn eat(
     rt: &impl Print,
     s: &mut State,
     chunk: &[u8],
-    printer: &mut Printer,
+    printer: &mut Printer<CAPACITY>,
 ) -> Result<bool, Failure> {
     let mut rest = chunk;
     // a while: how much of the chunk is read at once, only `turns` says

@@ -8,10 +8,10 @@ ghost use Rattle.text_write.specs.Texts.{Room, Wrote};
 ghost use Rattle.text_plate.specs.Plate.{output_names, no_names};
 ghost use Rattle.text_plate.specs.Turns.{finished_text, goes_on, ended_text, Turned};
 
+use arrayvec::ArrayVec;
 use asking::Refusal;
 use feed::Line;
 use text_rows::Printer;
-use text_write::Output;
 
 // The most bytes that a line prints: 4,097 ticks of 75 bytes.
 const MOST: usize = 307275;
@@ -25,15 +25,15 @@ pub struct State {
 }
 
 // The names line of the output.
-fn output_names(out: &mut Output)
-    requires { Room 16 out.old }
+fn output_names<const CAP: usize>(out: &mut ArrayVec<u8, CAP>)
+    requires { Room CAP 16 out.old }
     ensures { Wrote 16 output_names out.old out.new }
 {
     out.try_extend_from_slice(b"line tick pixel\n").unwrap();
 }
 
-fn no_names(out: &mut Output)
-    requires { Room 81 out.old }
+fn no_names<const CAP: usize>(out: &mut ArrayVec<u8, CAP>)
+    requires { Room CAP 81 out.old }
     ensures { Wrote 81 no_names out.old out.new }
 {
     output_names(out);
@@ -42,8 +42,8 @@ fn no_names(out: &mut Output)
 
 // Writes what a finished line prints. Is more read after it? The room is asked at each call and is no ghost field, as for a
 // Printer.
-fn finished(number: u64, text: &[u8], printer: &mut Printer) -> bool
-    requires { Room 307275 printer.old.out }
+fn finished<const CAP: usize>(number: u64, text: &[u8], printer: &mut Printer<CAP>) -> bool
+    requires { Room CAP 307275 printer.old.out }
     ensures value { result ≡ goes_on number text.now }
     ensures wrote { Wrote 307275 (finished_text number text.now) printer.old.out printer.new.out }
 {
@@ -60,22 +60,34 @@ fn finished(number: u64, text: &[u8], printer: &mut Printer) -> bool
     named
 }
 
+// What the end of the input prints, where text was begun and has no LF.
+pub fn ended<const CAP: usize>(number: u64, text: &[u8], out: &mut ArrayVec<u8, CAP>)
+    requires { Room CAP 81 out.old }
+    ensures { Wrote 81 (ended_text number text.now) out.old out.new }
+{
+    if number == 0 {
+        no_names(out);
+    } else if !text.is_empty() {
+        text_write::refusal_row(out, number, Refusal::Table);
+    }
+}
+
 impl State {
-    // What the end of the input prints, where a line was begun and has no LF.
-    pub fn ended(&self, out: &mut Output)
-        requires { Room 81 out.old }
+    // What the end of the input prints behind the line that was begun.
+    pub fn ended<const CAP: usize>(&self, out: &mut ArrayVec<u8, CAP>)
+        requires { Room CAP 81 out.old }
         ensures { Wrote 81 (ended_text self.now.number self.now.line.items) out.old out.new }
     {
-        if self.number == 0 {
-            no_names(out);
-        } else if !self.line.is_empty() {
-            text_write::refusal_row(out, self.number, Refusal::Table);
-        }
+        ended(self.number, self.line.as_slice(), out)
     }
 
     // A turn over a chunk: what is left of it, or none where nothing more is printed.
-    fn turn<'a>(&mut self, chunk: &'a [u8], printer: &mut Printer) -> Option<&'a [u8]>
-        requires { Room 307275 printer.old.out }
+    fn turn<'a, const CAP: usize>(
+        &mut self,
+        chunk: &'a [u8],
+        printer: &mut Printer<CAP>,
+    ) -> Option<&'a [u8]>
+        requires { Room CAP 307275 printer.old.out }
         ensures { Turned self.old chunk.now (option_copied result) self.new printer.old.out printer.new.out }
     {
         let Some(rest) = feed::feed(&mut self.line, chunk) else {
@@ -88,8 +100,12 @@ impl State {
     }
 
     // Turns over a chunk, while some of it is left, there is more to print, and there is room for what a line prints.
-    pub fn turns<'a>(&mut self, chunk: &'a [u8], printer: &mut Printer) -> Option<&'a [u8]>
-        requires { Room 307275 printer.old.out }
+    pub fn turns<'a, const CAP: usize>(
+        &mut self,
+        chunk: &'a [u8],
+        printer: &mut Printer<CAP>,
+    ) -> Option<&'a [u8]>
+        requires { Room CAP 307275 printer.old.out }
         ensures { Turned self.old chunk.now (option_copied result) self.new printer.old.out printer.new.out }
     {
         let mut rest = self.turn(chunk, printer)?;

@@ -5,18 +5,18 @@ ghost use Rattle.std.specs.Prelude.{◌≡◌, ◌*◌, ◌/◌, length};
 ghost use Rattle.text_write.specs.Texts.{Room, Wrote};
 ghost use Rattle.text_rows.specs.Answers.{Printable, shows_fractions, list_text, request_text, rows_of};
 
+use arrayvec::ArrayVec;
 use asking::Refusal;
 use axis::{Axis, Hint, Limits};
 use text_line::Request;
-use text_write::Output;
 use values::Value;
 
-// What lines are printed with: the output, and the numbers that are lent to a list, with room for every list. They are numbers,
-// two for a tick, and no values, as the C interface lends them. The output stands first: behind the numbers, a long list takes a
-// tenth longer.
+// What lines are printed with: the output, of any capacity, and the numbers that are lent to a list, with room for every list.
+// They are numbers, two for a tick, and no values, as the C interface lends them. The output stands first: behind the numbers, a
+// long list takes a tenth longer.
 #[derive(Drop)]
-pub struct Printer {
-    pub out: Output,
+pub struct Printer<const CAP: usize> {
+    pub out: ArrayVec<u8, CAP>,
     pub lent: [i64; 8194],
 }
 
@@ -31,8 +31,14 @@ fn shows_fractions(list: &[i64]) -> bool
 }
 
 // A line for each tick of a list. What mapping asks of the axis and the limits, and their scale, is the same for all.
-fn list_rows(number: u64, a: Axis, l: Limits, list: &[i64], out: &mut Output)
-    requires { Printable a.kind list.now × Room (75 * (length list.now / 2)) out.old }
+fn list_rows<const CAP: usize>(
+    number: u64,
+    a: Axis,
+    l: Limits,
+    list: &[i64],
+    out: &mut ArrayVec<u8, CAP>,
+)
+    requires { Printable a.kind list.now × Room CAP (75 * (length list.now / 2)) out.old }
     ensures { Wrote (75 * (length list.now / 2)) (list_text number a l list.now) out.old out.new }
 {
     let m = mapping::prepare(a, l);
@@ -48,10 +54,10 @@ fn list_rows(number: u64, a: Axis, l: Limits, list: &[i64], out: &mut Output)
 }
 
 // The room is asked at each call and is no ghost field: a row written takes from it.
-impl Printer {
+impl<const CAP: usize> Printer<CAP> {
     // An empty part does not tell a refusal from a list without ticks, so the questions are asked first.
     fn request_rows(&mut self, number: u64, q: Request)
-        requires { Room 307275 self.old.out }
+        requires { Room CAP 307275 self.old.out }
         ensures { Wrote 307275 (request_text number q) self.old.out self.new.out }
     {
         let h = Hint::Bold(q.hint);
@@ -66,7 +72,7 @@ impl Printer {
 
     // The answer to the line of that number.
     pub fn rows(&mut self, number: u64, text: &[u8])
-        requires { Room 307275 self.old.out }
+        requires { Room CAP 307275 self.old.out }
         ensures { Wrote 307275 (rows_of number text.now) self.old.out self.new.out }
     {
         match text_line::read_line(text) {

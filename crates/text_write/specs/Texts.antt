@@ -7,9 +7,9 @@ use Rattle.calendar.specs.declared.Date.{Date}
 use Rattle.calendar.specs.Gregorian.{date_of}
 use Rattle.text_read.specs.Bytes.{minus_byte, point_byte, zero_byte, colon_byte, t_byte}
 
--- k bytes more fit behind what an output holds
-abbrev pub Room : ℕ → ArrayVec ℕ → Type 0
-Room k before = array_vec_len before + k ≤ 532610
+-- k bytes more fit behind what an output of a capacity holds
+abbrev pub Room : ℕ → ℕ → ArrayVec ℕ → Type 0
+Room capacity k before = array_vec_len before + k ≤ capacity
 
 -- a text of at most k bytes was written behind what an output held
 pub record Wrote (k : ℕ) (text : List ℕ) (before after : ArrayVec ℕ) : Type 0 where

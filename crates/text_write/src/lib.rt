@@ -15,16 +15,18 @@ use calendar::Date;
 use mapping::Hairline;
 use values::{Kind, Value};
 
-// Lines that wait to be printed, in memory that does not grow: there is room for what a line of input prints, and for
-// 225,335 bytes before it, so a chunk of short lines is printed at once.
-pub type Output = ArrayVec<u8, 532610>;
+// Lines that wait to be printed by plate, in memory that does not grow: there is room for what a line of input prints, and for
+// 225,335 bytes before it, so a chunk of short lines is printed at once. The writers take any other capacity too.
+pub const CAPACITY: usize = 532610;
+
+pub type Output = ArrayVec<u8, CAPACITY>;
 
 // Bytes by hand and no `Display`: std says of `write!`, even of a u64 to a writer that never fails, only what an Ok has written.
 // `out` and `shown` are no struct: it would borrow the output, and each clause would read through two references.
 
 // The last w digits of n.
-fn fixed(out: &mut Output, w: usize, n: u64)
-    requires { Room w out.old }
+fn fixed<const CAP: usize>(out: &mut ArrayVec<u8, CAP>, w: usize, n: u64)
+    requires { Room CAP w out.old }
     ensures { Wrote w (fixed_text w n) out.old out.new }
 {
     if 0 < w {
@@ -34,8 +36,8 @@ fn fixed(out: &mut Output, w: usize, n: u64)
 }
 
 // n with no zeros in front, where k digits suffice.
-fn up_to(out: &mut Output, k: usize, n: u64)
-    requires { Room k out.old }
+fn up_to<const CAP: usize>(out: &mut ArrayVec<u8, CAP>, k: usize, n: u64)
+    requires { Room CAP k out.old }
     ensures { Wrote k (up_to_text k n) out.old out.new }
 {
     if k == 0 {
@@ -47,15 +49,15 @@ fn up_to(out: &mut Output, k: usize, n: u64)
     out.push(b'0' + (n % 10) as u8);
 }
 
-fn decimal(out: &mut Output, n: u64)
-    requires { Room 20 out.old }
+fn decimal<const CAP: usize>(out: &mut ArrayVec<u8, CAP>, n: u64)
+    requires { Room CAP 20 out.old }
     ensures { Wrote 20 (decimal_text n) out.old out.new }
 {
     up_to(out, 20, n)
 }
 
-fn signed(out: &mut Output, n: i64)
-    requires { Room 21 out.old }
+fn signed<const CAP: usize>(out: &mut ArrayVec<u8, CAP>, n: i64)
+    requires { Room CAP 21 out.old }
     ensures { Wrote 21 (signed_text n) out.old out.new }
 {
     if n < 0 {
@@ -65,8 +67,8 @@ fn signed(out: &mut Output, n: i64)
 }
 
 // w digits of a, the separator, two digits of b, the separator, two digits of c.
-fn triple(out: &mut Output, w: usize, sep: u8, a: u64, b: u64, c: u64)
-    requires { Room (w + 6) out.old }
+fn triple<const CAP: usize>(out: &mut ArrayVec<u8, CAP>, w: usize, sep: u8, a: u64, b: u64, c: u64)
+    requires { Room CAP (w + 6) out.old }
     ensures { Wrote (w + 6) (triple_text w sep a b c) out.old out.new }
 {
     fixed(out, w, a);
@@ -77,16 +79,16 @@ fn triple(out: &mut Output, w: usize, sep: u8, a: u64, b: u64, c: u64)
 }
 
 // YYYY-MM-DD
-fn date(out: &mut Output, d: Date)
-    requires { Room 10 out.old }
+fn date<const CAP: usize>(out: &mut ArrayVec<u8, CAP>, d: Date)
+    requires { Room CAP 10 out.old }
     ensures { Wrote 10 (ymd_text d) out.old out.new }
 {
     triple(out, 4, b'-', d.year, d.month, d.day)
 }
 
 // hh:mm:ss
-fn time(out: &mut Output, seconds: u64)
-    requires { Room 8 out.old }
+fn time<const CAP: usize>(out: &mut ArrayVec<u8, CAP>, seconds: u64)
+    requires { Room CAP 8 out.old }
     ensures { Wrote 8 (time_text seconds) out.old out.new }
 {
     triple(
@@ -100,8 +102,8 @@ fn time(out: &mut Output, seconds: u64)
 }
 
 // A point and nine digits, where fractions are shown.
-fn fraction(out: &mut Output, shown: bool, q: u64)
-    requires { Room 10 out.old }
+fn fraction<const CAP: usize>(out: &mut ArrayVec<u8, CAP>, shown: bool, q: u64)
+    requires { Room CAP 10 out.old }
     ensures { Wrote 10 (fraction_text shown q) out.old out.new }
 {
     if shown {
@@ -111,8 +113,8 @@ fn fraction(out: &mut Output, shown: bool, q: u64)
 }
 
 // YYYY-MM-DDThh:mm:ss and a fraction
-fn date_time(out: &mut Output, shown: bool, d: Date, nano: u64)
-    requires { Room 29 out.old }
+fn date_time<const CAP: usize>(out: &mut ArrayVec<u8, CAP>, shown: bool, d: Date, nano: u64)
+    requires { Room CAP 29 out.old }
     ensures { Wrote 29 (stamp_text shown d nano) out.old out.new }
 {
     date(out, d);
@@ -123,8 +125,8 @@ fn date_time(out: &mut Output, shown: bool, d: Date, nano: u64)
 
 // The sign, then the seconds and the fraction, both away from zero: the head is rounded down, so below zero a tail takes
 // one second from it and is what is left of that second.
-fn span(out: &mut Output, shown: bool, v: Value)
-    requires { (is_value Span v ≡ true) × Room 31 out.old }
+fn span<const CAP: usize>(out: &mut ArrayVec<u8, CAP>, shown: bool, v: Value)
+    requires { (is_value Span v ≡ true) × Room CAP 31 out.old }
     ensures { Wrote 31 (span_text shown (nanoseconds Span v)) out.old out.new }
 {
     let n = v.head.unsigned_abs();
@@ -144,8 +146,8 @@ fn span(out: &mut Output, shown: bool, v: Value)
 }
 
 // The value in its kind's form.
-fn tick(out: &mut Output, shown: bool, kind: Kind, v: Value)
-    requires { (is_value kind v ≡ true) × Room 31 out.old }
+fn tick<const CAP: usize>(out: &mut ArrayVec<u8, CAP>, shown: bool, kind: Kind, v: Value)
+    requires { (is_value kind v ≡ true) × Room CAP 31 out.old }
     ensures { Wrote 31 (tick_text shown kind v) out.old out.new }
 {
     match kind {
@@ -162,8 +164,8 @@ fn tick(out: &mut Output, shown: bool, kind: Kind, v: Value)
 }
 
 // The pixel, or '!' and the refusal's number.
-fn mark(out: &mut Output, p: Result<Hairline, Refusal>)
-    requires { Room 21 out.old }
+fn mark<const CAP: usize>(out: &mut ArrayVec<u8, CAP>, p: Result<Hairline, Refusal>)
+    requires { Room CAP 21 out.old }
     ensures { Wrote 21 (mark_text p) out.old out.new }
 {
     match p {
@@ -176,15 +178,15 @@ fn mark(out: &mut Output, p: Result<Hairline, Refusal>)
 }
 
 // A line of the output: the input line's number, a tick and its pixel.
-pub fn row(
-    out: &mut Output,
+pub fn row<const CAP: usize>(
+    out: &mut ArrayVec<u8, CAP>,
     number: u64,
     shown: bool,
     kind: Kind,
     v: Value,
     p: Result<Hairline, Refusal>,
 )
-    requires { (is_value kind v ≡ true) × Room 75 out.old }
+    requires { (is_value kind v ≡ true) × Room CAP 75 out.old }
     ensures { Wrote 75 (row_text number shown kind v p) out.old out.new }
 {
     decimal(out, number);
@@ -196,8 +198,8 @@ pub fn row(
 }
 
 // A line of the output for a line that has no list.
-pub fn refusal_row(out: &mut Output, number: u64, q: Refusal)
-    requires { Room 65 out.old }
+pub fn refusal_row<const CAP: usize>(out: &mut ArrayVec<u8, CAP>, number: u64, q: Refusal)
+    requires { Room CAP 65 out.old }
     ensures { Wrote 65 (refusal_text number q) out.old out.new }
 {
     decimal(out, number);

@@ -20,34 +20,34 @@ use Rattle.text_rows.proofs.list_rows.Goals.{After-v-1, After-v-in-loop-head-1}
 abbrev number : ℤ → ℤ
 number z = to_z w64 (of_z w64 z)
 
-head_fits : (c : After-v-1) → SFits w64 (get_or (get_or c.as_chunks.result.0.now c.loop-head.head-index []) 0 (pos 0))
-head_fits c = search rules
+head_fits : {g : _} (c : After-v-1 g) → SFits w64 (get_or (get_or c.as_chunks.result.0.now c.loop-head.head-index []) 0 (pos 0))
+head_fits {g} c = search rules
 
-tail_fits : (c : After-v-in-loop-head-1) →
+tail_fits : {g : _} (c : After-v-in-loop-head-1 g) →
     SFits w64 (get_or (get_or c.as_chunks.result.0.now c.loop-head.head-index []) 1 (pos 0))
-tail_fits c = search rules
+tail_fits {g} c = search rules
 
-inside : (c : After-v-in-loop-head-1) → c.loop-head.head-index < length c.args.list.now / 2
-inside c = omega (arith, c.loop-head-test.true, c.as_chunks.ensures.front_len)
+inside : {g : _} (c : After-v-in-loop-head-1 g) → c.loop-head.head-index < length c.args.list.now / 2
+inside {g} c = omega (arith, c.loop-head-test.true, c.as_chunks.ensures.front_len)
 
-read : (c : After-v-in-loop-head-1) → let x = get_or c.as_chunks.result.0.now c.loop-head.head-index [] in
+read : {g : _} (c : After-v-in-loop-head-1 g) → let x = get_or c.as_chunks.result.0.now c.loop-head.head-index [] in
     record { head = number (get_or x 0 (pos 0)); tail = number (get_or x 1 (pos 0)) } ≡ nth c.args.list.now c.loop-head.head-index
-read c =
-    rw (to_z-of_z (head_fits (goal.at.After-v-in-loop-head-1 c).After-v-1), to_z-of_z (tail_fits c), c.as_chunks.ensures.front)
+read {g} c =
+    rw (to_z-of_z (head_fits (goal.at.After-v-in-loop-head-1 g c).After-v-1), to_z-of_z (tail_fits c), c.as_chunks.ensures.front)
     (pair_at (length c.args.list.now / 2) c.args.list.now c.loop-head.head-index (inside c))
 
 pub loop-head-init : goal.loop-head-init
-loop-head-init c = same_text (sym (no_ticks _ _ _ _)) (nothing _ _)
+loop-head-init g c = same_text (sym (no_ticks _ _ _ _)) (nothing _ _)
 
 pub row-requires : goal.row-requires
-row-requires c =
-    let p = goal.at.row-requires c in
+row-requires g c =
+    let p = goal.at.row-requires g c in
     let i = inside p.After-v-in-loop-head-1 in
-    (rw (read p.After-v-in-loop-head-1) (c.requires.0 _ i), grind (arith, common_steps, i))
+    (search rules, (rw (read p.After-v-in-loop-head-1) (c.requires.0 _ i), grind (arith, common_steps, i)))
 
 pub loop-head-preserved : goal.loop-head-preserved
-loop-head-preserved c =
-    let p = goal.at.loop-head-preserved c in
+loop-head-preserved g c =
+    let p = goal.at.loop-head-preserved g c in
     let i = c.loop-head.head-index in
     let mapped = c.map_ready-p.ensures c.args.a c.args.l c.prepare-m.ensures in
     let pixel = rw (read p.After-v-in-loop-head-1) at mapped in
@@ -55,7 +55,7 @@ loop-head-preserved c =
     rw (one_more c.args.number c.args.a c.args.l c.args.list.now i) (then _ c.loop-head.invariant row (omega arith))
 
 pub returns : goal.returns
-returns c =
+returns g c =
     let e : c.loop-head.head-index ≡ length c.args.list.now / 2 =
     omega (arith, c.loop-head-test.false, c.loop-head.auto.head-index-end, c.as_chunks.ensures.front_len) in
     rw e at c.loop-head.invariant

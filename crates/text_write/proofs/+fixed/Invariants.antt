@@ -2,4 +2,4 @@
 use Rattle.text_write.proofs.+fixed.Given as goal
 
 abbrev pub decreases-fixed : goal.decreases-fixed
-decreases-fixed l = l.w
+decreases-fixed g l = l.w

@@ -5,10 +5,10 @@ use Rattle.text_write.proofs.+up_to.Goals as goal
 use Rattle.text_write.proofs.+up_to.Goals.{then-n-ge10, else-n-ge10}
 
 pub returns-then-k-eq0 : goal.returns-then-k-eq0
-returns-then-k-eq0 t c = rw (up_to_none _ _ c.if-k-eq0.true) (nothing _ _)
+returns-then-k-eq0 t g c = rw (up_to_none _ _ c.if-k-eq0.true) (nothing _ _)
 
 pub returns : goal.returns
-returns t c = elim c.if-n-ge10.branch [
+returns t g c = elim c.if-n-ge10.branch [
   | then-n-ge10 w ↦
       rw (up_to_more _ _ c.if-k-eq0.false w.if-n-ge10.true)
       (then _ (rw (← w.out-is) at w.up_to.ensures) (byte _ c.push.ensures.items) (omega arith))

@@ -2,4 +2,4 @@
 use Rattle.text_write.proofs.+up_to.Given as goal
 
 abbrev pub decreases-up_to : goal.decreases-up_to
-decreases-up_to l = l.k
+decreases-up_to g l = l.k

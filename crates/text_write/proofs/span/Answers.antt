@@ -19,35 +19,35 @@ use Rattle.text_write.proofs.span.Goals as goal
 use Rattle.text_write.proofs.span.Goals.{After-unsigned_abs-q, After-push}
 
 -- the two numbers that the code counts with
-seconds : (c : After-unsigned_abs-q) → c.unsigned_abs-n.result ≡ nat_abs c.args.v.head
-seconds c = let f : SFits w64 c.args.v.head = search rules in c.unsigned_abs-n.ensures.value ∙ ap nat_abs (to_z-of_z f)
+seconds : {g : _} (c : After-unsigned_abs-q g) → c.unsigned_abs-n.result ≡ nat_abs c.args.v.head
+seconds {g} c = let f : SFits w64 c.args.v.head = search rules in c.unsigned_abs-n.ensures.value ∙ ap nat_abs (to_z-of_z f)
 
-nanos : (c : After-unsigned_abs-q) → c.unsigned_abs-q.result ≡ pos_part c.args.v.tail
-nanos c =
+nanos : {g : _} (c : After-unsigned_abs-q g) → c.unsigned_abs-q.result ≡ pos_part c.args.v.tail
+nanos {g} c =
     let f : SFits w64 c.args.v.tail = search rules in
     c.unsigned_abs-q.ensures.value ∙ ap nat_abs (to_z-of_z f) ∙ tail_up c.args.shown c.args.v c.requires.0
 
-below : (c : After-push) → lt_z c.args.v.head (pos 0) ≡ true
-below c = let f : SFits w64 c.args.v.head = search rules in rw (to_z-of_z f) at c.if-not-below.false
+below : {g : _} (c : After-push g) → lt_z c.args.v.head (pos 0) ≡ true
+below {g} c = let f : SFits w64 c.args.v.head = search rules in rw (to_z-of_z f) at c.if-not-below.false
 
-few : (c : After-push) → (c.unsigned_abs-q.result < per_second) × (0 < c.unsigned_abs-n.result)
-few c =
-    let p = (goal.at.After-push c).After-unsigned_abs-q in (
+few : {g : _} (c : After-push g) → (c.unsigned_abs-q.result < per_second) × (0 < c.unsigned_abs-n.result)
+few {g} c =
+    let p = (goal.at.After-push g c).After-unsigned_abs-q in (
       omega (arith, nanos p, tail_most c.args.shown c.args.v c.requires.0),
       omega (arith, seconds p, abs c.args.v.head, lt_true c.args.v.head (pos 0) (below c)),
     )
 
 pub returns-then-not-below : goal.returns-then-not-below
-returns-then-not-below c =
-    let p = (goal.at.returns-then-not-below c).After-unsigned_abs-q in
+returns-then-not-below g c =
+    let p = (goal.at.returns-then-not-below g c).After-unsigned_abs-q in
     let f : SFits w64 c.args.v.head = search rules in
     same_text (from_zero c.args.shown c.args.v c.requires.0 _ _ (rw (to_z-of_z f) at c.if-not-below.true) (seconds p) (nanos p))
     (then _ c.decimal.ensures c.fraction.ensures (omega arith))
 
 pub returns-then-q-eq0 : goal.returns-then-q-eq0
-returns-then-q-eq0 c =
-    let b = (goal.at.returns-then-q-eq0 c).After-push in
-    let p = (goal.at.returns-then-q-eq0 c).After-unsigned_abs-q in
+returns-then-q-eq0 g c =
+    let b = (goal.at.returns-then-q-eq0 g c).After-push in
+    let p = (goal.at.returns-then-q-eq0 g c).After-unsigned_abs-q in
     let n = c.unsigned_abs-n.result in
     let h = then 21 (byte _ c.push.ensures.items) c.decimal-then-q-eq0.ensures (omega arith) in
     same_text
@@ -55,12 +55,12 @@ returns-then-q-eq0 c =
     (then _ h c.fraction-then-q-eq0.ensures (omega arith))
 
 pub overflow_sub-q : goal.overflow_sub-q
-overflow_sub-q c = omega (arith, few (goal.at.overflow_sub-q c).After-push)
+overflow_sub-q g c = omega (arith, few (goal.at.overflow_sub-q g c).After-push)
 
 pub returns : goal.returns
-returns c =
-    let b = (goal.at.returns c).After-push in
-    let p = (goal.at.returns c).After-unsigned_abs-q in
+returns g c =
+    let b = (goal.at.returns g c).After-push in
+    let p = (goal.at.returns g c).After-unsigned_abs-q in
     let n = c.unsigned_abs-n.result - 1 in
     let q = 1000000000 - c.unsigned_abs-q.result in
     let h = then 21 (byte _ c.push.ensures.items) c.decimal-2.ensures (omega arith) in

@@ -21,38 +21,38 @@ use Rattle.text_write.proofs.tick.Goals.{Start}
 up : {z : ℤ} {n : ℕ} → SFits w64 z → neg_part z ≡ 0 → n ≡ nat_abs (to_z w64 (of_z w64 z)) → n ≡ pos_part z
 up {z} f e h = h ∙ ap nat_abs (to_z-of_z f) ∙ omega (arith, abs z, e)
 
-head_fits : (c : Start) → SFits w64 c.args.v.head
-head_fits c = search rules
+head_fits : {g : _} (c : Start g) → SFits w64 c.args.v.head
+head_fits {g} c = search rules
 
-tail_fits : (c : Start) → SFits w64 c.args.v.tail
-tail_fits c = search rules
+tail_fits : {g : _} (c : Start g) → SFits w64 c.args.v.tail
+tail_fits {g} c = search rules
 
 pub date_of-d-requires : goal.date_of-d-requires
-date_of-d-requires c =
+date_of-d-requires g c =
     let d = day_value _ _ c.requires.0 (dates_no_duration c.args.kind (in_dates c.args.kind c.in-Date.is)) in
-    let e = up (head_fits (goal.at.date_of-d-requires c).Start) d.head_dn c.unsigned_abs.ensures.value in
+    let e = up (head_fits (goal.at.date_of-d-requires g c).Start) d.head_dn c.unsigned_abs.ensures.value in
     (omega (arith, e), omega (arith, e))
 
 pub returns-in-Date : goal.returns-in-Date
 unfolding tick_text
-returns-in-Date c =
+returns-in-Date g c =
     let k = in_dates c.args.kind c.in-Date.is in
     let n = dates_no_duration c.args.kind k in
     let d = day_value _ _ c.requires.0 n in
-    let e = up (head_fits (goal.at.returns-in-Date c).Start) d.head_dn c.unsigned_abs.ensures.value in
+    let e = up (head_fits (goal.at.returns-in-Date g c).Start) d.head_dn c.unsigned_abs.ensures.value in
     rw (dates_no_times c.args.kind k, n)
     (same_text (ap ymd_text (c.date_of-d.ensures ∙ ap date_of e)) (within (omega arith) c.date.ensures))
 
 pub date_of-d-requires-in-Stamp : goal.date_of-d-requires-in-Stamp
-date_of-d-requires-in-Stamp c =
+date_of-d-requires-in-Stamp g c =
     let d = day_value _ _ c.requires.0 (times_no_duration c.args.kind (in_times c.args.kind c.in-Stamp.is)) in
-    let e = up (head_fits (goal.at.date_of-d-requires-in-Stamp c).Start) d.head_dn c.unsigned_abs-in-Stamp.ensures.value in
+    let e = up (head_fits (goal.at.date_of-d-requires-in-Stamp g c).Start) d.head_dn c.unsigned_abs-in-Stamp.ensures.value in
     (omega (arith, e), omega (arith, e))
 
 pub returns-in-Stamp : goal.returns-in-Stamp
 unfolding tick_text
-returns-in-Stamp c =
-    let s = (goal.at.returns-in-Stamp c).Start in
+returns-in-Stamp g c =
+    let s = (goal.at.returns-in-Stamp g c).Start in
     let k = in_times c.args.kind c.in-Stamp.is in
     let d = day_value _ _ c.requires.0 (times_no_duration c.args.kind k) in
     let e = up (head_fits s) d.head_dn c.unsigned_abs-in-Stamp.ensures.value in
@@ -61,4 +61,4 @@ returns-in-Stamp c =
 
 pub returns-in-Span : goal.returns-in-Span
 unfolding tick_text
-returns-in-Span c = rw c.in-Span.is c.span.ensures
+returns-in-Span g c = rw c.in-Span.is c.span.ensures

@@ -16,10 +16,10 @@ copied true rest = refl
 copied false rest = refl
 
 pub returns-in_default : goal.returns-in_default
-returns-in_default c = turned_on _ _ _ _ (rw c.in_default.is at c.feed.ensures)
+returns-in_default g c = turned_on _ _ _ _ (rw c.in_default.is at c.feed.ensures)
 
 pub returns : goal.returns
-returns c =
+returns g c =
     let line = c.as_slice.ensures.value in
     rw (c.then_some.ensures, copied)
     (turned_end _ _ _ _ _ _ (rw c.in-Some.is at c.feed.ensures) (rw line at c.finished-goes.ensures.value) c.clear.ensures

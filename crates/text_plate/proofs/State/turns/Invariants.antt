@@ -5,7 +5,7 @@ use Rattle.text_plate.specs.Turns.{Turned}
 use Rattle.text_plate.proofs.State.turns.Given as goal
 
 abbrev pub invariant-loop-printer : goal.invariant-loop-printer
-invariant-loop-printer l = Turned l.fn.self l.chunk (Some l.rest) l.self l.fn.printer.out l.printer.out
+invariant-loop-printer g l = Turned l.fn.self l.chunk (Some l.rest) l.self l.fn.printer.out l.printer.out
 
 abbrev pub decreases-loop-printer : goal.decreases-loop-printer
-decreases-loop-printer l = length l.rest
+decreases-loop-printer g l = length l.rest
