@@ -1,6 +1,6 @@
 -- An excluded end answers as the axis that ends a day earlier, or to the end as written. Assumes nothing.
 use mathlib.Core.Path.{◌≡◌, refl, sym, ap, subst, ◌∙◌}
-use mathlib.Core.Bool.{Bool, true, false, cond, ◌&&◌}
+use mathlib.Core.Bool.{Bool, true, false, not, cond, ◌&&◌}
 use mathlib.Core.List.{List, [], ◌∷◌, ◌++◌}
 use Prim.Native.Nat.{ℕ, ◌+◌, ◌*◌}
 use native.Mathlib.Omega.{arith}
@@ -9,23 +9,24 @@ use lib.Ieee as ieee
 use lib.Signed.{lt_z}
 use lib.ListN.{take}
 use Rattle.std.specs.Prelude.{Option, Some, None, Result, Ok, Err}
-use Rattle.laws.specs.Numbers.{within, pos_part, neg_part}
+use Rattle.laws.specs.Numbers.{within, is_number, pos_part, neg_part}
 use Rattle.laws.proofs.Signed.{sub, lt_false}
 use Rattle.laws.proofs.Tests.{is_true}
 use Rattle.asking.specs.declared.Refusal.{Refusal}
 use Rattle.asking.specs.declared.Refusal.TheVariants as refusal
-use Rattle.asking.specs.Asking.{Question, ask, asked, passes}
-use Rattle.asking.proofs.Asked.{told, passes_append, passed}
+use Rattle.asking.specs.Asking.{Question, ask, asked, and_then, passes}
+use Rattle.asking.proofs.Asked.{told, asked_append, passes_append, passed}
 use Rattle.calendar.specs.Questions.{is_day}
+use Rattle.values.specs.declared.Kind.{Kind}
 use Rattle.values.specs.declared.Kind.TheVariants as kind
 use Rattle.values.specs.declared.Value.{Value}
-use Rattle.values.specs.Values.{is_value, earlier}
+use Rattle.values.specs.Values.{kind_of, is_value, earlier}
 use Rattle.values.specs.Differences.{nanoseconds, difference, nanoseconds_of}
 use Rattle.floats.specs.Rounding as rounding
 use Rattle.axis.specs.declared.Axis.{Axis}
 use Rattle.axis.specs.declared.Hint.{Hint}
 use Rattle.axis.specs.declared.Limits.{Limits}
-use Rattle.axis.specs.Axes.{day_earlier, span_of, offset_of, closed, last}
+use Rattle.axis.specs.Axes.{axis_of, day_earlier, span_of, offset_of, closed, last}
 use Rattle.axis.specs.Questions as asks
 use Rattle.axis.specs.Questions.{has_index, has_unmap, has_period, value_on, is_index, unmap_pixels, hint_on}
 use Rattle.axis.specs.Questions.{checked, checked_if, plain_questions, axis_questions}
@@ -59,15 +60,16 @@ use Rattle.discrete.specs.Answers.{index_in, next_in, previous_in, value_in, val
 use Rattle.discrete.specs.Answers as discrete
 use Rattle.segmented.specs.declared.Segment.{Segment}
 use Rattle.segmented.specs.Segments as segmentRows
+use Rattle.segmented.specs.declared.SegmentValue.{SegmentValue}
 use Rattle.segmented.specs.declared.SegmentValue.TheVariants.{Exact, CenterOf, Last}
 use Rattle.segmented.specs.Segments.{head_tail, segment_on, segment_of, segments, margin_of, inner, worked}
 use Rattle.segmented.specs.Segments.{alone, between, beside, centred, segment_worked}
 use Rattle.segmented.specs.Answers.{segment_index_in, segment_at, segment_checked, segment_kind_questions}
 use Rattle.segmented.specs.Answers as segmented
 use Rattle.promises.specs.Examples.{limits_of, AllHold}
-use Rattle.promises.specs.ExcludedEnds.{AsOf, AsDayEarlier, InNumbers, ToWrittenEnd, SegmentsMix, NoneFromEnd, AsManyPixels}
-use Rattle.promises.specs.ExcludedEnds.{to_written, midway, before, excluded_table}
-use Rattle.promises.proofs.Numbers.{changed}
+use Rattle.promises.specs.ExcludedEnds.{AsOf, RuledAsOf, AsDayEarlier, ToWrittenEnd, SegmentsMix, NoneFromEnd, AsManyPixels}
+use Rattle.promises.specs.ExcludedEnds.{InNumbers, OfThree, OfEach, to_written, midway, mixed, before, excluded_table}
+use Rattle.promises.proofs.Numbers.{of_kind, changed}
 use Rattle.promises.proofs.Rows.{same_behind, more_on, more_pass}
 
 module _ (a : Axis) where
@@ -284,19 +286,49 @@ module _ (a : Axis) where
     ruled_written_law = ruled_written_law;
   }
 
--- THE THEOREM, of all operations that count or list
-pub as_day_earlier : AsDayEarlier
-as_day_earlier a e = subst (AsOf a) (sym (shortened a e)) (as_closed a)
-
--- and that axis in numbers, with the one to the end as written
+-- the axis that ends a day earlier, and the one to the end as written, in numbers
 pub in_numbers : InNumbers
 in_numbers k sh st eh et x = (changed k sh st eh et x day_earlier, changed k sh st eh et x to_written)
 
+-- what holds beside each axis holds of any six numbers too
+of_each : (P : Axis → Axis → Axis → Type 0) → ((a : Axis) → P a (day_earlier a) (to_written a)) → OfEach P
+of_each P f = record { axes = f; numbers = λ k sh st eh et x. go k sh st eh et x (kind_of k) }
+  where
+    go : (k sh st eh et x : ℤ) (r : Result Kind Refusal) → let made : (Axis → Axis) → Result Axis Refusal =
+        λ g. and_then r (λ n. Ok (g (of_kind k sh st eh et x n))) in
+        OfThree P (made (λ a. a)) (made day_earlier) (made to_written)
+    go k sh st eh et x (Ok n) = f (of_kind k sh st eh et x n)
+    go k sh st eh et x (Err q) = (refl, refl)
+
+earlier_as : (a : Axis) → a.end_excluded ≡ true → AsOf a (day_earlier a)
+earlier_as a e = subst (AsOf a) (sym (shortened a e)) (as_closed a)
+
+ruled_as_of : (k sh st eh et x : ℤ) → is_number x 0 ≡ false →
+    RuledAsOf (axis_of k sh st eh et x) (axis_of k sh st (eh -ℤ pos 1) et (pos 0))
+ruled_as_of k sh st eh et x e = go (kind_of k)
+  where
+    go : (r : Result Kind Refusal) →
+        RuledAsOf (and_then r (λ n. Ok (of_kind k sh st eh et x n)))
+        (and_then r (λ n. Ok (day_earlier (of_kind k sh st eh et x n))))
+    go (Ok n) = let a = of_kind k sh st eh et x n in
+        let is = earlier_as a (ap not e) in
+        record {
+          count = λ t i. is.ruled_count t i
+              ∙ asked_append (table_questions t) (plain_questions (has_rules a) a) (ruled_answer t (day_earlier a) i);
+          written = λ t d. is.ruled_written_law t d;
+        }
+    go (Err q) = record { count = λ t i. refl; written = λ t d. refl }
+
+-- THE THEOREM, of all operations that count or list
+pub as_day_earlier : AsDayEarlier
+as_day_earlier = record { each = of_each _ earlier_as; ruled = ruled_as_of }
+
 -- ---- mapping goes to the end as written
-pub to_written_end : ToWrittenEnd
+as_written : (l : Limits) (v : Value) (a : Axis) →
+    mapping.mapped a l v ≡ asked (axis_questions true a) (mapping.mapped (to_written a) l v)
 unfolding is_value earlier span_of offset_of asks.ends asks.in_order asks.excludable asks.near_or_long asks.value_on
     asks.mappable mapping.placed mapping.hairline mapping.mapped exact_at lost_at
-to_written_end a l v =
+as_written l v a =
     let w = to_written a in
     let p = mapping.placed a l v in
     let h = Ok (mapping.hairline a l v) in
@@ -308,6 +340,9 @@ to_written_end a l v =
     ∷ []))) in
     more_on (axis_questions true a) (axis_questions true w) rest rest h h (λ z.
     let row = axis_questions true a in rw (told 3 row z, told 4 row z, told 5 row z)) refl
+
+pub to_written_end : ToWrittenEnd
+to_written_end l v = of_each _ (as_written l v)
 
 -- ---- segments go by both
 by_next : (a w b : Axis) (l : Limits) (left : Hairline) (n : Option Value) →
@@ -323,19 +358,23 @@ same_pixel : (a : Axis) (m : Limits) (u : Value) → hairline a m u ≡ hairline
 unfolding span_of offset_of mapping.placed mapping.hairline exact_at lost_at
 same_pixel a m u = refl
 
-pub segments_mix : SegmentsMix
+mixes : (l : Limits) (v : SegmentValue) (a : Axis) → a.end_excluded ≡ true →
+    segment_worked a l v ≡ mixed (day_earlier a) (to_written a) l v
 unfolding segment_worked
-segments_mix a l (Exact v) y =
+mixes l (Exact v) a y =
     let e = sym (shortened a y) in
     ap alone (ap (λ (z : Axis). hairline a (inner (size_of z) l) v) e ∙ same_pixel a _ v)
-segments_mix a l (CenterOf v) y =
+mixes l (CenterOf v) a y =
     let w = to_written a in
     let b = day_earlier a in
     let e = sym (shortened a y) in
     let left = ap (λ (z : Axis). hairline a (inner (size_of z) l) v) e ∙ same_pixel a (inner (size_of b) l) v in
     (λ i. centred a l (left i) (next_in (e i) v))
     ∙ by_next a w b l (hairline w (inner (size_of b) l) v) (next_in b v) (same_pixel a) e
-segments_mix a l Last y = refl
+mixes l Last a y = refl
+
+pub segments_mix : SegmentsMix
+segments_mix l v = of_each _ (mixes l v)
 
 -- ---- demand 3, of an excluded end
 pub none_from_end : NoneFromEnd

@@ -20,7 +20,7 @@ module _ (k sh st eh et x : ℤ) where
   abbrev last : Value
   last = record { head = eh; tail = et }
 
-  abbrev of_kind : Kind → Axis
+  abbrev pub of_kind : Kind → Axis
   of_kind n = record { kind = n; start = first; end = last; end_excluded = not (is_number x 0) }
 
   by_kind : {a : Axis} (P : Axis → Type 0) → ((n : Kind) → P (of_kind n)) → axis_of k sh st eh et x ≡ Ok a → P a

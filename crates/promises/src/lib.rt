@@ -7,7 +7,7 @@
 // specs/HowFarOff.antt, how it is drawn in specs/Hairlines.antt, house rules in specs/HouseRules.antt; theorems in proofs/.
 #![tactic(auto)]
 
-ghost use Rattle.std.specs.Prelude.{◌≡◌, Err};
+ghost use Rattle.std.specs.Prelude.{◌≡◌, [], Err};
 ghost use Rattle.std.specs.Result.{ForOk, ForErr};
 ghost use Rattle.asking.specs.Asking.{asked};
 ghost use Rattle.axis.specs.Axes.{axis_of};
@@ -19,7 +19,7 @@ ghost use Rattle.promises.specs.HowFarOff.{OffOf, AtEnds};
 ghost use Rattle.promises.specs.Hairlines.{DrawnOf, EndsDrawn};
 ghost use Rattle.promises.specs.HouseRules.{TableClaim, RuledList};
 
-use axis::{Axis, Hint};
+use axis::Hint;
 use ordered::{OrderedNumber, OrderedPeriod, OrderedPixel};
 
 // What the mappings of two values answered.
@@ -151,11 +151,35 @@ pub fn segment_ticks_light(
     )
 }
 
-// The part of the lent numbers that is handed back, with a bold or a light hint.
-pub fn key_points(a: Axis, h: Hint, lent: &mut [i64]) -> &mut [i64]
-    ensures { FinePart a h result.now }
+// The part of the lent numbers that is handed back, with a bold or a light hint; empty where question 1 refuses the numbers.
+pub fn key_points(
+    kind: i64,
+    start_head: i64,
+    start_tail: i64,
+    end_head: i64,
+    end_tail: i64,
+    end_excluded: i64,
+    h: Hint,
+    lent: &mut [i64],
+) -> &mut [i64]
+    ensures handed { ForOk (axis_of kind start_head start_tail end_head end_tail end_excluded)
+        (λ a. FinePart a h result.now) }
+    ensures refused { ForErr (axis_of kind start_head start_tail end_head end_tail end_excluded)
+        (λ q. result.now ≡ []) }
+    ensures place { result.ref_ptr ≡ lent.entry.ref_ptr }
 {
-    ticks::key_points(a, h, lent)
+    let axis = axis::axis_of(
+        kind,
+        start_head,
+        start_tail,
+        end_head,
+        end_tail,
+        end_excluded,
+    );
+    match axis {
+        Ok(a) => ticks::key_points(a, h, lent),
+        Err(_) => &mut lent[..0],
+    }
 }
 
 // The pixels of two days.
