@@ -60,7 +60,6 @@ use Rattle.discrete.specs.Answers.{index_in, next_in, previous_in, value_in, val
 use Rattle.discrete.specs.Answers as discrete
 use Rattle.segmented.specs.declared.Segment.{Segment}
 use Rattle.segmented.specs.Segments as segmentRows
-use Rattle.segmented.specs.declared.SegmentValue.{SegmentValue}
 use Rattle.segmented.specs.declared.SegmentValue.TheVariants.{Exact, CenterOf, Last}
 use Rattle.segmented.specs.Segments.{head_tail, segment_on, segment_of, segments, margin_of, inner, worked}
 use Rattle.segmented.specs.Segments.{alone, between, beside, centred, segment_worked}
@@ -68,7 +67,7 @@ use Rattle.segmented.specs.Answers.{segment_index_in, segment_at, segment_checke
 use Rattle.segmented.specs.Answers as segmented
 use Rattle.promises.specs.Examples.{limits_of, AllHold}
 use Rattle.promises.specs.ExcludedEnds.{AsOf, RuledAsOf, AsDayEarlier, ToWrittenEnd, SegmentsMix, NoneFromEnd, AsManyPixels}
-use Rattle.promises.specs.ExcludedEnds.{InNumbers, OfThree, OfEach, to_written, midway, mixed, before, excluded_table}
+use Rattle.promises.specs.ExcludedEnds.{InNumbers, OfThree, OfEach, to_written, midway, before, excluded_table}
 use Rattle.promises.proofs.Numbers.{of_kind, changed}
 use Rattle.promises.proofs.Rows.{same_behind, more_on, more_pass}
 
@@ -324,11 +323,10 @@ pub as_day_earlier : AsDayEarlier
 as_day_earlier = record { each = of_each _ earlier_as; ruled = ruled_as_of }
 
 -- ---- mapping goes to the end as written
-as_written : (l : Limits) (v : Value) (a : Axis) →
-    mapping.mapped a l v ≡ asked (axis_questions true a) (mapping.mapped (to_written a) l v)
+pub to_written_end : ToWrittenEnd
 unfolding is_value earlier span_of offset_of asks.ends asks.in_order asks.excludable asks.near_or_long asks.value_on
     asks.mappable mapping.placed mapping.hairline mapping.mapped exact_at lost_at
-as_written l v a =
+to_written_end l v = of_each _ (λ a.
     let w = to_written a in
     let p = mapping.placed a l v in
     let h = Ok (mapping.hairline a l v) in
@@ -339,10 +337,7 @@ as_written l v a =
     ∷ (ask refusal.Range (asks.fits_i32 p)
     ∷ []))) in
     more_on (axis_questions true a) (axis_questions true w) rest rest h h (λ z.
-    let row = axis_questions true a in rw (told 3 row z, told 4 row z, told 5 row z)) refl
-
-pub to_written_end : ToWrittenEnd
-to_written_end l v = of_each _ (as_written l v)
+    let row = axis_questions true a in rw (told 3 row z, told 4 row z, told 5 row z)) refl)
 
 -- ---- segments go by both
 by_next : (a w b : Axis) (l : Limits) (left : Hairline) (n : Option Value) →
@@ -358,23 +353,19 @@ same_pixel : (a : Axis) (m : Limits) (u : Value) → hairline a m u ≡ hairline
 unfolding span_of offset_of mapping.placed mapping.hairline exact_at lost_at
 same_pixel a m u = refl
 
-mixes : (l : Limits) (v : SegmentValue) (a : Axis) → a.end_excluded ≡ true →
-    segment_worked a l v ≡ mixed (day_earlier a) (to_written a) l v
+pub segments_mix : SegmentsMix
 unfolding segment_worked
-mixes l (Exact v) a y =
+segments_mix l (Exact v) = of_each _ (λ a y.
     let e = sym (shortened a y) in
-    ap alone (ap (λ (z : Axis). hairline a (inner (size_of z) l) v) e ∙ same_pixel a _ v)
-mixes l (CenterOf v) a y =
+    ap alone (ap (λ (z : Axis). hairline a (inner (size_of z) l) v) e ∙ same_pixel a _ v))
+segments_mix l (CenterOf v) = of_each _ (λ a y.
     let w = to_written a in
     let b = day_earlier a in
     let e = sym (shortened a y) in
     let left = ap (λ (z : Axis). hairline a (inner (size_of z) l) v) e ∙ same_pixel a (inner (size_of b) l) v in
     (λ i. centred a l (left i) (next_in (e i) v))
-    ∙ by_next a w b l (hairline w (inner (size_of b) l) v) (next_in b v) (same_pixel a) e
-mixes l Last a y = refl
-
-pub segments_mix : SegmentsMix
-segments_mix l v = of_each _ (mixes l v)
+    ∙ by_next a w b l (hairline w (inner (size_of b) l) v) (next_in b v) (same_pixel a) e)
+segments_mix l Last = of_each _ (λ a y. refl)
 
 -- ---- demand 3, of an excluded end
 pub none_from_end : NoneFromEnd
