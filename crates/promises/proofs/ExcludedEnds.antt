@@ -359,12 +359,11 @@ segments_mix l (Exact v) = of_each _ (λ a y.
     let e = sym (shortened a y) in
     ap alone (ap (λ (z : Axis). hairline a (inner (size_of z) l) v) e ∙ same_pixel a _ v))
 segments_mix l (CenterOf v) = of_each _ (λ a y.
-    let w = to_written a in
     let b = day_earlier a in
     let e = sym (shortened a y) in
     let left = ap (λ (z : Axis). hairline a (inner (size_of z) l) v) e ∙ same_pixel a (inner (size_of b) l) v in
     (λ i. centred a l (left i) (next_in (e i) v))
-    ∙ by_next a w b l (hairline w (inner (size_of b) l) v) (next_in b v) (same_pixel a) e)
+    ∙ by_next a (to_written a) b l (hairline (to_written a) (inner (size_of b) l) v) (next_in b v) (same_pixel a) e)
 segments_mix l Last = of_each _ (λ a y. refl)
 
 -- ---- demand 3, of an excluded end
