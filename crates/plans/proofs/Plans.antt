@@ -1,15 +1,16 @@
 -- A property of the plan of an axis, by the plan that its kind has. Assumes nothing.
-use mathlib.Core.Path.{◌≡◌, refl}
-use mathlib.Core.Bool.{true, false}
+use mathlib.Core.Path.{◌≡◌, refl, sym, ap, ◌∙◌}
+use mathlib.Core.Logic.{◌⊎◌, inl, inr}
+use mathlib.Core.Bool.{true, false, ◌||◌, true≢false}
 use Prim.Native.Nat.{ℕ, ◌≤◌}
 use native.Mathlib.Omega.{arith}
 use Rattle.values.specs.declared.Kind.{Kind}
 use Rattle.values.specs.declared.Kind.TheVariants as kind
-use Rattle.values.specs.Values.{over_dates, is_duration}
+use Rattle.values.specs.Values.{over_dates, is_stamp, is_duration}
 use Rattle.axis.specs.declared.Axis.{Axis}
 use Rattle.axis.specs.Questions.{has_period}
 use Rattle.calendar.specs.Questions.{last_day}
-use Rattle.counting.specs.Counting.{Dated, from_day}
+use Rattle.counting.specs.Counting.{counts_months, counts_years, counts_weeks, monthly, yearly, weekly, Dated, from_day}
 use Rattle.counting.proofs.Counting.{date_from, starts}
 use Rattle.steps.specs.declared.Steps.{Steps}
 use Rattle.plans.specs.Days.{day_plan}
@@ -34,6 +35,34 @@ by_plan P a n days months years weeks period = go a.kind refl
     go kind.StampYear e = years (rw e)
     go kind.Span e = period (rw e) (rw e)
     go kind.Week e = weeks (rw e)
+
+-- ---- no kind but 4 and 7 is left
+module _ (a : Axis) where
+  pub four_or_seven : (a.kind ≡ kind.Date → ⊥) → monthly a ≡ false → yearly a ≡ false → weekly a ≡ false →
+      (a.kind ≡ kind.Stamp) ⊎ (a.kind ≡ kind.Span)
+  unfolding monthly yearly weekly
+  four_or_seven o m y w = go a.kind o m y w
+    where
+      go : (k : Kind) → (k ≡ kind.Date → ⊥) → counts_months k ≡ false → counts_years k ≡ false → counts_weeks k ≡ false →
+          (k ≡ kind.Stamp) ⊎ (k ≡ kind.Span)
+      go kind.Date o m y w = absurd (o refl)
+      go kind.Month o m y w = absurd (true≢false m)
+      go kind.Year o m y w = absurd (true≢false y)
+      go kind.Stamp o m y w = inl refl
+      go kind.StampMonth o m y w = absurd (true≢false m)
+      go kind.StampYear o m y w = absurd (true≢false y)
+      go kind.Span o m y w = inr refl
+      go kind.Week o m y w = absurd (true≢false w)
+
+  -- and both have a period
+  pub none_left : (a.kind ≡ kind.Date → ⊥) → monthly a ≡ false → yearly a ≡ false → weekly a ≡ false →
+      has_period a ≡ false → ⊥
+  unfolding has_period
+  none_left o m y w e = both a.kind (four_or_seven o m y w) e
+    where
+      both : (k : Kind) → (k ≡ kind.Stamp) ⊎ (k ≡ kind.Span) → is_stamp k || is_duration k ≡ false → ⊥
+      both k (inl z) e = true≢false (sym (ap (λ (x : Kind). is_stamp x || is_duration x) z) ∙ e)
+      both k (inr z) e = true≢false (sym (ap (λ (x : Kind). is_stamp x || is_duration x) z) ∙ e)
 
 -- the first day of an axis over dates is one of the calendar's
 pub day_known : (a : Axis) → Dated a → over_dates a.kind ≡ true → from_day a ≤ last_day

@@ -18,6 +18,18 @@ use Rattle.calendar.specs.Questions.{is_day}
 use Rattle.values.proofs.Numbers.{within_true, not_below, bounded, either_true, or_false}
 
 -- ---- a kind has one row of the definition
+-- what it is to be over dates
+pub dates_range : (k : Kind) → over_dates k ≡ true →
+    (k ≡ kind.Date) ⊎ ((k ≡ kind.Month) ⊎ ((k ≡ kind.Year) ⊎ (k ≡ kind.Week)))
+dates_range kind.Date e = inl refl
+dates_range kind.Month e = inr (inl refl)
+dates_range kind.Year e = inr (inr (inl refl))
+dates_range kind.Stamp e = absurd (true≢false (sym e))
+dates_range kind.StampMonth e = absurd (true≢false (sym e))
+dates_range kind.StampYear e = absurd (true≢false (sym e))
+dates_range kind.Span e = absurd (true≢false (sym e))
+dates_range kind.Week e = inr (inr (inr refl))
+
 pub dates_no_times : (k : Kind) → over_dates k ≡ true → over_date_times k ≡ false
 dates_no_times kind.Date e = refl
 dates_no_times kind.Month e = refl
