@@ -52,7 +52,7 @@ OfThree P (Ok a) (Ok b) (Ok w) = P a b w
 OfThree P (Err p) (Err q) (Err r) = (p ≡ q) × (p ≡ r)
 OfThree P x y z = ⊥
 
--- P of an axis, of the one that ends a day earlier and of the one to the end as written: of each axis, and of what any six numbers
+-- P of an axis, of the one that ends a day earlier and of the one to the end as written: of each axis, and of what six numbers
 -- make, these with a day less at the end, and these with the end as it is, both with 0 as the last number
 pub record OfEach (P : Axis → Axis → Axis → Type 0) : Type 0 where
   pub axes : (a : Axis) → P a (day_earlier a) (to_written a)

@@ -18,7 +18,8 @@ none : {g : _} (c : In-Ok g) → passes (tick_questions c.args.q.axis (Bold c.ar
 none {g} c = all_pass (tick_questions c.args.q.axis (Bold c.args.q.hint)) _ (sym c.ask_ticks.ensures ∙ c.in-Ok.is)
 
 -- the part that is handed back, of 8,194 lent numbers
-handed : {g : _} (c : After-key_points-list g) → c.key_points-list.result.now ≡ ticks_handed c.args.q.axis (Bold c.args.q.hint) 8194
+handed : {g : _} (c : After-key_points-list g) →
+    c.key_points-list.result.now ≡ ticks_handed c.args.q.axis (Bold c.args.q.hint) 8194
 handed {g} c =
     let size : length c.args.self.now.lent ≡ 8194 = search rules in
     c.key_points-list.ensures.value ∙ ap (λ (n : ℕ). ticks_handed c.args.q.axis (Bold c.args.q.hint) n) size
