@@ -1,14 +1,15 @@
 -- A loop on a ladder, turn by turn around its list: what it knows at step i, and where it goes from there. Assumes nothing.
 use mathlib.Core.Path.{◌≡◌, refl, ◌∙◌}
-use mathlib.Core.Bool.{false}
+use mathlib.Core.Bool.{Bool, true, false}
 use Prim.Native.Nat.{ℕ, zero, suc, ◌+◌, ◌*◌, ◌/◌, ◌%◌, ◌^◌, ◌≤◌, ◌<◌}
 use native.Mathlib.Nat.{div-add-mod', mul_assoc, mul-pos, mul-one, pow-zero, pow-suc, one-le-pow}
 use native.Mathlib.Nat.{pow-le-pow_right, mul-le-mul_left, mul-le-mul_right, zero-mod, zero-div}
+use native.Mathlib.Nat.{le-div_iff_mul-le, div-lt_iff_lt-mul}
 use native.Mathlib.Omega.{arith}
-use lib.Dec.{leb}
+use lib.Dec.{leb, ltb}
 use lib.Ieee.Nearest.{div_mono}
 use lib.ListN.{length, get_or}
-use borrow.Author.Tests.{le-leb, lt-leb}
+use borrow.Author.Tests.{le-leb, lt-leb, leb-true, leb-false, lt-ltb, le-ltb}
 use Rattle.laws.proofs.Quotients.{quotient_is}
 use Rattle.period.specs.Ladders.{Ladder, unit_at, count_at, first_from, wide, rung_of, Climbable, first_wide}
 use Rattle.period.proofs.Search.{Come, come_first, come_before, come_here, come_next, come_more}
@@ -16,6 +17,16 @@ use Rattle.period.proofs.Search.{Come, come_first, come_before, come_here, come_
 pub place_is : (span n : ℕ) (l : Ladder) → first_from (wide span n l) 16 0 ≡ rung_of span n l
 unfolding rung_of
 place_is span n l = refl
+
+-- a span's whole units, without a division
+pub by_product : (span many unit : ℕ) → 0 < unit → ltb span ((many + 1) * unit) ≡ leb (span / unit) many
+by_product span many unit U = go (leb (span / unit) many) refl
+  where
+    go : (b : Bool) → leb (span / unit) many ≡ b → ltb span ((many + 1) * unit) ≡ b
+    go true t = let h : span / unit < many + 1 = omega (arith, leb-true (span / unit) many t) in
+        lt-ltb span ((many + 1) * unit) ((div-lt_iff_lt-mul U).0 h)
+    go false t = let h : many + 1 ≤ span / unit = omega (arith, leb-false (span / unit) many t) in
+        le-ltb span ((many + 1) * unit) ((le-div_iff_mul-le U).0 h)
 
 -- ---- `before` steps are whole turns around the list
 module _ (before size : ℕ) (L : 0 < size) (turns : before % size ≡ 0) where

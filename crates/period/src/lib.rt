@@ -2,7 +2,7 @@
 // All on whole numbers: the power of ten comes from a table, and each search goes step by step up a ladder.
 #![tactic(auto)]
 
-ghost use Rattle.std.specs.Prelude.{◌≡◌, ◌+◌, ◌≤◌, ◌<◌, ◌^◌, option_map, unwrap_or};
+ghost use Rattle.std.specs.Prelude.{◌≡◌, ◌+◌, ◌*◌, ◌/◌, ◌≤◌, ◌<◌, ◌^◌, leb, option_map, unwrap_or};
 ghost use Rattle.period.specs.Ladders.{ladder, rung_of, first_wide, Climbable, first_fit};
 ghost use Rattle.period.specs.Periods.{power_of, ladder_of, period_of, tested_of};
 
@@ -54,7 +54,8 @@ pub struct Period {
 // Bounds of single numbers stay clauses, here and below: a type for each is no plainer, every formula would open it again.
 // A span and n stay two numbers: each function asks other bounds of them, so that a struct would hold no fact.
 
-// The largest power of ten that goes into the span n times, or 1.
+// The largest power of ten that goes into the span n times, or 1. The powers are copied before they are tried, so that the compiler
+// knows which one it was in what follows.
 fn largest_power(span: u64, n: u64) -> u64
     requires { 0 < n }
     ensures { result ≡ power_of span n }
@@ -63,8 +64,8 @@ fn largest_power(span: u64, n: u64) -> u64
     POWERS
         .iter()
         .rev()
-        .find(|power| **power <= most)
         .copied()
+        .find(|power| *power <= most)
         .unwrap_or(1)
 }
 
@@ -114,7 +115,17 @@ fn ladder_of(p: u64) -> Rungs
     }
 }
 
-// The first step of a ladder that is wide enough. `whole` is how many whole units the span has.
+// Is a step of so many units wide enough: has the span at most n times its count of whole units? By a product for each count,
+// since one division by the unit takes longer than all of them.
+#[tactic(auto, using(crate::proofs::Climbing::by_product))]
+fn wide(span: u64, n: u64, unit: u64, count: u64) -> bool
+    requires { (n ≤ 4096) × (0 < unit) × (count ≤ 30) }
+    ensures { result ≡ leb (span / unit) (n * count) }
+{
+    u128::from(span) < u128::from(n * count + 1) * u128::from(unit)
+}
+
+// The first step of a ladder that is wide enough.
 fn climb(span: u64, n: u64, l: Rungs) -> Period
     requires { Climbable span n (ladder l.unit l.base l.counts.now) }
     ensures { (result.nanoseconds ≡ first_wide span n (ladder l.unit l.base l.counts.now))
@@ -123,8 +134,11 @@ fn climb(span: u64, n: u64, l: Rungs) -> Period
     let mut unit = l.unit;
     let mut tested: u64 = 0;
     loop {
-        let whole = span / unit;
-        if let Some(i) = l.counts.iter().position(|count| whole <= n * *count) {
+        if let Some(i) = l
+            .counts
+            .iter()
+            .position(|count| wide(span, n, unit, *count))
+        {
             return Period {
                 nanoseconds: l.counts[i] * unit,
                 tested: tested + i as u64 + 1,

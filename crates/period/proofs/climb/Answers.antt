@@ -16,13 +16,10 @@ use Rattle.period.proofs.Climbing.{Climbed, unit_above, climb_to, climb_next, ne
 use Rattle.period.proofs.climb.Goals as goal
 use Rattle.period.proofs.climb.Goals.{After-position, In-Some, In_default}
 
-pub nonzero_div-whole : goal.nonzero_div-whole
-nonzero_div-whole c = unit_above c.requires c.loop-i.invariant
-
 pub position-requires-clause-callable : goal.position-requires-clause-callable
 position-requires-clause-callable c =
     serves_from_places (YieldsList-from_slice c.args.l.counts.now cc) (λ x q k. search (rules, tests))
-    (λ x k h e. search (rules, get_or_read, c.requires.small k, c.requires.hint))
+    (λ x k h e. search (rules, get_or_read, c.requires.small k, c.requires.hint, unit_above c.requires c.loop-i.invariant))
 
 -- the first count that is wide enough, or none
 found : (c : After-position) → let l = c.args.l.counts.now in
