@@ -134,12 +134,12 @@ fn in_order(a: Axis) -> bool
     a.start <= a.end
 }
 
-// Question 14.
+// Question 14. By `|` each call takes 9 instructions more.
 #[tactic(auto, using(values::proofs::Order::same_is_equal), unfolding(crate::specs::Questions::excludable))]
 fn excludable(a: Axis) -> bool
     ensures { result ≡ excludable a }
 {
-    !a.end_excluded | (a.kind.over_dates() & (a.end != a.start))
+    !a.end_excluded || (a.kind.over_dates() & (a.end != a.start))
 }
 
 // The axis by which an axis counts and lists: the one that ends a day earlier, where the end is excluded.
