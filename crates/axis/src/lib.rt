@@ -142,13 +142,14 @@ fn excludable(a: Axis) -> bool
     !a.end_excluded || (a.kind.over_dates() & (a.end != a.start))
 }
 
-// The axis by which an axis counts and lists: the one that ends a day earlier, where the end is excluded.
+// The axis by which an axis counts and lists: the one that ends a day earlier, where the end is excluded. Fields are handed on one
+// by one: with `return a` the compiler copies what lies between them too.
 pub fn closed(a: Axis) -> Axis
     requires { ends a ≡ true }
     ensures { result ≡ closed a }
 {
     if !a.end_excluded {
-        return a;
+        return Axis { ..a };
     }
     Axis {
         end: Value {
