@@ -15,9 +15,10 @@ use Rattle.values.specs.declared.Value.{Value}
 use Rattle.values.specs.Values.{is_value, earlier, Both}
 use Rattle.values.proofs.Numbers.{within_true}
 use Rattle.values.proofs.Differences.{no_earlier_apart}
+use Rattle.values.proofs.Values.{value_is_kind}
 use Rattle.axis.specs.declared.Axis.{Axis}
 use Rattle.axis.specs.Axes.{axis_of, span_of}
-use Rattle.axis.specs.Questions.{ends, in_order, value_on, equals}
+use Rattle.axis.specs.Questions.{known, ends, in_order, value_on, equals}
 
 pub axis_read : {k sh st eh et x : ℤ} → SFits w64 k → SFits w64 sh → SFits w64 st → SFits w64 eh → SFits w64 et → SFits w64 x →
     axis_of (to_z w64 (of_z w64 k)) (to_z w64 (of_z w64 sh)) (to_z w64 (of_z w64 st)) (to_z w64 (of_z w64 eh))
@@ -33,6 +34,10 @@ module _ (a : Axis) (e : ends a ≡ true) where
   unfolding ends
   both_ends = let (x, y) = both_true (is_value a.kind a.start) (is_value a.kind a.end) e in
       record { first = x; second = y }
+
+  -- so the kind is one of the eight, which question 1 asks
+  pub ends_known : known a ≡ true
+  ends_known = value_is_kind a.kind a.start both_ends.first
 
   -- and question 8
   pub with_value : (v : Value) → value_on a v ≡ true → Both a.kind a.start v

@@ -150,7 +150,7 @@ module _ (a : Axis) (has : Bool) where
           let row = plain_questions has a in
           let e = told 3 row z in
           let b = before a e (told 4 row z) (told 14 row z) x in
-          rw (told 2 row z, ends_earlier a e b, in_order_earlier a e b)
+          rw (told 1 row z, told 2 row z, ends_earlier a e b, in_order_earlier a e b)
 
   pub axis_passed : passes (axis_questions has a) ≡ true → passes (axis_questions has (closed a)) ≡ true
   axis_passed z =

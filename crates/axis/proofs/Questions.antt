@@ -24,7 +24,7 @@ use Rattle.axis.specs.declared.BoldPoints.{BoldPoints}
 use Rattle.axis.specs.declared.LightPoints.{LightPoints}
 use Rattle.axis.specs.Axes.{span_of}
 use Rattle.axis.proofs.Axes.{span_from_0}
-use Rattle.axis.specs.Questions.{near_zero, near_or_long, ends, in_order, is_count, enough, bold_hint, light_hint}
+use Rattle.axis.specs.Questions.{known, near_zero, near_or_long, ends, in_order, is_count, enough, bold_hint, light_hint}
 use Rattle.axis.specs.Questions.{is_pixel, pixels, differ, unmap_pixels, is_index, fits_i32}
 
 -- ---- 4: by the heads, and by the tails where the heads are one
@@ -159,24 +159,24 @@ pub record Hint (a : Axis) (n : ℤ) : Type 0 where
   pub most : pos_part n ≤ 4096
   pub some : over_dates a.kind ≡ false → 1 ≤ pos_part n
 
-hint : (a : Axis) (n : ℤ) → is_count n ≡ true → enough a n ≡ true → Hint a n
-hint a n c e = let (z, m) = count_range n c in record { none_below = z; most = m; some = λ k. some k (rw k at e) }
+hint : (a : Axis) (n : ℤ) → known a ≡ true → is_count n ≡ true → enough a n ≡ true → Hint a n
+hint a n y c e = let (z, m) = count_range n c in record { none_below = z; most = m; some = λ k. some k (rw (y, k) at e) }
   where
     some : over_dates a.kind ≡ false → le_z (pos 1) n ≡ true → 1 ≤ pos_part n
     some k l = omega (arith, le_true (pos 1) n l)
 
-pub bold_range : (a : Axis) (h : BoldPoints) → bold_hint a h ≡ true → Hint a h.n
+pub bold_range : (a : Axis) (h : BoldPoints) → known a ≡ true → bold_hint a h ≡ true → Hint a h.n
 unfolding bold_hint
-bold_range a h e = let (c, k) = both_true (is_count h.n) (enough a h.n) e in hint a h.n c k
+bold_range a h y e = let (c, k) = both_true (is_count h.n) (enough a h.n) e in hint a h.n y c k
 
-pub light_range : (a : Axis) (h : LightPoints) → light_hint a h ≡ true → Hint a h.n × (neg_part h.bold ≡ 0)
-    × (pos_part h.bold ≤ 4096)
+pub light_range : (a : Axis) (h : LightPoints) → known a ≡ true → light_hint a h ≡ true →
+    Hint a h.n × (neg_part h.bold ≡ 0) × (pos_part h.bold ≤ 4096)
 unfolding light_hint
-light_range a h e =
+light_range a h y e =
     let (b, r) = both_true (is_count h.bold) (is_count h.n && enough a h.n) e in
     let (c, k) = both_true (is_count h.n) (enough a h.n) r in
     let (z, m) = count_range h.bold b in
-    (hint a h.n c k, z, m)
+    (hint a h.n y c k, z, m)
 
 -- 7: limits, a pixel, and different limits
 pub pixel_range : (p : ℤ) → is_pixel p ≡ true → (neg_part p ≤ 32767) × (pos_part p ≤ 32767)

@@ -16,7 +16,7 @@ use Rattle.values.specs.Values.{over_dates, is_duration, is_value, earlier}
 use Rattle.values.proofs.Numbers.{is_le}
 use Rattle.values.proofs.Values.{of_dates, of_date_times, of_durations, times_left}
 use Rattle.axis.specs.declared.Axis.{Axis}
-use Rattle.axis.specs.Questions.{ends, in_order, near_zero, near_or_long}
+use Rattle.axis.specs.Questions.{known, ends, in_order, near_zero, near_or_long}
 use Rattle.axis.proofs.Questions.{near_by_seconds, near_ends, of_seven}
 
 -- seconds near zero, and nanoseconds of a second, are a duration
@@ -35,13 +35,13 @@ module _ (a : Axis) where
       (is_day a.start.head && within (pos 0) a.start.tail most)
       && (is_day a.end.head && within (pos 0) a.end.tail most)
 
-  pub day_ends_law : is_duration a.kind ≡ false → within_days (over_dates a.kind) ≡ ends a
+  pub day_ends_law : known a ≡ true → is_duration a.kind ≡ false → within_days (over_dates a.kind) ≡ ends a
   unfolding ends
-  day_ends_law n = go (over_dates a.kind) refl
+  day_ends_law k n = go (over_dates a.kind) refl
     where
       go : (b : Bool) → over_dates a.kind ≡ b → within_days b ≡ is_value a.kind a.start && is_value a.kind a.end
       go true e = rw (of_dates a.kind a.start e, of_dates a.kind a.end e)
-      go false e = let t = times_left a.kind n e in rw (of_date_times a.kind a.start t, of_date_times a.kind a.end t)
+      go false e = let t = times_left a.kind k n e in rw (of_date_times a.kind a.start t, of_date_times a.kind a.end t)
 
   -- ---- durations: by one row of tests, where start's seconds are the least, and end's the greatest
   -- start's head is no more than end's

@@ -1,22 +1,20 @@
 -- An axis by its numbers, its ends as values, its span, a value's offset from its start, and the axis that ends a day earlier.
 -- Definitions only.
-use Rattle.std.specs.Prelude.{false, not, cond, ℤ, pos, ◌-ℤ◌, Result, Ok}
+use Rattle.std.specs.Prelude.{false, not, cond, ℤ, pos, ◌-ℤ◌}
 use Rattle.laws.specs.Numbers.{is_number}
-use Rattle.asking.specs.Asking.{and_then}
-use Rattle.asking.specs.declared.Refusal.{Refusal}
 use Rattle.values.specs.declared.Value.{Value}
-use Rattle.values.specs.Values.{kind_of}
+use Rattle.values.specs.Values.{numbered}
 use Rattle.values.specs.Differences.{difference}
 use Rattle.axis.specs.declared.Axis.{Axis}
 
--- the axis of six numbers, and question 1 of the first. The end belongs to the axis where the sixth is 0
-abbrev pub axis_of : ℤ → ℤ → ℤ → ℤ → ℤ → ℤ → Result Axis Refusal
-axis_of k sh st eh et x = and_then (kind_of k) (λ kind. Ok (record {
-  kind = kind;
+-- the axis of six numbers. The end belongs to it where the sixth is 0
+abbrev pub axis_of : ℤ → ℤ → ℤ → ℤ → ℤ → ℤ → Axis
+axis_of k sh st eh et x = record {
+  kind = numbered k;
   start = record { head = sh; tail = st };
   end = record { head = eh; tail = et };
   end_excluded = not (is_number x 0);
-}))
+}
 
 -- in exact nanoseconds
 unfoldable pub span_of : Axis → ℤ

@@ -9,7 +9,7 @@ use Rattle.laws.specs.Numbers.{minus, within, equal}
 use Rattle.calendar.specs.Questions.{last_day, is_day}
 use Rattle.values.specs.declared.Value.{Value}
 use Rattle.values.specs.declared.Kind.TheVariants.{Span}
-use Rattle.values.specs.Values.{over_dates, is_stamp, is_duration, is_value, earlier}
+use Rattle.values.specs.Values.{is_kind, over_dates, is_stamp, is_duration, is_value, earlier}
 use Rattle.values.specs.Differences.{nanoseconds}
 use Rattle.axis.specs.declared.Axis.{Axis}
 use Rattle.axis.specs.declared.Limits.{Limits}
@@ -19,7 +19,9 @@ use Rattle.axis.specs.declared.Hint.{Hint}
 use Rattle.axis.specs.declared.Hint.TheVariants.{Bold, Light}
 use Rattle.axis.specs.Axes.{span_of}
 
--- 1 is asked of the kind's number: `axis_of` in axis/specs/Axes.antt
+-- 1. Is the kind one of the eight?
+abbrev pub known : Axis → Bool
+known a = is_kind a.kind
 
 -- 2. Does the kind have this operation? All kinds map and list ticks. All but 7 unmap.
 unfoldable pub has_unmap : Axis → Bool
@@ -65,9 +67,9 @@ near_or_long a =
 abbrev pub is_count : ℤ → Bool
 is_count n = within (pos 0) n (pos 4096)
 
--- N, by the kind
+-- N, by the kind; of what is no kind nothing is asked
 abbrev pub enough : Axis → ℤ → Bool
-enough a n = over_dates a.kind || le_z (pos 1) n
+enough a n = not (known a) || (over_dates a.kind || le_z (pos 1) n)
 
 -- of a bold hint
 unfoldable pub bold_hint : Axis → BoldPoints → Bool
@@ -135,7 +137,8 @@ order_questions a = ask refusal.Order (in_order a) ∷ (ask refusal.ExcludedEnd 
 
 -- the row of operations that kind 7 does not have
 abbrev pub plain_questions : Bool → Axis → List Question
-plain_questions has a = ask refusal.Operation has ∷ (ask refusal.Ends (ends a) ∷ order_questions a)
+plain_questions has a =
+    ask refusal.Kind (known a) ∷ (ask refusal.Operation has ∷ (ask refusal.Ends (ends a) ∷ order_questions a))
 
 -- and of those that kind 7 has: question 5 comes last
 abbrev pub axis_questions : Bool → Axis → List Question

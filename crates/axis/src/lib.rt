@@ -8,7 +8,7 @@ ghost use Rattle.values.specs.declared.Kind.TheVariants.{Span};
 ghost use Rattle.values.specs.Values.{over_dates, is_duration, is_value};
 ghost use Rattle.values.specs.Differences.{nanoseconds_of, whole_days};
 ghost use Rattle.axis.specs.Axes.{axis_of, span_of, offset_of, closed};
-ghost use Rattle.axis.specs.Questions.{has_unmap, has_period, has_index, ends, in_order, excludable};
+ghost use Rattle.axis.specs.Questions.{known, has_unmap, has_period, has_index, ends, in_order, excludable};
 ghost use Rattle.axis.specs.Questions.{near_zero, near_or_long};
 ghost use Rattle.axis.specs.Questions.{bold_hint, light_hint, hint_on, is_count, enough, is_pixel, pixels, differ, unmap_pixels};
 ghost use Rattle.axis.specs.Questions.{value_on, is_index, mappable, fits_i32, order_questions};
@@ -18,9 +18,10 @@ use asking::{Refusal, ask};
 use calendar::LAST_DAY;
 use values::{Kind, Value};
 
-// A kind, and the values of its ends. It goes beside limits, a hint or a value, as plotters' methods take them, each operation
-// others of these; where two are kept, as in mapping's Scale, a struct has both. What is asked of an axis are functions and no
-// methods: crates above ask more of it, and no `impl Axis` can stand there.
+// A kind, which may be none, and the values of its ends, real or not: what any six numbers make. It goes beside limits, a hint or
+// a value, as plotters' methods take them, each operation others of these; where two are kept, as in mapping's Scale, a struct
+// has both. What is asked of an axis are functions and no methods: crates above ask more of it, and no `impl Axis` can stand
+// there.
 #[derive(Clone, Copy)]
 pub struct Axis {
     pub kind: Kind,
@@ -66,7 +67,8 @@ pub enum Hint {
     Light(LightPoints),
 }
 
-// The axis of six numbers, and question 1. The end belongs to it where end_excluded is 0.
+// The axis of six numbers, whatever they are: question 1 is asked of it as all others are. The end belongs to it where
+// end_excluded is 0.
 pub fn axis_of(
     kind: i64,
     start_head: i64,
@@ -74,11 +76,11 @@ pub fn axis_of(
     end_head: i64,
     end_tail: i64,
     end_excluded: i64,
-) -> Result<Axis, Refusal>
+) -> Axis
     ensures { result ≡ axis_of kind start_head start_tail end_head end_tail end_excluded }
 {
-    Ok(Axis {
-        kind: Kind::try_from(kind)?,
+    Axis {
+        kind: Kind::numbered(kind),
         start: Value {
             head: start_head,
             tail: start_tail,
@@ -88,7 +90,14 @@ pub fn axis_of(
             tail: end_tail,
         },
         end_excluded: end_excluded != 0,
-    })
+    }
+}
+
+// Question 1.
+pub fn known(a: Axis) -> bool
+    ensures { result ≡ known a }
+{
+    a.kind != Kind::Unknown
 }
 
 // Question 2 of unmapping.
@@ -142,8 +151,8 @@ fn excludable(a: Axis) -> bool
     !a.end_excluded || (a.kind.over_dates() & (a.end != a.start))
 }
 
-// The axis by which an axis counts and lists: the one that ends a day earlier, where the end is excluded. Fields are handed on one
-// by one: with `return a` the compiler copies what lies between them too.
+// The axis by which an axis counts and lists: the one that ends a day earlier, where the end is excluded. Fields are handed
+// on one by one: with `return a` the compiler copies what lies between them too.
 pub fn closed(a: Axis) -> Axis
     requires { ends a ≡ true }
     ensures { result ≡ closed a }
@@ -230,7 +239,7 @@ fn is_count(n: i64) -> bool
 fn enough(a: Axis, n: i64) -> bool
     ensures { result ≡ enough a n }
 {
-    a.kind.over_dates() | (1 <= n)
+    !known(a) | (a.kind.over_dates() | (1 <= n))
 }
 
 // Question 6 of a bold hint.
@@ -331,7 +340,7 @@ fn tail_most(kind: Kind) -> i64
 
 // Question 3 of days: the kinds but 7 differ in the nanoseconds alone. By `ends` ordered_map takes 17 instructions more, of 213.
 fn day_ends(a: Axis) -> bool
-    requires { is_duration a.kind ≡ false }
+    requires { (known a ≡ true) × (is_duration a.kind ≡ false) }
     ensures { result ≡ ends a }
 {
     let most = tail_most(a.kind);
@@ -353,6 +362,7 @@ pub fn ask_plain(a: Axis, has: bool) -> Result<(), Refusal>
     requires { has ≡ true → is_duration a.kind ≡ false }
     ensures { result ≡ asked (plain_questions has a) (Ok tt) }
 {
+    ask(Refusal::Kind, known(a))?;
     ask(Refusal::Operation, has)?;
     ask(Refusal::Ends, day_ends(a))?;
     ask_order(a)

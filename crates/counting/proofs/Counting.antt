@@ -46,6 +46,7 @@ months kind.StampMonth e = refl
 months kind.StampYear e = absurd (true≢false (sym e))
 months kind.Span e = absurd (true≢false (sym e))
 months kind.Week e = absurd (true≢false (sym e))
+months kind.Unknown e = absurd (true≢false (sym e))
 
 years : (k : Kind) → counts_years k ≡ true → is_duration k ≡ false
 years kind.Date e = absurd (true≢false (sym e))
@@ -56,6 +57,7 @@ years kind.StampMonth e = absurd (true≢false (sym e))
 years kind.StampYear e = refl
 years kind.Span e = absurd (true≢false (sym e))
 years kind.Week e = absurd (true≢false (sym e))
+years kind.Unknown e = absurd (true≢false (sym e))
 
 weeks : (k : Kind) → counts_weeks k ≡ true → over_dates k ≡ true
 weeks kind.Date e = absurd (true≢false (sym e))
@@ -66,6 +68,7 @@ weeks kind.StampMonth e = absurd (true≢false (sym e))
 weeks kind.StampYear e = absurd (true≢false (sym e))
 weeks kind.Span e = absurd (true≢false (sym e))
 weeks kind.Week e = refl
+weeks kind.Unknown e = absurd (true≢false (sym e))
 
 pub monthly_dated : (a : Axis) → monthly a ≡ true → is_duration a.kind ≡ false
 unfolding monthly
@@ -95,12 +98,13 @@ module _ (a : Axis) where
   unfolding monthly yearly weekly
   in_weeks e = (rw e, rw e, rw e)
 
-  pub in_days : (a.kind ≡ kind.Date) ⊎ ((a.kind ≡ kind.Stamp) ⊎ (a.kind ≡ kind.Span)) →
+  pub in_days : (a.kind ≡ kind.Date) ⊎ ((a.kind ≡ kind.Stamp) ⊎ ((a.kind ≡ kind.Span) ⊎ (a.kind ≡ kind.Unknown))) →
       (monthly a ≡ false) × (yearly a ≡ false) × (weekly a ≡ false)
   unfolding monthly yearly weekly
   in_days (inl e) = (rw e, rw e, rw e)
   in_days (inr (inl e)) = (rw e, rw e, rw e)
-  in_days (inr (inr e)) = (rw e, rw e, rw e)
+  in_days (inr (inr (inl e))) = (rw e, rw e, rw e)
+  in_days (inr (inr (inr e))) = (rw e, rw e, rw e)
 
 pub unmap_dated : (a : Axis) → has_unmap a ≡ true → is_duration a.kind ≡ false
 unfolding has_unmap

@@ -109,7 +109,7 @@ impl DateAxis {
                 from: weeks::mondays_to(self.start_day()),
                 at: weeks::mondays_to(day_on(v)),
             },
-            Kind::Date | Kind::Stamp | Kind::Span => Position {
+            Kind::Date | Kind::Stamp | Kind::Span | Kind::Unknown => Position {
                 from: self.start_day(),
                 at: day_on(v),
             },

@@ -31,16 +31,18 @@ year_kinds kind.StampMonth e = absurd (true≢false (sym e))
 year_kinds kind.StampYear e = inr refl
 year_kinds kind.Span e = absurd (true≢false (sym e))
 year_kinds kind.Week e = absurd (true≢false (sym e))
+year_kinds kind.Unknown e = absurd (true≢false (sym e))
 
-day_kinds : (k : Kind) → counts_days k ≡ true → (k ≡ kind.Date) ⊎ ((k ≡ kind.Stamp) ⊎ (k ≡ kind.Span))
+day_kinds : (k : Kind) → counts_days k ≡ true → (k ≡ kind.Date) ⊎ ((k ≡ kind.Stamp) ⊎ ((k ≡ kind.Span) ⊎ (k ≡ kind.Unknown)))
 day_kinds kind.Date e = inl refl
 day_kinds kind.Month e = absurd (true≢false (sym e))
 day_kinds kind.Year e = absurd (true≢false (sym e))
 day_kinds kind.Stamp e = inr (inl refl)
 day_kinds kind.StampMonth e = absurd (true≢false (sym e))
 day_kinds kind.StampYear e = absurd (true≢false (sym e))
-day_kinds kind.Span e = inr (inr refl)
+day_kinds kind.Span e = inr (inr (inl refl))
 day_kinds kind.Week e = absurd (true≢false (sym e))
+day_kinds kind.Unknown e = inr (inr (inr refl))
 
 module _ (a : Axis) where
   by_years : yearly a ≡ true → (monthly a ≡ false) × (yearly a ≡ true)
@@ -52,11 +54,13 @@ module _ (a : Axis) where
   by_days d = in_days a (day_kinds a.kind d)
 
   -- the arm of days
-  pub in_daily : (a.kind ≡ kind.Date) ⊎ ((a.kind ≡ kind.Stamp) ⊎ (a.kind ≡ kind.Span)) → daily a ≡ true
+  pub in_daily : (a.kind ≡ kind.Date) ⊎ ((a.kind ≡ kind.Stamp) ⊎ ((a.kind ≡ kind.Span) ⊎ (a.kind ≡ kind.Unknown))) →
+      daily a ≡ true
   unfolding daily
   in_daily (inl e) = rw e
   in_daily (inr (inl e)) = rw e
-  in_daily (inr (inr e)) = rw e
+  in_daily (inr (inr (inl e))) = rw e
+  in_daily (inr (inr (inr e))) = rw e
 
 module _ (a : Axis) (y : yearly a ≡ true) where
   pub years_origin : origin a ≡ (first_date a).year

@@ -14,11 +14,12 @@ use Rattle.axis.specs.declared.Axis.{Axis}
 use Rattle.axis.specs.declared.Limits.{Limits}
 use Rattle.counting.specs.Counting.{monthly, yearly, weekly, from_day, first_date, origin, position, size_of}
 
--- days are counted
+-- days are counted; what is no kind goes with them, and question 1 lets none of it pass
 abbrev pub counts_days : Kind → Bool
 counts_days kind.Date = true
 counts_days kind.Stamp = true
 counts_days kind.Span = true
+counts_days kind.Unknown = true
 counts_days k = false
 
 unfoldable pub daily : Axis → Bool

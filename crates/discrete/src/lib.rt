@@ -119,7 +119,7 @@ pub fn value_at(d: DateAxis, i: u64) -> Result<Value, Refusal>
         Kind::Month | Kind::StampMonth => month_at(d, i),
         Kind::Year | Kind::StampYear => year_at(d, i),
         Kind::Week => week_at(d, i),
-        Kind::Date | Kind::Stamp | Kind::Span => at_midnight(d.start_day() + i),
+        Kind::Date | Kind::Stamp | Kind::Span | Kind::Unknown => at_midnight(d.start_day() + i),
     }
 }
 
@@ -207,7 +207,7 @@ impl Placed {
             Kind::Month | Kind::StampMonth => self.next_month(),
             Kind::Year | Kind::StampYear => self.next_year(),
             Kind::Week => self.next_week(),
-            Kind::Date | Kind::Stamp | Kind::Span => self.next_day(),
+            Kind::Date | Kind::Stamp | Kind::Span | Kind::Unknown => self.next_day(),
         }
     }
 

@@ -1,6 +1,6 @@
 -- The Rust's lists of all kinds are the plans', and its period is the plan's. Assumes nothing.
-use mathlib.Core.Path.{◌≡◌, refl}
-use mathlib.Core.Bool.{Bool, true, false, cond, not}
+use mathlib.Core.Path.{◌≡◌, refl, sym, ap, ◌∙◌}
+use mathlib.Core.Bool.{Bool, true, false, cond, not, true≢false}
 use Prim.Native.Nat.{ℕ, ◌+◌, ◌≤◌}
 use native.Mathlib.Omega.{arith}
 use lib.IntN.{pos, ◌-ℤ◌}
@@ -9,13 +9,13 @@ use Rattle.laws.specs.Numbers.{pos_part, as_u64}
 use Rattle.laws.proofs.Signed.{same, as_u64_law}
 use Rattle.values.specs.declared.Kind.{Kind}
 use Rattle.values.specs.declared.Kind.TheVariants as kind
-use Rattle.values.specs.Values.{over_dates, is_duration}
+use Rattle.values.specs.Values.{is_kind, over_dates, is_duration}
 use Rattle.values.specs.Differences.{fits_i64, days_in}
 use Rattle.values.proofs.Fits.{fits_range}
 use Rattle.values.proofs.Values.{date_value}
 use Rattle.axis.specs.declared.Axis.{Axis}
 use Rattle.axis.specs.Axes.{span_of}
-use Rattle.axis.proofs.Axes.{both_ends, span_from_0}
+use Rattle.axis.proofs.Axes.{both_ends, ends_known, span_from_0}
 use Rattle.counting.specs.Counting.{Dated, from_day, to_day}
 use Rattle.counting.proofs.Counting.{date_from, to_is}
 use Rattle.period.specs.Periods.{period_of}
@@ -106,3 +106,4 @@ module _ (turns n : ℕ) (a : Axis) (q : Accepted a n) (t : n + 30 ≤ turns) wh
           let p : period_on turns a n false ≡ period_in a n = rw d at (period_on_law some) in
           rw p (by_duration some d (period_in a n) refl)
       go kind.Week e = weeks_same a n (dated (rw e))
+      go kind.Unknown e = absurd (true≢false (sym (ends_known a q.real) ∙ ap is_kind e))

@@ -11,7 +11,7 @@ use Rattle.std.specs.Prelude.{Option, Some, None, Result, Ok, Err}
 use Rattle.std.specs.Result.{result_unwrap_or}
 use Rattle.asking.specs.declared.Refusal.{Refusal}
 use Rattle.asking.specs.declared.Refusal.TheVariants as refusal
-use Rattle.asking.specs.Asking.{passes, and_then}
+use Rattle.asking.specs.Asking.{passes}
 use Rattle.asking.proofs.Asked.{answered_ok, passed}
 use Rattle.laws.specs.Numbers.{pos_part}
 use Rattle.axis.specs.declared.Axis.{Axis}
@@ -43,26 +43,17 @@ index_fits (Ok (Some n)) e small = small n (sym e)
 index_fits (Ok None) e small = omega arith
 index_fits (Err q) e small = omega arith
 
--- an answer has an axis, where question 1 is asked before it
-answered_on : {A B : Type 0} (x : Result A Refusal) (f : A → Result B Refusal) (b : B) → and_then x f ≡ Ok b →
-    (a : A) × (f a ≡ Ok b)
-answered_on (Ok a) f b e = (a, e)
-answered_on (Err q) f b e = absurd (let z : ⊥ = cc in z)
+-- so the reply is of the answer
+pub number_on : (a : Result ℕ Refusal) {r : Result ℕ Refusal} {reply : OrderedNumber} →
+    (result_unwrap_or r 0 < 2 ^ 63 → reply ≡ number_reply r) → ((n : ℕ) → a ≡ Ok n → n < 2 ^ 63) →
+    r ≡ a → reply ≡ number_reply a
+number_on a {r} said small e = said (number_fits r e small) ∙ ap number_reply e
 
--- so it fits where it does on every axis, and the reply is of what is answered on x
-module _ (x : Result Axis Refusal) where
-  pub number_on : (f : Axis → Result ℕ Refusal) {r : Result ℕ Refusal} {reply : OrderedNumber} →
-      (result_unwrap_or r 0 < 2 ^ 63 → reply ≡ number_reply r) → ((a : Axis) (n : ℕ) → f a ≡ Ok n → n < 2 ^ 63) →
-      r ≡ and_then x f → reply ≡ number_reply (and_then x f)
-  number_on f {r} said small e =
-      said (number_fits r e (λ n p. let (a, q) = answered_on x f n p in small a n q)) ∙ ap number_reply e
-
-  pub index_on : {R : Type 0} (as_reply : Result (Option ℕ) Refusal → R) (f : Axis → Result (Option ℕ) Refusal)
-      {r : Result (Option ℕ) Refusal} {reply : R} →
-      (number_in r < 2 ^ 63 → reply ≡ as_reply r) → ((a : Axis) (n : ℕ) → f a ≡ Ok (Some n) → n < 2 ^ 63) →
-      r ≡ and_then x f → reply ≡ as_reply (and_then x f)
-  index_on as_reply f {r} said small e =
-      said (index_fits r e (λ n p. let (a, q) = answered_on x f (Some n) p in small a n q)) ∙ ap as_reply e
+pub index_on : {R : Type 0} (as_reply : Result (Option ℕ) Refusal → R) (a : Result (Option ℕ) Refusal)
+    {r : Result (Option ℕ) Refusal} {reply : R} →
+    (number_in r < 2 ^ 63 → reply ≡ as_reply r) → ((n : ℕ) → a ≡ Ok (Some n) → n < 2 ^ 63) →
+    r ≡ a → reply ≡ as_reply a
+index_on as_reply a {r} said small e = said (index_fits r e small) ∙ ap as_reply e
 
 -- ---- a count of ticks: the lent numbers have room for two of each
 listed_most : (l : List Value) (k n : ℕ) → k < 2 ^ 64 → listed_of l k ≡ Ok n → n < 2 ^ 63
@@ -77,31 +68,30 @@ unfolding ticks_answer
 ticks_most a h k n most e =
     listed_most (ticks_of a h) k n most (answered_ok (tick_questions a h) (listed_of (ticks_of a h) k) n e).1
 
-pub ticks_on : (x : Result Axis Refusal) (h : Hint) (k : ℕ) {r : Result ℕ Refusal} {reply : OrderedNumber} →
-    (result_unwrap_or r 0 < 2 ^ 63 → reply ≡ number_reply r) → k < 2 ^ 64 → r ≡ and_then x (λ a. ticks_answer a h k) →
-    reply ≡ number_reply (and_then x (λ a. ticks_answer a h k))
-ticks_on x h k said most = number_on x (λ a. ticks_answer a h k) said (λ a n. ticks_most a h k n most)
+pub ticks_on : (a : Axis) (h : Hint) (k : ℕ) {r : Result ℕ Refusal} {reply : OrderedNumber} →
+    (result_unwrap_or r 0 < 2 ^ 63 → reply ≡ number_reply r) → k < 2 ^ 64 → r ≡ ticks_answer a h k →
+    reply ≡ number_reply (ticks_answer a h k)
+ticks_on a h k said most = number_on (ticks_answer a h k) said (λ n. ticks_most a h k n most)
 
 segment_ticks_most : (a : Axis) (h : Hint) (k n : ℕ) → k < 2 ^ 64 → segment_ticks_answer a h k ≡ Ok n → n < 2 ^ 63
 unfolding segment_ticks_answer
 segment_ticks_most a h k n most e =
     ticks_most a h k n most (answered_ok (segment_kind_questions a) (ticks_answer a h k) n e).1
 
-pub segment_ticks_on : (x : Result Axis Refusal) (h : Hint) (k : ℕ) {r : Result ℕ Refusal} {reply : OrderedNumber} →
-    (result_unwrap_or r 0 < 2 ^ 63 → reply ≡ number_reply r) → k < 2 ^ 64 →
-    r ≡ and_then x (λ a. segment_ticks_answer a h k) → reply ≡ number_reply (and_then x (λ a. segment_ticks_answer a h k))
-segment_ticks_on x h k said most =
-    number_on x (λ a. segment_ticks_answer a h k) said (λ a n. segment_ticks_most a h k n most)
+pub segment_ticks_on : (a : Axis) (h : Hint) (k : ℕ) {r : Result ℕ Refusal} {reply : OrderedNumber} →
+    (result_unwrap_or r 0 < 2 ^ 63 → reply ≡ number_reply r) → k < 2 ^ 64 → r ≡ segment_ticks_answer a h k →
+    reply ≡ number_reply (segment_ticks_answer a h k)
+segment_ticks_on a h k said most = number_on (segment_ticks_answer a h k) said (λ n. segment_ticks_most a h k n most)
 
 ruled_most : (t : List ℕ) (a : Axis) (k n : ℕ) → k < 2 ^ 64 → ruled_answer t a k ≡ Ok n → n < 2 ^ 63
 unfolding ruled_answer
 ruled_most t a k n most e =
     listed_most (ruled_on t a) k n most (answered_ok (ruled_questions t a) (listed_of (ruled_on t a) k) n e).1
 
-pub table_on : (x : Result Axis Refusal) (t : List ℕ) (k : ℕ) {r : Result ℕ Refusal} {reply : OrderedNumber} →
-    (result_unwrap_or r 0 < 2 ^ 63 → reply ≡ number_reply r) → k < 2 ^ 64 → r ≡ and_then x (λ a. ruled_answer t a k) →
-    reply ≡ number_reply (and_then x (λ a. ruled_answer t a k))
-table_on x t k said most = number_on x (λ a. ruled_answer t a k) said (λ a n. ruled_most t a k n most)
+pub table_on : (a : Axis) (t : List ℕ) (k : ℕ) {r : Result ℕ Refusal} {reply : OrderedNumber} →
+    (result_unwrap_or r 0 < 2 ^ 63 → reply ≡ number_reply r) → k < 2 ^ 64 → r ≡ ruled_answer t a k →
+    reply ≡ number_reply (ruled_answer t a k)
+table_on a t k said most = number_on (ruled_answer t a k) said (λ n. ruled_most t a k n most)
 
 -- ---- the rows of a table
 pub rows_most : (t : List ℕ) (n : ℕ) → rules_answer t ≡ Ok n → n < 2 ^ 63

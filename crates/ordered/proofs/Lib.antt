@@ -1,4 +1,3 @@
 -- Laws that the exports share.
 pub mod Axes
 pub mod Counts
-pub mod Ruled

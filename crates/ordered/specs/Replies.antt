@@ -1,19 +1,16 @@
 -- Answers as C's numbers: the status is 0, or -1 for none, or the refusal's number; all else is 0 unless answered.
 -- Definitions only.
-use Rattle.std.specs.Prelude.{Bool, cond, List, ℕ, ℤ, pos, Option, Some, None, Result, Ok, Err}
+use Rattle.std.specs.Prelude.{Bool, cond, ℕ, ℤ, pos, Option, Some, None, Result, Ok, Err}
 use Rattle.laws.specs.Numbers.{minus}
 use Rattle.asking.specs.declared.Refusal.{Refusal}
-use Rattle.asking.specs.Asking.{number, asked}
+use Rattle.asking.specs.Asking.{number}
 use Rattle.calendar.specs.declared.Date.{Date}
 use Rattle.weeks.specs.declared.WeekDate.{WeekDate}
 use Rattle.values.specs.declared.Value.{Value}
-use Rattle.axis.specs.declared.Axis.{Axis}
 use Rattle.mapping.specs.declared.Hairline.{Hairline}
 use Rattle.discrete.specs.declared.Cursor.{Cursor}
 use Rattle.segmented.specs.declared.SegmentValue.{SegmentValue}
 use Rattle.segmented.specs.declared.SegmentValue.TheVariants.{Exact, CenterOf, Last}
-use Rattle.rules.specs.Table.{table_questions}
-use Rattle.ruled.specs.Answers.{ruled_answer}
 use Rattle.ordered.specs.declared.OrderedSegment.{OrderedSegment}
 use Rattle.ordered.specs.declared.OrderedValue.{OrderedValue}
 use Rattle.ordered.specs.declared.OrderedStep.{OrderedStep}
@@ -22,21 +19,6 @@ use Rattle.ordered.specs.declared.OrderedPixel.{OrderedPixel}
 use Rattle.ordered.specs.declared.OrderedNumber.{OrderedNumber}
 use Rattle.ordered.specs.declared.OrderedDate.{OrderedDate}
 use Rattle.ordered.specs.declared.OrderedWeekDate.{OrderedWeekDate}
-
--- the lent numbers after a call: what is written on an axis; without one they are as they were
-abbrev pub after : Result Axis Refusal → (Axis → List ℤ) → List ℤ → List ℤ
-after (Ok a) f lent = f a
-after (Err q) f lent = lent
-
--- with house rules the table is asked before question 1
-abbrev pub table_first : List ℕ → Result Axis Refusal → Result Axis Refusal
-table_first table (Ok a) = Ok a
-table_first table (Err q) = asked (table_questions table) (Err q)
-
--- the count of ticks by house rules, where k numbers are lent
-abbrev pub ruled_call : List ℕ → Result Axis Refusal → ℕ → Result ℕ Refusal
-ruled_call table (Ok a) k = ruled_answer table a k
-ruled_call table (Err q) k = asked (table_questions table) (Err q)
 
 -- a day number, a count of ticks or rows, a size
 abbrev pub number_reply : Result ℕ Refusal → OrderedNumber

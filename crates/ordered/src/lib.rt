@@ -2,12 +2,10 @@
 // The crate ordered_c exports them to C.
 #![tactic(auto)]
 
-ghost use Rattle.std.specs.Prelude.{◌≡◌, ◌^◌, ◌<◌, length, List, ℤ, Err};
-ghost use Rattle.std.specs.Borrow.{MutBor};
-ghost use Rattle.std.specs.Result.{result_unwrap_or, ForOk, ForErr};
+ghost use Rattle.std.specs.Prelude.{◌≡◌, ◌^◌, ◌<◌, length};
+ghost use Rattle.std.specs.Result.{result_unwrap_or, ForOk};
 ghost use Rattle.calendar.specs.Questions.{number_of, date_at};
 ghost use Rattle.weeks.specs.Questions.{week_day_number, week_date_at};
-ghost use Rattle.asking.specs.Asking.{and_then};
 ghost use Rattle.axis.specs.Axes.{axis_of};
 ghost use Rattle.discrete.specs.Answers.{size_answer, index_answer, from_index_answer, next_answer, previous_answer};
 ghost use Rattle.discrete.specs.Answers.{values_answer, unmap_answer};
@@ -15,11 +13,10 @@ ghost use Rattle.mapping.specs.Mapping.{mapped};
 ghost use Rattle.segmented.specs.Answers.{segment_map_answer, segment_ticks_answer, segment_ticks_written};
 ghost use Rattle.segmented.specs.Answers.{segment_size_answer, segment_index_answer, segment_from_answer};
 ghost use Rattle.rules.specs.Table.{rules_answer};
-ghost use Rattle.ruled.specs.Answers.{ruled_written};
+ghost use Rattle.ruled.specs.Answers.{ruled_answer, ruled_written};
 ghost use Rattle.ticks.specs.Answers.{ticks_answer, ticks_written, period_answer};
 ghost use Rattle.ordered.specs.Replies.{number_reply, number_in, index_reply, period_reply, date_reply, week_reply};
 ghost use Rattle.ordered.specs.Replies.{pixel_reply, value_reply, value_if_reply, step_reply, segment_reply};
-ghost use Rattle.ordered.specs.Replies.{after, table_first, ruled_call};
 
 use asking::Refusal;
 use axis::{Axis, BoldPoints, Hint, LightPoints, Limits};
@@ -335,11 +332,11 @@ pub fn ordered_map(
     head: i64,
     tail: i64,
 ) -> OrderedPixel
-    ensures { result ≡ pixel_reply (and_then
+    ensures { result ≡ pixel_reply (mapped
         (axis_of kind start_head start_tail end_head end_tail end_excluded)
-        (λ a. mapped a (record { low = low; high = high }) (record { head = head; tail = tail }))) }
+        (record { low = low; high = high }) (record { head = head; tail = tail })) }
 {
-    let axis = axis::axis_of(
+    let a = axis::axis_of(
         kind,
         start_head,
         start_tail,
@@ -349,31 +346,14 @@ pub fn ordered_map(
     );
     let l = Limits { low, high };
     let v = Value { head, tail };
-    OrderedPixel::from(axis.and_then(|a| mapping::map(a, l, v)))
+    OrderedPixel::from(mapping::map(a, l, v))
 }
 
 // The count of ticks, with either hint.
-fn count_ticks(axis: Result<Axis, Refusal>, h: Hint, lent_len: u64) -> OrderedNumber
-    ensures { result ≡ number_reply (and_then axis (λ a. ticks_answer a h lent_len)) }
+fn count_ticks(a: Axis, h: Hint, lent_len: u64) -> OrderedNumber
+    ensures { result ≡ number_reply (ticks_answer a h lent_len) }
 {
-    OrderedNumber::from(axis.and_then(|a| ticks::count(a, h, lent_len)))
-}
-
-// The lent numbers are a parameter of the closure: if it captured them, nothing would be known of what it leaves in them.
-fn list_on<F: FnOnce(Axis, &mut [i64]) -> Result<u64, Refusal>>(
-    axis: Result<Axis, Refusal>,
-    lent: &mut [i64],
-    list: F,
-) -> Result<u64, Refusal>
-    requires { F.IsAlwaysCallable list }
-    ensures listed { ForOk axis
-        (λ a. (p q : MutBor (List ℤ)) × (p.now ≡ lent.old) × F.post list a p result q × (q.now ≡ lent.new)) }
-    ensures refused { ForErr axis (λ q. (result ≡ Err q) × (lent.new ≡ lent.old)) }
-{
-    match axis {
-        Ok(a) => list(a, lent),
-        Err(q) => Err(q),
-    }
+    OrderedNumber::from(ticks::count(a, h, lent_len))
 }
 
 pub fn ordered_ticks_bold(
@@ -386,14 +366,14 @@ pub fn ordered_ticks_bold(
     n: i64,
     lent: &mut [i64],
 ) -> OrderedNumber
-    ensures value { result ≡ number_reply (and_then
+    ensures value { result ≡ number_reply (ticks_answer
         (axis_of kind start_head start_tail end_head end_tail end_excluded)
-        (λ a. ticks_answer a (Hint.Bold (record { n = n })) (length lent.old))) }
-    ensures after_call { lent.new ≡ after
+        (Hint.Bold (record { n = n })) (length lent.old)) }
+    ensures after_call { lent.new ≡ ticks_written
         (axis_of kind start_head start_tail end_head end_tail end_excluded)
-        (λ a. ticks_written a (Hint.Bold (record { n = n })) lent.old) lent.old }
+        (Hint.Bold (record { n = n })) lent.old }
 {
-    let axis = axis::axis_of(
+    let a = axis::axis_of(
         kind,
         start_head,
         start_tail,
@@ -402,7 +382,7 @@ pub fn ordered_ticks_bold(
         end_excluded,
     );
     let h = Hint::Bold(BoldPoints { n });
-    OrderedNumber::from(list_on(axis, lent, |a, d| ticks::list(a, h, d)))
+    OrderedNumber::from(ticks::list(a, h, lent))
 }
 
 pub fn ordered_count_bold(
@@ -415,11 +395,11 @@ pub fn ordered_count_bold(
     n: i64,
     lent_len: usize,
 ) -> OrderedNumber
-    ensures { result ≡ number_reply (and_then
+    ensures { result ≡ number_reply (ticks_answer
         (axis_of kind start_head start_tail end_head end_tail end_excluded)
-        (λ a. ticks_answer a (Hint.Bold (record { n = n })) lent_len)) }
+        (Hint.Bold (record { n = n })) lent_len) }
 {
-    let axis = axis::axis_of(
+    let a = axis::axis_of(
         kind,
         start_head,
         start_tail,
@@ -428,7 +408,7 @@ pub fn ordered_count_bold(
         end_excluded,
     );
     let h = BoldPoints { n };
-    count_ticks(axis, Hint::Bold(h), lent_len as u64)
+    count_ticks(a, Hint::Bold(h), lent_len as u64)
 }
 
 pub fn ordered_ticks_light(
@@ -442,14 +422,14 @@ pub fn ordered_ticks_light(
     n: i64,
     lent: &mut [i64],
 ) -> OrderedNumber
-    ensures value { result ≡ number_reply (and_then
+    ensures value { result ≡ number_reply (ticks_answer
         (axis_of kind start_head start_tail end_head end_tail end_excluded)
-        (λ a. ticks_answer a (Hint.Light (record { bold = bold; n = n })) (length lent.old))) }
-    ensures after_call { lent.new ≡ after
+        (Hint.Light (record { bold = bold; n = n })) (length lent.old)) }
+    ensures after_call { lent.new ≡ ticks_written
         (axis_of kind start_head start_tail end_head end_tail end_excluded)
-        (λ a. ticks_written a (Hint.Light (record { bold = bold; n = n })) lent.old) lent.old }
+        (Hint.Light (record { bold = bold; n = n })) lent.old }
 {
-    let axis = axis::axis_of(
+    let a = axis::axis_of(
         kind,
         start_head,
         start_tail,
@@ -458,7 +438,7 @@ pub fn ordered_ticks_light(
         end_excluded,
     );
     let h = Hint::Light(LightPoints { bold, n });
-    OrderedNumber::from(list_on(axis, lent, |a, d| ticks::list(a, h, d)))
+    OrderedNumber::from(ticks::list(a, h, lent))
 }
 
 pub fn ordered_count_light(
@@ -472,11 +452,11 @@ pub fn ordered_count_light(
     n: i64,
     lent_len: usize,
 ) -> OrderedNumber
-    ensures { result ≡ number_reply (and_then
+    ensures { result ≡ number_reply (ticks_answer
         (axis_of kind start_head start_tail end_head end_tail end_excluded)
-        (λ a. ticks_answer a (Hint.Light (record { bold = bold; n = n })) lent_len)) }
+        (Hint.Light (record { bold = bold; n = n })) lent_len) }
 {
-    let axis = axis::axis_of(
+    let a = axis::axis_of(
         kind,
         start_head,
         start_tail,
@@ -485,7 +465,7 @@ pub fn ordered_count_light(
         end_excluded,
     );
     let h = LightPoints { bold, n };
-    count_ticks(axis, Hint::Light(h), lent_len as u64)
+    count_ticks(a, Hint::Light(h), lent_len as u64)
 }
 
 pub fn ordered_rules(table: &[u8]) -> OrderedNumber
@@ -494,31 +474,17 @@ pub fn ordered_rules(table: &[u8]) -> OrderedNumber
     OrderedNumber::from(rules::count(table))
 }
 
-// House rules: the table is asked before question 1.
-fn ask_table_first(axis: Result<Axis, Refusal>, table: &[u8]) -> Result<Axis, Refusal>
-    ensures { result ≡ table_first table.now axis }
+fn count_ruled(a: Axis, table: &[u8], lent_len: u64) -> OrderedNumber
+    ensures { result ≡ number_reply (ruled_answer table.now a lent_len) }
 {
-    match axis {
-        Ok(a) => Ok(a),
-        Err(q) => {
-            rules::checked(table)?;
-            Err(q)
-        }
-    }
+    OrderedNumber::from(ruled::count(a, table, lent_len))
 }
 
-fn count_ruled(axis: Result<Axis, Refusal>, table: &[u8], lent_len: u64) -> OrderedNumber
-    ensures { result ≡ number_reply (ruled_call table.now axis lent_len) }
+fn list_ruled(a: Axis, table: &[u8], lent: &mut [i64]) -> OrderedNumber
+    ensures value { result ≡ number_reply (ruled_answer table.now a (length lent.old)) }
+    ensures after_call { lent.new ≡ ruled_written table.now a lent.old }
 {
-    OrderedNumber::from(ask_table_first(axis, table).and_then(|a| ruled::count(a, table, lent_len)))
-}
-
-fn list_ruled(axis: Result<Axis, Refusal>, table: &[u8], lent: &mut [i64]) -> OrderedNumber
-    ensures value { result ≡ number_reply (ruled_call table.now axis (length lent.old)) }
-    ensures after_call { lent.new ≡ after axis (λ a. ruled_written table.now a lent.old) lent.old }
-{
-    let asked = ask_table_first(axis, table);
-    OrderedNumber::from(list_on(asked, lent, |a, d| ruled::list(a, table, d)))
+    OrderedNumber::from(ruled::list(a, table, lent))
 }
 
 pub fn ordered_ticks_ruled(
@@ -531,13 +497,12 @@ pub fn ordered_ticks_ruled(
     table: &[u8],
     lent: &mut [i64],
 ) -> OrderedNumber
-    ensures value { result ≡ number_reply (ruled_call table.now
+    ensures value { result ≡ number_reply (ruled_answer table.now
         (axis_of kind start_head start_tail end_head end_tail end_excluded) (length lent.old)) }
-    ensures after_call { lent.new ≡ after
-        (axis_of kind start_head start_tail end_head end_tail end_excluded)
-        (λ a. ruled_written table.now a lent.old) lent.old }
+    ensures after_call { lent.new ≡ ruled_written table.now
+        (axis_of kind start_head start_tail end_head end_tail end_excluded) lent.old }
 {
-    let axis = axis::axis_of(
+    let a = axis::axis_of(
         kind,
         start_head,
         start_tail,
@@ -545,7 +510,7 @@ pub fn ordered_ticks_ruled(
         end_tail,
         end_excluded,
     );
-    list_ruled(axis, table, lent)
+    list_ruled(a, table, lent)
 }
 
 pub fn ordered_count_ruled(
@@ -558,10 +523,10 @@ pub fn ordered_count_ruled(
     table: &[u8],
     lent_len: usize,
 ) -> OrderedNumber
-    ensures { result ≡ number_reply (ruled_call table.now
+    ensures { result ≡ number_reply (ruled_answer table.now
         (axis_of kind start_head start_tail end_head end_tail end_excluded) lent_len) }
 {
-    let axis = axis::axis_of(
+    let a = axis::axis_of(
         kind,
         start_head,
         start_tail,
@@ -569,7 +534,7 @@ pub fn ordered_count_ruled(
         end_tail,
         end_excluded,
     );
-    count_ruled(axis, table, lent_len as u64)
+    count_ruled(a, table, lent_len as u64)
 }
 
 pub fn ordered_period_per_point(
@@ -581,11 +546,11 @@ pub fn ordered_period_per_point(
     end_excluded: i64,
     n: i64,
 ) -> OrderedPeriod
-    ensures { result ≡ period_reply (and_then
+    ensures { result ≡ period_reply (period_answer
         (axis_of kind start_head start_tail end_head end_tail end_excluded)
-        (λ a. period_answer a (record { n = n }))) }
+        (record { n = n })) }
 {
-    let axis = axis::axis_of(
+    let a = axis::axis_of(
         kind,
         start_head,
         start_tail,
@@ -594,7 +559,7 @@ pub fn ordered_period_per_point(
         end_excluded,
     );
     let h = BoldPoints { n };
-    OrderedPeriod::from(axis.and_then(|a| ticks::period_per_point(a, h)))
+    OrderedPeriod::from(ticks::period_per_point(a, h))
 }
 
 pub fn ordered_unmap(
@@ -608,11 +573,11 @@ pub fn ordered_unmap(
     high: i64,
     pixel: i64,
 ) -> OrderedValue
-    ensures { result ≡ value_reply (and_then
+    ensures { result ≡ value_reply (unmap_answer
         (axis_of kind start_head start_tail end_head end_tail end_excluded)
-        (λ a. unmap_answer a (record { low = low; high = high }) pixel)) }
+        (record { low = low; high = high }) pixel) }
 {
-    let axis = axis::axis_of(
+    let a = axis::axis_of(
         kind,
         start_head,
         start_tail,
@@ -621,7 +586,7 @@ pub fn ordered_unmap(
         end_excluded,
     );
     let l = Limits { low, high };
-    OrderedValue::from(axis.and_then(|a| discrete::unmap(a, l, pixel)))
+    OrderedValue::from(discrete::unmap(a, l, pixel))
 }
 
 pub fn ordered_size(
@@ -632,11 +597,10 @@ pub fn ordered_size(
     end_tail: i64,
     end_excluded: i64,
 ) -> OrderedNumber
-    ensures { result ≡ number_reply (and_then
-        (axis_of kind start_head start_tail end_head end_tail end_excluded)
-        size_answer) }
+    ensures { result ≡ number_reply (size_answer
+        (axis_of kind start_head start_tail end_head end_tail end_excluded)) }
 {
-    let axis = axis::axis_of(
+    let a = axis::axis_of(
         kind,
         start_head,
         start_tail,
@@ -644,7 +608,7 @@ pub fn ordered_size(
         end_tail,
         end_excluded,
     );
-    OrderedNumber::from(axis.and_then(discrete::size))
+    OrderedNumber::from(discrete::size(a))
 }
 
 pub fn ordered_index_of(
@@ -657,11 +621,11 @@ pub fn ordered_index_of(
     head: i64,
     tail: i64,
 ) -> OrderedNumber
-    ensures { result ≡ index_reply (and_then
+    ensures { result ≡ index_reply (index_answer
         (axis_of kind start_head start_tail end_head end_tail end_excluded)
-        (λ a. index_answer a (record { head = head; tail = tail }))) }
+        (record { head = head; tail = tail })) }
 {
-    let axis = axis::axis_of(
+    let a = axis::axis_of(
         kind,
         start_head,
         start_tail,
@@ -670,7 +634,7 @@ pub fn ordered_index_of(
         end_excluded,
     );
     let v = Value { head, tail };
-    OrderedNumber::from(axis.and_then(|a| discrete::index_of(a, v)))
+    OrderedNumber::from(discrete::index_of(a, v))
 }
 
 pub fn ordered_from_index(
@@ -682,11 +646,11 @@ pub fn ordered_from_index(
     end_excluded: i64,
     index: i64,
 ) -> OrderedValue
-    ensures { result ≡ value_reply (and_then
+    ensures { result ≡ value_reply (from_index_answer
         (axis_of kind start_head start_tail end_head end_tail end_excluded)
-        (λ a. from_index_answer a index)) }
+        index) }
 {
-    let axis = axis::axis_of(
+    let a = axis::axis_of(
         kind,
         start_head,
         start_tail,
@@ -694,7 +658,7 @@ pub fn ordered_from_index(
         end_tail,
         end_excluded,
     );
-    OrderedValue::from(axis.and_then(|a| discrete::from_index(a, index)))
+    OrderedValue::from(discrete::from_index(a, index))
 }
 
 pub fn ordered_next(
@@ -707,11 +671,11 @@ pub fn ordered_next(
     head: i64,
     tail: i64,
 ) -> OrderedValue
-    ensures { result ≡ value_if_reply (and_then
+    ensures { result ≡ value_if_reply (next_answer
         (axis_of kind start_head start_tail end_head end_tail end_excluded)
-        (λ a. next_answer a (record { head = head; tail = tail }))) }
+        (record { head = head; tail = tail })) }
 {
-    let axis = axis::axis_of(
+    let a = axis::axis_of(
         kind,
         start_head,
         start_tail,
@@ -720,7 +684,7 @@ pub fn ordered_next(
         end_excluded,
     );
     let v = Value { head, tail };
-    OrderedValue::from(axis.and_then(|a| discrete::next(a, v)))
+    OrderedValue::from(discrete::next(a, v))
 }
 
 // C's interface: the twin of ordered_next and ordered_index_of, by discrete::previous.
@@ -734,11 +698,11 @@ pub fn ordered_previous(
     head: i64,
     tail: i64,
 ) -> OrderedValue
-    ensures { result ≡ value_if_reply (and_then
+    ensures { result ≡ value_if_reply (previous_answer
         (axis_of kind start_head start_tail end_head end_tail end_excluded)
-        (λ a. previous_answer a (record { head = head; tail = tail }))) }
+        (record { head = head; tail = tail })) }
 {
-    let axis = axis::axis_of(
+    let a = axis::axis_of(
         kind,
         start_head,
         start_tail,
@@ -747,7 +711,7 @@ pub fn ordered_previous(
         end_excluded,
     );
     let v = Value { head, tail };
-    OrderedValue::from(axis.and_then(|a| discrete::previous(a, v)))
+    OrderedValue::from(discrete::previous(a, v))
 }
 
 pub fn ordered_values(
@@ -759,11 +723,11 @@ pub fn ordered_values(
     end_excluded: i64,
     place: i64,
 ) -> OrderedStep
-    ensures { result ≡ step_reply (and_then
+    ensures { result ≡ step_reply (values_answer
         (axis_of kind start_head start_tail end_head end_tail end_excluded)
-        (λ a. values_answer a (record { place = place }))) }
+        (record { place = place })) }
 {
-    let axis = axis::axis_of(
+    let a = axis::axis_of(
         kind,
         start_head,
         start_tail,
@@ -772,7 +736,7 @@ pub fn ordered_values(
         end_excluded,
     );
     let c = Cursor { place };
-    OrderedStep::from(axis.and_then(|a| discrete::values(a, c)))
+    OrderedStep::from(discrete::values(a, c))
 }
 
 pub fn ordered_segment_map(
@@ -788,11 +752,11 @@ pub fn ordered_segment_map(
     head: i64,
     tail: i64,
 ) -> OrderedPixel
-    ensures { result ≡ pixel_reply (and_then
+    ensures { result ≡ pixel_reply (segment_map_answer
         (axis_of kind start_head start_tail end_head end_tail end_excluded)
-        (λ a. segment_map_answer a (record { low = low; high = high }) (record { case = segment; head = head; tail = tail }))) }
+        (record { low = low; high = high }) (record { case = segment; head = head; tail = tail })) }
 {
-    let axis = axis::axis_of(
+    let a = axis::axis_of(
         kind,
         start_head,
         start_tail,
@@ -806,7 +770,7 @@ pub fn ordered_segment_map(
         head,
         tail,
     };
-    OrderedPixel::from(axis.and_then(|a| segmented::map(a, l, s)))
+    OrderedPixel::from(segmented::map(a, l, s))
 }
 
 // C's interface: the twin of ordered_ticks_bold, by segmented::list.
@@ -820,14 +784,14 @@ pub fn ordered_segment_ticks_bold(
     n: i64,
     lent: &mut [i64],
 ) -> OrderedNumber
-    ensures value { result ≡ number_reply (and_then
+    ensures value { result ≡ number_reply (segment_ticks_answer
         (axis_of kind start_head start_tail end_head end_tail end_excluded)
-        (λ a. segment_ticks_answer a (Hint.Bold (record { n = n })) (length lent.old))) }
-    ensures after_call { lent.new ≡ after
+        (Hint.Bold (record { n = n })) (length lent.old)) }
+    ensures after_call { lent.new ≡ segment_ticks_written
         (axis_of kind start_head start_tail end_head end_tail end_excluded)
-        (λ a. segment_ticks_written a (Hint.Bold (record { n = n })) lent.old) lent.old }
+        (Hint.Bold (record { n = n })) lent.old }
 {
-    let axis = axis::axis_of(
+    let a = axis::axis_of(
         kind,
         start_head,
         start_tail,
@@ -836,7 +800,7 @@ pub fn ordered_segment_ticks_bold(
         end_excluded,
     );
     let h = Hint::Bold(BoldPoints { n });
-    OrderedNumber::from(list_on(axis, lent, |a, d| segmented::list(a, h, d)))
+    OrderedNumber::from(segmented::list(a, h, lent))
 }
 
 // C's interface: the twin of ordered_ticks_light, by segmented::list.
@@ -851,14 +815,14 @@ pub fn ordered_segment_ticks_light(
     n: i64,
     lent: &mut [i64],
 ) -> OrderedNumber
-    ensures value { result ≡ number_reply (and_then
+    ensures value { result ≡ number_reply (segment_ticks_answer
         (axis_of kind start_head start_tail end_head end_tail end_excluded)
-        (λ a. segment_ticks_answer a (Hint.Light (record { bold = bold; n = n })) (length lent.old))) }
-    ensures after_call { lent.new ≡ after
+        (Hint.Light (record { bold = bold; n = n })) (length lent.old)) }
+    ensures after_call { lent.new ≡ segment_ticks_written
         (axis_of kind start_head start_tail end_head end_tail end_excluded)
-        (λ a. segment_ticks_written a (Hint.Light (record { bold = bold; n = n })) lent.old) lent.old }
+        (Hint.Light (record { bold = bold; n = n })) lent.old }
 {
-    let axis = axis::axis_of(
+    let a = axis::axis_of(
         kind,
         start_head,
         start_tail,
@@ -867,7 +831,7 @@ pub fn ordered_segment_ticks_light(
         end_excluded,
     );
     let h = Hint::Light(LightPoints { bold, n });
-    OrderedNumber::from(list_on(axis, lent, |a, d| segmented::list(a, h, d)))
+    OrderedNumber::from(segmented::list(a, h, lent))
 }
 
 // C's interface: the twin of ordered_size, by segmented::size.
@@ -879,11 +843,10 @@ pub fn ordered_segment_size(
     end_tail: i64,
     end_excluded: i64,
 ) -> OrderedNumber
-    ensures { result ≡ number_reply (and_then
-        (axis_of kind start_head start_tail end_head end_tail end_excluded)
-        segment_size_answer) }
+    ensures { result ≡ number_reply (segment_size_answer
+        (axis_of kind start_head start_tail end_head end_tail end_excluded)) }
 {
-    let axis = axis::axis_of(
+    let a = axis::axis_of(
         kind,
         start_head,
         start_tail,
@@ -891,7 +854,7 @@ pub fn ordered_segment_size(
         end_tail,
         end_excluded,
     );
-    OrderedNumber::from(axis.and_then(segmented::size))
+    OrderedNumber::from(segmented::size(a))
 }
 
 pub fn ordered_segment_index_of(
@@ -905,11 +868,11 @@ pub fn ordered_segment_index_of(
     head: i64,
     tail: i64,
 ) -> OrderedNumber
-    ensures { result ≡ index_reply (and_then
+    ensures { result ≡ index_reply (segment_index_answer
         (axis_of kind start_head start_tail end_head end_tail end_excluded)
-        (λ a. segment_index_answer a (record { case = segment; head = head; tail = tail }))) }
+        (record { case = segment; head = head; tail = tail })) }
 {
-    let axis = axis::axis_of(
+    let a = axis::axis_of(
         kind,
         start_head,
         start_tail,
@@ -922,7 +885,7 @@ pub fn ordered_segment_index_of(
         head,
         tail,
     };
-    OrderedNumber::from(axis.and_then(|a| segmented::index_of(a, s)))
+    OrderedNumber::from(segmented::index_of(a, s))
 }
 
 // C's interface: the twin of ordered_from_index, which answers a value of a segment.
@@ -935,11 +898,11 @@ pub fn ordered_segment_from_index(
     end_excluded: i64,
     index: i64,
 ) -> OrderedSegment
-    ensures { result ≡ segment_reply (and_then
+    ensures { result ≡ segment_reply (segment_from_answer
         (axis_of kind start_head start_tail end_head end_tail end_excluded)
-        (λ a. segment_from_answer a index)) }
+        index) }
 {
-    let axis = axis::axis_of(
+    let a = axis::axis_of(
         kind,
         start_head,
         start_tail,
@@ -947,5 +910,5 @@ pub fn ordered_segment_from_index(
         end_tail,
         end_excluded,
     );
-    OrderedSegment::from(axis.and_then(|a| segmented::from_index(a, index)))
+    OrderedSegment::from(segmented::from_index(a, index))
 }

@@ -5,7 +5,6 @@
 ghost use Rattle.std.specs.Prelude.{◌≡◌, length};
 ghost use Rattle.calendar.specs.Questions.{number_of, date_at};
 ghost use Rattle.weeks.specs.Questions.{week_day_number, week_date_at};
-ghost use Rattle.asking.specs.Asking.{and_then};
 ghost use Rattle.axis.specs.Axes.{axis_of};
 ghost use Rattle.discrete.specs.Answers.{size_answer, index_answer, from_index_answer, next_answer, previous_answer};
 ghost use Rattle.discrete.specs.Answers.{values_answer, unmap_answer};
@@ -13,11 +12,10 @@ ghost use Rattle.mapping.specs.Mapping.{mapped};
 ghost use Rattle.segmented.specs.Answers.{segment_map_answer, segment_ticks_answer, segment_ticks_written};
 ghost use Rattle.segmented.specs.Answers.{segment_size_answer, segment_index_answer, segment_from_answer};
 ghost use Rattle.rules.specs.Table.{rules_answer};
-ghost use Rattle.ruled.specs.Answers.{ruled_written};
+ghost use Rattle.ruled.specs.Answers.{ruled_answer, ruled_written};
 ghost use Rattle.ticks.specs.Answers.{ticks_answer, ticks_written, period_answer};
 ghost use Rattle.ordered.specs.Replies.{number_reply, index_reply, period_reply, date_reply, week_reply};
 ghost use Rattle.ordered.specs.Replies.{pixel_reply, value_reply, value_if_reply, step_reply, segment_reply};
-ghost use Rattle.ordered.specs.Replies.{after, ruled_call};
 
 use axis::Hint;
 use ordered::{
@@ -66,9 +64,9 @@ pub extern "C" fn ordered_map(
     head: i64,
     tail: i64,
 ) -> OrderedPixel
-    ensures { result ≡ pixel_reply (and_then
+    ensures { result ≡ pixel_reply (mapped
         (axis_of kind start_head start_tail end_head end_tail end_excluded)
-        (λ a. mapped a (record { low = low; high = high }) (record { head = head; tail = tail }))) }
+        (record { low = low; high = high }) (record { head = head; tail = tail })) }
 {
     ordered::ordered_map(
         kind,
@@ -95,12 +93,12 @@ pub extern "C" fn ordered_ticks_bold(
     n: i64,
     lent: &mut [i64],
 ) -> OrderedNumber
-    ensures value { result ≡ number_reply (and_then
+    ensures value { result ≡ number_reply (ticks_answer
         (axis_of kind start_head start_tail end_head end_tail end_excluded)
-        (λ a. ticks_answer a (Hint.Bold (record { n = n })) (length lent.old))) }
-    ensures after_call { lent.new ≡ after
+        (Hint.Bold (record { n = n })) (length lent.old)) }
+    ensures after_call { lent.new ≡ ticks_written
         (axis_of kind start_head start_tail end_head end_tail end_excluded)
-        (λ a. ticks_written a (Hint.Bold (record { n = n })) lent.old) lent.old }
+        (Hint.Bold (record { n = n })) lent.old }
 {
     ordered::ordered_ticks_bold(
         kind,
@@ -125,9 +123,9 @@ pub extern "C" fn ordered_count_bold(
     n: i64,
     lent_len: usize,
 ) -> OrderedNumber
-    ensures { result ≡ number_reply (and_then
+    ensures { result ≡ number_reply (ticks_answer
         (axis_of kind start_head start_tail end_head end_tail end_excluded)
-        (λ a. ticks_answer a (Hint.Bold (record { n = n })) lent_len)) }
+        (Hint.Bold (record { n = n })) lent_len) }
 {
     ordered::ordered_count_bold(
         kind,
@@ -153,12 +151,12 @@ pub extern "C" fn ordered_ticks_light(
     n: i64,
     lent: &mut [i64],
 ) -> OrderedNumber
-    ensures value { result ≡ number_reply (and_then
+    ensures value { result ≡ number_reply (ticks_answer
         (axis_of kind start_head start_tail end_head end_tail end_excluded)
-        (λ a. ticks_answer a (Hint.Light (record { bold = bold; n = n })) (length lent.old))) }
-    ensures after_call { lent.new ≡ after
+        (Hint.Light (record { bold = bold; n = n })) (length lent.old)) }
+    ensures after_call { lent.new ≡ ticks_written
         (axis_of kind start_head start_tail end_head end_tail end_excluded)
-        (λ a. ticks_written a (Hint.Light (record { bold = bold; n = n })) lent.old) lent.old }
+        (Hint.Light (record { bold = bold; n = n })) lent.old }
 {
     ordered::ordered_ticks_light(
         kind,
@@ -185,9 +183,9 @@ pub extern "C" fn ordered_count_light(
     n: i64,
     lent_len: usize,
 ) -> OrderedNumber
-    ensures { result ≡ number_reply (and_then
+    ensures { result ≡ number_reply (ticks_answer
         (axis_of kind start_head start_tail end_head end_tail end_excluded)
-        (λ a. ticks_answer a (Hint.Light (record { bold = bold; n = n })) lent_len)) }
+        (Hint.Light (record { bold = bold; n = n })) lent_len) }
 {
     ordered::ordered_count_light(
         kind,
@@ -220,11 +218,10 @@ pub extern "C" fn ordered_ticks_ruled(
     table: &[u8],
     lent: &mut [i64],
 ) -> OrderedNumber
-    ensures value { result ≡ number_reply (ruled_call table.now
+    ensures value { result ≡ number_reply (ruled_answer table.now
         (axis_of kind start_head start_tail end_head end_tail end_excluded) (length lent.old)) }
-    ensures after_call { lent.new ≡ after
-        (axis_of kind start_head start_tail end_head end_tail end_excluded)
-        (λ a. ruled_written table.now a lent.old) lent.old }
+    ensures after_call { lent.new ≡ ruled_written table.now
+        (axis_of kind start_head start_tail end_head end_tail end_excluded) lent.old }
 {
     ordered::ordered_ticks_ruled(
         kind,
@@ -249,7 +246,7 @@ pub extern "C" fn ordered_count_ruled(
     table: &[u8],
     lent_len: usize,
 ) -> OrderedNumber
-    ensures { result ≡ number_reply (ruled_call table.now
+    ensures { result ≡ number_reply (ruled_answer table.now
         (axis_of kind start_head start_tail end_head end_tail end_excluded) lent_len) }
 {
     ordered::ordered_count_ruled(
@@ -274,9 +271,9 @@ pub extern "C" fn ordered_period_per_point(
     end_excluded: i64,
     n: i64,
 ) -> OrderedPeriod
-    ensures { result ≡ period_reply (and_then
+    ensures { result ≡ period_reply (period_answer
         (axis_of kind start_head start_tail end_head end_tail end_excluded)
-        (λ a. period_answer a (record { n = n }))) }
+        (record { n = n })) }
 {
     ordered::ordered_period_per_point(
         kind,
@@ -301,9 +298,9 @@ pub extern "C" fn ordered_unmap(
     high: i64,
     pixel: i64,
 ) -> OrderedValue
-    ensures { result ≡ value_reply (and_then
+    ensures { result ≡ value_reply (unmap_answer
         (axis_of kind start_head start_tail end_head end_tail end_excluded)
-        (λ a. unmap_answer a (record { low = low; high = high }) pixel)) }
+        (record { low = low; high = high }) pixel) }
 {
     ordered::ordered_unmap(
         kind,
@@ -327,9 +324,8 @@ pub extern "C" fn ordered_size(
     end_tail: i64,
     end_excluded: i64,
 ) -> OrderedNumber
-    ensures { result ≡ number_reply (and_then
-        (axis_of kind start_head start_tail end_head end_tail end_excluded)
-        size_answer) }
+    ensures { result ≡ number_reply (size_answer
+        (axis_of kind start_head start_tail end_head end_tail end_excluded)) }
 {
     ordered::ordered_size(
         kind,
@@ -352,9 +348,9 @@ pub extern "C" fn ordered_index_of(
     head: i64,
     tail: i64,
 ) -> OrderedNumber
-    ensures { result ≡ index_reply (and_then
+    ensures { result ≡ index_reply (index_answer
         (axis_of kind start_head start_tail end_head end_tail end_excluded)
-        (λ a. index_answer a (record { head = head; tail = tail }))) }
+        (record { head = head; tail = tail })) }
 {
     ordered::ordered_index_of(
         kind,
@@ -378,9 +374,9 @@ pub extern "C" fn ordered_from_index(
     end_excluded: i64,
     index: i64,
 ) -> OrderedValue
-    ensures { result ≡ value_reply (and_then
+    ensures { result ≡ value_reply (from_index_answer
         (axis_of kind start_head start_tail end_head end_tail end_excluded)
-        (λ a. from_index_answer a index)) }
+        index) }
 {
     ordered::ordered_from_index(
         kind,
@@ -404,9 +400,9 @@ pub extern "C" fn ordered_next(
     head: i64,
     tail: i64,
 ) -> OrderedValue
-    ensures { result ≡ value_if_reply (and_then
+    ensures { result ≡ value_if_reply (next_answer
         (axis_of kind start_head start_tail end_head end_tail end_excluded)
-        (λ a. next_answer a (record { head = head; tail = tail }))) }
+        (record { head = head; tail = tail })) }
 {
     ordered::ordered_next(
         kind,
@@ -431,9 +427,9 @@ pub extern "C" fn ordered_previous(
     head: i64,
     tail: i64,
 ) -> OrderedValue
-    ensures { result ≡ value_if_reply (and_then
+    ensures { result ≡ value_if_reply (previous_answer
         (axis_of kind start_head start_tail end_head end_tail end_excluded)
-        (λ a. previous_answer a (record { head = head; tail = tail }))) }
+        (record { head = head; tail = tail })) }
 {
     ordered::ordered_previous(
         kind,
@@ -457,9 +453,9 @@ pub extern "C" fn ordered_values(
     end_excluded: i64,
     place: i64,
 ) -> OrderedStep
-    ensures { result ≡ step_reply (and_then
+    ensures { result ≡ step_reply (values_answer
         (axis_of kind start_head start_tail end_head end_tail end_excluded)
-        (λ a. values_answer a (record { place = place }))) }
+        (record { place = place })) }
 {
     ordered::ordered_values(
         kind,
@@ -486,9 +482,9 @@ pub extern "C" fn ordered_segment_map(
     head: i64,
     tail: i64,
 ) -> OrderedPixel
-    ensures { result ≡ pixel_reply (and_then
+    ensures { result ≡ pixel_reply (segment_map_answer
         (axis_of kind start_head start_tail end_head end_tail end_excluded)
-        (λ a. segment_map_answer a (record { low = low; high = high }) (record { case = segment; head = head; tail = tail }))) }
+        (record { low = low; high = high }) (record { case = segment; head = head; tail = tail })) }
 {
     ordered::ordered_segment_map(
         kind,
@@ -516,12 +512,12 @@ pub extern "C" fn ordered_segment_ticks_bold(
     n: i64,
     lent: &mut [i64],
 ) -> OrderedNumber
-    ensures value { result ≡ number_reply (and_then
+    ensures value { result ≡ number_reply (segment_ticks_answer
         (axis_of kind start_head start_tail end_head end_tail end_excluded)
-        (λ a. segment_ticks_answer a (Hint.Bold (record { n = n })) (length lent.old))) }
-    ensures after_call { lent.new ≡ after
+        (Hint.Bold (record { n = n })) (length lent.old)) }
+    ensures after_call { lent.new ≡ segment_ticks_written
         (axis_of kind start_head start_tail end_head end_tail end_excluded)
-        (λ a. segment_ticks_written a (Hint.Bold (record { n = n })) lent.old) lent.old }
+        (Hint.Bold (record { n = n })) lent.old }
 {
     ordered::ordered_segment_ticks_bold(
         kind,
@@ -547,12 +543,12 @@ pub extern "C" fn ordered_segment_ticks_light(
     n: i64,
     lent: &mut [i64],
 ) -> OrderedNumber
-    ensures value { result ≡ number_reply (and_then
+    ensures value { result ≡ number_reply (segment_ticks_answer
         (axis_of kind start_head start_tail end_head end_tail end_excluded)
-        (λ a. segment_ticks_answer a (Hint.Light (record { bold = bold; n = n })) (length lent.old))) }
-    ensures after_call { lent.new ≡ after
+        (Hint.Light (record { bold = bold; n = n })) (length lent.old)) }
+    ensures after_call { lent.new ≡ segment_ticks_written
         (axis_of kind start_head start_tail end_head end_tail end_excluded)
-        (λ a. segment_ticks_written a (Hint.Light (record { bold = bold; n = n })) lent.old) lent.old }
+        (Hint.Light (record { bold = bold; n = n })) lent.old }
 {
     ordered::ordered_segment_ticks_light(
         kind,
@@ -576,9 +572,8 @@ pub extern "C" fn ordered_segment_size(
     end_tail: i64,
     end_excluded: i64,
 ) -> OrderedNumber
-    ensures { result ≡ number_reply (and_then
-        (axis_of kind start_head start_tail end_head end_tail end_excluded)
-        segment_size_answer) }
+    ensures { result ≡ number_reply (segment_size_answer
+        (axis_of kind start_head start_tail end_head end_tail end_excluded)) }
 {
     ordered::ordered_segment_size(
         kind,
@@ -602,9 +597,9 @@ pub extern "C" fn ordered_segment_index_of(
     head: i64,
     tail: i64,
 ) -> OrderedNumber
-    ensures { result ≡ index_reply (and_then
+    ensures { result ≡ index_reply (segment_index_answer
         (axis_of kind start_head start_tail end_head end_tail end_excluded)
-        (λ a. segment_index_answer a (record { case = segment; head = head; tail = tail }))) }
+        (record { case = segment; head = head; tail = tail })) }
 {
     ordered::ordered_segment_index_of(
         kind,
@@ -629,9 +624,9 @@ pub extern "C" fn ordered_segment_from_index(
     end_excluded: i64,
     index: i64,
 ) -> OrderedSegment
-    ensures { result ≡ segment_reply (and_then
+    ensures { result ≡ segment_reply (segment_from_answer
         (axis_of kind start_head start_tail end_head end_tail end_excluded)
-        (λ a. segment_from_answer a index)) }
+        index) }
 {
     ordered::ordered_segment_from_index(
         kind,

@@ -54,8 +54,8 @@ pub struct Period {
 // Bounds of single numbers stay clauses, here and below: a type for each is no plainer, every formula would open it again.
 // A span and n stay two numbers: each function asks other bounds of them, so that a struct would hold no fact.
 
-// The largest power of ten that goes into the span n times, or 1. The powers are copied before they are tried, so that the compiler
-// knows which one it was in what follows.
+// The largest power of ten that goes into the span n times, or 1. The powers are copied before they are tried, so that the
+// compiler knows which one it was in what follows.
 fn largest_power(span: u64, n: u64) -> u64
     requires { 0 < n }
     ensures { result ≡ power_of span n }

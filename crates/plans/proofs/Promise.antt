@@ -26,7 +26,7 @@ use Rattle.values.proofs.Differences.{days_apart, durations_apart}
 use Rattle.axis.specs.declared.Axis.{Axis}
 use Rattle.axis.specs.Axes.{span_of}
 use Rattle.axis.specs.Questions.{ends, in_order}
-use Rattle.axis.proofs.Axes.{both_ends, span_from_0}
+use Rattle.axis.proofs.Axes.{both_ends, ends_known, span_from_0}
 use Rattle.counting.specs.Counting.{Dated, from_day, to_day}
 use Rattle.counting.proofs.Counting.{starts, end_value, from_range}
 use Rattle.counting.proofs.Counting.{to_range, from_start, from_next, date_from, to_is}
@@ -435,7 +435,7 @@ module _ (a : Axis) (n : ℕ) (q : Accepted a n) where
 
   pub plan_good : Good a n (plan_of a n)
   plan_good =
-      by_plan (Good a n) a n
+      by_plan (Good a n) a n (ends_known a q.real)
       (λ d. day_good a n (dated (dates_no_duration a.kind d)) (date_order a n q d))
       (λ m. month_good a n (dated m))
       (λ y. year_good a n (dated y))

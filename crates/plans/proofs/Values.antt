@@ -19,7 +19,7 @@ use Rattle.values.proofs.Values.{dates_no_stamp, dates_no_duration, times_no_dur
 use Rattle.values.proofs.Values.{of_dates, of_date_times, of_durations, by_form}
 use Rattle.axis.specs.declared.Axis.{Axis}
 use Rattle.axis.specs.Questions.{has_period}
-use Rattle.axis.proofs.Axes.{both_ends}
+use Rattle.axis.proofs.Axes.{both_ends, ends_known}
 use Rattle.steps.specs.declared.Numbering.{Numbering}
 use Rattle.steps.specs.declared.Numbering.TheVariants as numbering
 use Rattle.steps.specs.declared.Steps.{Steps}
@@ -59,7 +59,8 @@ module _ (a : Axis) (n : ℕ) (q : Accepted a n) where
   counted : Counted a (plan_of a n)
   unfolding day_plan week_plan month_plan year_plan time_plan span_days_plan period_plan
   counted =
-      by_plan (Counted a) a n (λ _. heads _ refl) (λ _. heads _ refl) (λ _. heads _ refl) (λ _. heads _ refl)
+      by_plan (Counted a) a n (ends_known a q.real)
+      (λ _. heads _ refl) (λ _. heads _ refl) (λ _. heads _ refl) (λ _. heads _ refl)
       (λ h _. by_period h (period_in a n))
     where
       by_period : has_period a ≡ true → (p : Option ℕ) → Counted a (plan_by a n p)

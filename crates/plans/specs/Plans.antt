@@ -29,7 +29,7 @@ plan_by a n None = cond (is_duration a.kind) (span_days_plan a n) (day_plan a n)
 unfoldable pub period_plan : Axis → ℕ → Steps
 period_plan a n = plan_by a n (period_in a n)
 
--- by the kind
+-- by the kind; what is none is as kind 4, and question 1 lets none of it pass
 abbrev pub plan_of_kind : Kind → Axis → ℕ → Steps
 plan_of_kind kind.Date a n = day_plan a n
 plan_of_kind kind.Month a n = month_plan a n
@@ -39,6 +39,7 @@ plan_of_kind kind.StampMonth a n = month_plan a n
 plan_of_kind kind.StampYear a n = year_plan a n
 plan_of_kind kind.Span a n = period_plan a n
 plan_of_kind kind.Week a n = week_plan a n
+plan_of_kind kind.Unknown a n = period_plan a n
 
 -- of an axis
 unfoldable pub plan_of : Axis → ℕ → Steps

@@ -348,7 +348,7 @@ impl Hinted {
             Kind::Date => day_plan(self.dates(), n),
             Kind::Month | Kind::StampMonth => by_months(self.dates(), |t| month_step(t, n)),
             Kind::Year | Kind::StampYear => by_months(self.dates(), |t| year_step(t, n)),
-            Kind::Stamp | Kind::Span => self.period_plan(),
+            Kind::Stamp | Kind::Span | Kind::Unknown => self.period_plan(),
             Kind::Week => week_plan(self.dates(), n),
         }
     }

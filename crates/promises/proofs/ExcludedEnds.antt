@@ -9,18 +9,18 @@ use lib.Ieee as ieee
 use lib.Signed.{lt_z}
 use lib.ListN.{take}
 use Rattle.std.specs.Prelude.{Option, Some, None, Result, Ok, Err}
-use Rattle.laws.specs.Numbers.{within, is_number, pos_part, neg_part}
+use Rattle.laws.specs.Numbers.{within, pos_part, neg_part}
 use Rattle.laws.proofs.Signed.{sub, lt_false}
 use Rattle.laws.proofs.Tests.{is_true}
 use Rattle.asking.specs.declared.Refusal.{Refusal}
 use Rattle.asking.specs.declared.Refusal.TheVariants as refusal
-use Rattle.asking.specs.Asking.{Question, ask, asked, and_then, passes}
+use Rattle.asking.specs.Asking.{Question, ask, asked, passes}
 use Rattle.asking.proofs.Asked.{told, asked_append, passes_append, passed}
 use Rattle.calendar.specs.Questions.{is_day}
 use Rattle.values.specs.declared.Kind.{Kind}
 use Rattle.values.specs.declared.Kind.TheVariants as kind
 use Rattle.values.specs.declared.Value.{Value}
-use Rattle.values.specs.Values.{kind_of, is_value, earlier}
+use Rattle.values.specs.Values.{is_value, earlier}
 use Rattle.values.specs.Differences.{nanoseconds, difference, nanoseconds_of}
 use Rattle.floats.specs.Rounding as rounding
 use Rattle.axis.specs.declared.Axis.{Axis}
@@ -28,7 +28,7 @@ use Rattle.axis.specs.declared.Hint.{Hint}
 use Rattle.axis.specs.declared.Limits.{Limits}
 use Rattle.axis.specs.Axes.{axis_of, day_earlier, span_of, offset_of, closed, last}
 use Rattle.axis.specs.Questions as asks
-use Rattle.axis.specs.Questions.{has_index, has_unmap, has_period, value_on, is_index, unmap_pixels, hint_on}
+use Rattle.axis.specs.Questions.{known, has_index, has_unmap, has_period, value_on, is_index, unmap_pixels, hint_on}
 use Rattle.axis.specs.Questions.{checked, checked_if, plain_questions, axis_questions}
 use Rattle.axis.proofs.ClosedAxes.{same_kind, shortened, closed_twice, plain_passed, axis_passed}
 use Rattle.mapping.specs.Mapping as mapping
@@ -66,9 +66,8 @@ use Rattle.segmented.specs.Segments.{alone, between, beside, centred, segment_wo
 use Rattle.segmented.specs.Answers.{segment_index_in, segment_at, segment_checked, segment_kind_questions}
 use Rattle.segmented.specs.Answers as segmented
 use Rattle.promises.specs.Examples.{limits_of, AllHold}
-use Rattle.promises.specs.ExcludedEnds.{AsOf, RuledAsOf, AsDayEarlier, ToWrittenEnd, SegmentsMix, NoneFromEnd, AsManyPixels}
-use Rattle.promises.specs.ExcludedEnds.{InNumbers, OfThree, OfEach, to_written, midway, before, excluded_table}
-use Rattle.promises.proofs.Numbers.{of_kind, changed}
+use Rattle.promises.specs.ExcludedEnds.{AsOf, AsDayEarlier, ToWrittenEnd, SegmentsMix, NoneFromEnd, AsManyPixels}
+use Rattle.promises.specs.ExcludedEnds.{InNumbers, OfEach, to_written, midway, before, excluded_table}
 use Rattle.promises.proofs.Rows.{same_behind, more_on, more_pass}
 
 module _ (a : Axis) where
@@ -204,32 +203,34 @@ module _ (a : Axis) where
   segment_from i = by_value (λ x. segment_checked (segment_at x (pos_part i))) (is_index i) (is_index i) refl
 
   -- where the kind has segments, what is left are the questions of the axis
-  kind_passed : has_index a ≡ true → passes (segment_kind_questions b) ≡ true
-  kind_passed h = rw (same_index, h)
+  kind_passed : known a ≡ true → has_index a ≡ true → passes (segment_kind_questions b) ≡ true
+  kind_passed k h = rw (same_index, same_kind a, k, h)
 
   segment_count : (h : Hint) (k : ℕ) →
       segmented.segment_ticks_answer a h k ≡ asked (axis_questions (has_index a) a) (segmented.segment_ticks_answer b h k)
   unfolding segmented.segment_ticks_answer
-  segment_count h n = go (has_index a) refl
+  segment_count h n = go (known a) (has_index a) refl refl
     where
-      go : (i : Bool) → has_index a ≡ i →
-          asked (ask refusal.Operation i ∷ []) (ticks_answer a h n)
+      go : (y i : Bool) → known a ≡ y → has_index a ≡ i →
+          asked (ask refusal.Kind y ∷ (ask refusal.Operation i ∷ [])) (ticks_answer a h n)
           ≡ asked (axis_questions i a) (asked (segment_kind_questions b) (ticks_answer b h n))
-      go true i = count h n ∙ ap (asked (axis_questions true a))
-          (passed (segment_kind_questions b) (ticks_answer b h n) (kind_passed i))
-      go false i = refl
+      go true true k i = count h n ∙ ap (asked (axis_questions true a))
+          (passed (segment_kind_questions b) (ticks_answer b h n) (kind_passed k i))
+      go true false k i = rw k
+      go false i k _ = rw k
 
   segment_written : (h : Hint) (d : List ℤ) →
       segmented.segment_ticks_written a h d
       ≡ cond (passes (axis_questions (has_index a) a)) (segmented.segment_ticks_written b h d) d
   unfolding segmented.segment_ticks_written
-  segment_written h d = go (has_index a) refl
+  segment_written h d = go (known a) (has_index a) refl refl
     where
-      go : (i : Bool) → has_index a ≡ i →
-          cond (passes (ask refusal.Operation i ∷ [])) (ticks_written a h d) d
+      go : (y i : Bool) → known a ≡ y → has_index a ≡ i →
+          cond (passes (ask refusal.Kind y ∷ (ask refusal.Operation i ∷ []))) (ticks_written a h d) d
           ≡ cond (passes (axis_questions i a)) (cond (passes (segment_kind_questions b)) (ticks_written b h d) d) d
-      go true i = written h d ∙ rw (kind_passed i)
-      go false i = refl
+      go true true k i = written h d ∙ rw (kind_passed k i)
+      go true false k i = rw k
+      go false i k _ = rw k
 
   -- ---- lists by house rules
   same_rules : has_rules b ≡ has_rules a
@@ -253,6 +254,10 @@ module _ (a : Axis) where
         let list = listed_of (ruled_on t b) k in
         same_behind (ruled_questions t a) (listed_of (ruled_on t a) k) (asked (ruled_questions t b) list)
         (λ z. ap (λ l. listed_of l k) same_list ∙ passed (ruled_questions t b) list (rules_passed z))
+
+    ruled_first : (k : ℕ) →
+        ruled_answer t a k ≡ asked (table_questions t) (asked (plain_questions (has_rules a) a) (ruled_answer t b k))
+    ruled_first k = ruled_count k ∙ asked_append (table_questions t) (plain_questions (has_rules a) a) (ruled_answer t b k)
 
     ruled_written_law : (d : List ℤ) → ruled_written t a d ≡ cond (passes (ruled_questions t a)) (ruled_written t b d) d
     unfolding ruled_written
@@ -282,45 +287,24 @@ module _ (a : Axis) where
     segment_count = segment_count;
     segment_written = segment_written;
     ruled_count = ruled_count;
+    ruled_first = ruled_first;
     ruled_written_law = ruled_written_law;
   }
 
 -- the axis that ends a day earlier, and the one to the end as written, in numbers
 pub in_numbers : InNumbers
-in_numbers k sh st eh et x = (changed k sh st eh et x day_earlier, changed k sh st eh et x to_written)
+in_numbers k sh st eh et x = (refl, refl)
 
 -- what holds beside each axis holds of any six numbers too
 of_each : (P : Axis → Axis → Axis → Type 0) → ((a : Axis) → P a (day_earlier a) (to_written a)) → OfEach P
-of_each P f = record { axes = f; numbers = λ k sh st eh et x. go k sh st eh et x (kind_of k) }
-  where
-    go : (k sh st eh et x : ℤ) (r : Result Kind Refusal) → let made : (Axis → Axis) → Result Axis Refusal =
-        λ g. and_then r (λ n. Ok (g (of_kind k sh st eh et x n))) in
-        OfThree P (made (λ a. a)) (made day_earlier) (made to_written)
-    go k sh st eh et x (Ok n) = f (of_kind k sh st eh et x n)
-    go k sh st eh et x (Err q) = (refl, refl)
+of_each P f = record { axes = f; numbers = λ k sh st eh et x. f (axis_of k sh st eh et x) }
 
 earlier_as : (a : Axis) → a.end_excluded ≡ true → AsOf a (day_earlier a)
 earlier_as a e = subst (AsOf a) (sym (shortened a e)) (as_closed a)
 
-ruled_as_of : (k sh st eh et x : ℤ) → is_number x 0 ≡ false →
-    RuledAsOf (axis_of k sh st eh et x) (axis_of k sh st (eh -ℤ pos 1) et (pos 0))
-ruled_as_of k sh st eh et x e = go (kind_of k)
-  where
-    go : (r : Result Kind Refusal) →
-        RuledAsOf (and_then r (λ n. Ok (of_kind k sh st eh et x n)))
-        (and_then r (λ n. Ok (day_earlier (of_kind k sh st eh et x n))))
-    go (Ok n) = let a = of_kind k sh st eh et x n in
-        let is = earlier_as a (ap not e) in
-        record {
-          count = λ t i. is.ruled_count t i
-              ∙ asked_append (table_questions t) (plain_questions (has_rules a) a) (ruled_answer t (day_earlier a) i);
-          written = λ t d. is.ruled_written_law t d;
-        }
-    go (Err q) = record { count = λ t i. refl; written = λ t d. refl }
-
 -- THE THEOREM, of all operations that count or list
 pub as_day_earlier : AsDayEarlier
-as_day_earlier = record { each = of_each _ earlier_as; ruled = ruled_as_of }
+as_day_earlier = of_each _ earlier_as
 
 -- ---- mapping goes to the end as written
 pub to_written_end : ToWrittenEnd
@@ -337,7 +321,7 @@ to_written_end l v = of_each _ (λ a.
     ∷ (ask refusal.Range (asks.fits_i32 p)
     ∷ []))) in
     more_on (axis_questions true a) (axis_questions true w) rest rest h h (λ z.
-    let row = axis_questions true a in rw (told 3 row z, told 4 row z, told 5 row z)) refl)
+    let row = axis_questions true a in rw (told 1 row z, told 3 row z, told 4 row z, told 5 row z)) refl)
 
 -- ---- segments go by both
 by_next : (a w b : Axis) (l : Limits) (left : Hairline) (n : Option Value) →

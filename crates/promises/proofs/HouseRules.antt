@@ -38,7 +38,7 @@ use Rattle.ruled.specs.Claims.{Ruled}
 use Rattle.ruled.proofs.Answers.{of_two, dated, row_fine}
 use Rattle.ruled.proofs.Claims.{ruled_list}
 use Rattle.ordered.specs.declared.OrderedNumber.{OrderedNumber}
-use Rattle.ordered.specs.Replies.{after, number_reply, ruled_call}
+use Rattle.ordered.specs.Replies.{number_reply}
 use Rattle.promises.specs.HouseRules.{TableClaim, first_day, last_day, OnlyRow, RuledCount, RuledList}
 use Rattle.promises.proofs.Rows.{no_refusal, behind, refused_by, refused_by_none, counted}
 
@@ -176,9 +176,6 @@ module _ (table : List ℕ) (a : Axis) (d : List ℤ) where
       (λ q _. refused_list table a q d) refl
 
 -- ---- of what a call handed back, which is as defined
-pub ruled_as : (table : List ℕ) (a : Axis) (d : List ℤ) {x : Result Axis Refusal} {r : OrderedNumber} {l : List ℤ} →
-    r ≡ number_reply (ruled_call table x (length d)) → l ≡ after x (λ b. ruled_written table b d) d → x ≡ Ok a →
-    RuledList table a r d l
-ruled_as table a d e w p =
-    rw (e ∙ (λ i. number_reply (ruled_call table (p i) (length d))), w ∙ (λ i. after (p i) (λ b. ruled_written table b d) d))
-    (ruled_fine table a d)
+pub ruled_as : (table : List ℕ) (a : Axis) (d : List ℤ) {r : OrderedNumber} {l : List ℤ} →
+    r ≡ number_reply (ruled_answer table a (length d)) → l ≡ ruled_written table a d → RuledList table a r d l
+ruled_as table a d e w = rw (e, w) (ruled_fine table a d)

@@ -2,7 +2,7 @@
 pub mod Rows
 pub mod Demand
 pub mod Calls
-pub mod Numbers
+pub mod UnknownKinds
 pub mod DayNumbers
 pub mod DateAxes
 pub mod OpenRows

@@ -125,11 +125,11 @@ module _ (a : Axis) (h : Hint) (l : ListsDates a h) where
   -- ---- segments, where the kind has them
   segment_count : has_index a ≡ true → (k : ℕ) → segment_ticks_answer a h k ≡ segment_ticks_answer b g k
   unfolding segment_ticks_answer has_index has_period
-  segment_count i k = rw i (count k)
+  segment_count i k = rw (told 1 (tick_questions a h) l.accepted, i) (count k)
 
   segment_written : has_index a ≡ true → (d : List ℤ) → segment_ticks_written a h d ≡ segment_ticks_written b g d
   unfolding segment_ticks_written has_index has_period
-  segment_written i d = rw i (written d)
+  segment_written i d = rw (told 1 (tick_questions a h) l.accepted, i) (written d)
 
   pub alike : Alike a h b g
   alike = record {

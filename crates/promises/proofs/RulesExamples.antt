@@ -7,7 +7,7 @@ use Prim.Native.Nat.{ℕ, ◌≤◌, ◌<◌}
 use native.Mathlib.Decide.{dec_le}
 use native.Mathlib.Omega.{arith}
 use borrow.Author.Tests.{le-leb, lt-leb}
-use lib.IntN.{ℤ}
+use lib.IntN.{ℤ, pos}
 use lib.ListN.{length}
 use Rattle.std.specs.Prelude.{⊤, Option, None, Some, Result, Ok, Err, is_ok}
 use Rattle.std.specs.Result.{result_and}
@@ -20,9 +20,9 @@ use Rattle.text_read.specs.Lines as lines
 use Rattle.calendar.specs.Gregorian as calendar
 use Rattle.values.specs.declared.Kind.TheVariants as kind
 use Rattle.values.specs.declared.Value.{Value}
-use Rattle.values.specs.Values.{is_value, earlier}
+use Rattle.values.specs.Values.{numbered, is_value, earlier}
 use Rattle.axis.specs.declared.Axis.{Axis}
-use Rattle.axis.specs.Axes.{closed}
+use Rattle.axis.specs.Axes.{axis_of, closed}
 use Rattle.axis.specs.Questions as asks
 use Rattle.axis.specs.Questions.{plain_questions}
 use Rattle.counting.specs.Counting.{from_day, to_day}
@@ -53,6 +53,7 @@ use Rattle.promises.specs.RulesExamples.{no_feed, two_spaces, no_step, other_uni
 use Rattle.promises.specs.RulesExamples.{from_above_to, step_none, step_above, long_numbers, other_names}
 use Rattle.promises.specs.RulesExamples.{verdict_table, unread_table, ruled_table}
 use Rattle.promises.proofs.Rows.{behind, passes_ok}
+use Rattle.promises.proofs.UnknownKinds.{ruled_refused}
 
 -- ---- what the tables read
 abbrev row_of : ℕ → ℕ → Unit → ℕ → Row
@@ -221,9 +222,11 @@ none_and_two =
 
 -- ---- lists
 table_first : Holds examples.table_first
+unfolding numbered
 table_first =
     let answer : (Result ℕ Refusal → List ℤ) = λ r. count_numbers (number_reply r) in
-    ap answer (behind (table_questions []) (Err refusal.Kind))
+    ap answer (ruled_refused (axis_of (pos 0) (pos 1) (pos 0) (pos 5) (pos 0) (pos 0)) refl [] 6)
+    ∙ ap answer (behind (table_questions []) (Err refusal.Kind))
     ∙ ap (λ (v : Result ⊤ Refusal). answer (result_and v (Err refusal.Kind))) ((judges []).twelve.1 reads.nothing)
 
 by_days_law : verdict (names_line ++ all_second_days) ≡ fine

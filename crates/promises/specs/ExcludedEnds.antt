@@ -1,10 +1,8 @@
 -- An end that is not in the span: what each operation answers of an excluded end, as an equation with the axis that ends a day
 -- earlier, or with the end as written. Of every axis and of any six numbers, refused calls too. Definitions only.
 use Rattle.std.specs.Prelude.{◌≡◌, true, false, cond, ◌&&◌, Option, Some, None, List, [], ◌∷◌, ◌++◌, length, take}
-use Rattle.std.specs.Prelude.{Result, Ok, Err, ℕ, ◌*◌, ◌≤◌, ◌<◌, ℤ, pos, nat_abs, ◌-ℤ◌}
-use Rattle.laws.specs.Numbers.{is_number}
-use Rattle.asking.specs.declared.Refusal.{Refusal}
-use Rattle.asking.specs.Asking.{asked, and_then, passes}
+use Rattle.std.specs.Prelude.{Ok, ℕ, ◌*◌, ◌≤◌, ◌<◌, ℤ, pos, nat_abs, ◌-ℤ◌}
+use Rattle.asking.specs.Asking.{asked, passes}
 use Rattle.calendar.specs.Questions.{is_day}
 use Rattle.values.specs.declared.Kind.{Kind}
 use Rattle.values.specs.declared.Kind.TheVariants as kind
@@ -32,32 +30,25 @@ use Rattle.segmented.specs.declared.SegmentValue.TheVariants.{Exact, CenterOf, L
 use Rattle.segmented.specs.Segments.{margin_of, inner, Worked, worked, alone, between, beside, segment_worked}
 use Rattle.segmented.specs.Answers.{segment_map_answer, segment_size_answer, segment_index_answer}
 use Rattle.segmented.specs.Answers.{segment_from_answer, segment_ticks_answer, segment_ticks_written}
-use Rattle.ordered.specs.Replies.{after, ruled_call, number_reply, pixel_reply}
+use Rattle.ordered.specs.Replies.{number_reply, pixel_reply}
 use Rattle.promises.specs.Examples.{Example, count_numbers, pixel_numbers, bold_of, limits_of, listed_into, sevens}
 
 -- ---- beside an axis whose end is excluded stand the one that ends a day earlier, and the one whose written end belongs to it
 abbrev pub to_written : Axis → Axis
 to_written a = record a { end_excluded = false }
 
--- the numbers of both: an end a day less, or as it is, and 0 as the last number; question 1 refuses all three alike
+-- the numbers of both: an end a day less, or as it is, and 0 as the last number
 abbrev pub InNumbers : Type 0
 InNumbers =
     (k sh st eh et x : ℤ) → let a = axis_of k sh st eh et x in
-    (axis_of k sh st (eh -ℤ pos 1) et (pos 0) ≡ and_then a (λ b. Ok (day_earlier b)))
-    × (axis_of k sh st eh et (pos 0) ≡ and_then a (λ b. Ok (to_written b)))
-
--- P of what three times six numbers make: of three axes, or question 1 refuses all three alike
-abbrev pub OfThree : (Axis → Axis → Axis → Type 0) → Result Axis Refusal → Result Axis Refusal → Result Axis Refusal → Type 0
-OfThree P (Ok a) (Ok b) (Ok w) = P a b w
-OfThree P (Err p) (Err q) (Err r) = (p ≡ q) × (p ≡ r)
-OfThree P x y z = ⊥
+    (axis_of k sh st (eh -ℤ pos 1) et (pos 0) ≡ day_earlier a) × (axis_of k sh st eh et (pos 0) ≡ to_written a)
 
 -- P of an axis, of the one that ends a day earlier and of the one to the end as written: of each axis, and of what six numbers
 -- make, these with a day less at the end, and these with the end as it is, both with 0 as the last number
 pub record OfEach (P : Axis → Axis → Axis → Type 0) : Type 0 where
   pub axes : (a : Axis) → P a (day_earlier a) (to_written a)
   pub numbers : (k sh st eh et x : ℤ) →
-      OfThree P (axis_of k sh st eh et x) (axis_of k sh st (eh -ℤ pos 1) et (pos 0)) (axis_of k sh st eh et (pos 0))
+      P (axis_of k sh st eh et x) (axis_of k sh st (eh -ℤ pos 1) et (pos 0)) (axis_of k sh st eh et (pos 0))
 
 -- ---- "ticks, size and indices are those of the axis ending a day earlier and unmapping goes by that size"
 -- each operation asks the questions of the axis first, and then answers what it answers of the other
@@ -84,21 +75,15 @@ pub record AsOf (a b : Axis) : Type 0 where
   -- t is a table of house rules, which is asked before the axis
   pub ruled_count : (t : List ℕ) (k : ℕ) →
       ruled_answer t a k ≡ asked (ruled_questions t a) (ruled_answer t b k)
+  -- the table first, then question 1 and the others of the axis
+  pub ruled_first : (t : List ℕ) (k : ℕ) →
+      ruled_answer t a k ≡ asked (table_questions t) (asked (plain_questions (has_rules a) a) (ruled_answer t b k))
   pub ruled_written_law : (t : List ℕ) (d : List ℤ) →
       ruled_written t a d ≡ cond (passes (ruled_questions t a)) (ruled_written t b d) d
 
--- the calls by house rules: the table is asked first, then question 1 and those of the axis, and then they answer as of the other
-pub record RuledAsOf (x y : Result Axis Refusal) : Type 0 where
-  pub count : (t : List ℕ) (k : ℕ) → ruled_call t x k
-      ≡ asked (table_questions t) (and_then x (λ a. asked (plain_questions (has_rules a) a) (ruled_call t y k)))
-  pub written : (t : List ℕ) (d : List ℤ) → let left = after y (λ b. ruled_written t b d) d in
-      after x (λ a. ruled_written t a d) d ≡ after x (λ a. cond (passes (ruled_questions t a)) left d) d
-
 -- of any axis whose end is excluded, and of any six numbers that exclude it
-pub record AsDayEarlier : Type 0 where
-  pub each : OfEach (λ a b w. a.end_excluded ≡ true → AsOf a b)
-  pub ruled : (k sh st eh et x : ℤ) → is_number x 0 ≡ false →
-      RuledAsOf (axis_of k sh st eh et x) (axis_of k sh st (eh -ℤ pos 1) et (pos 0))
+abbrev pub AsDayEarlier : Type 0
+AsDayEarlier = OfEach (λ a b w. a.end_excluded ≡ true → AsOf a b)
 
 -- ---- "while mapped pixels are still measured to the written end"
 abbrev pub ToWrittenEnd : Type 0

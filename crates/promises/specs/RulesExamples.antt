@@ -8,7 +8,7 @@ use Rattle.axis.specs.declared.Axis.{Axis}
 use Rattle.axis.specs.Axes.{axis_of}
 use Rattle.rules.specs.Table.{rules_answer}
 use Rattle.ruled.specs.Answers.{ruled_answer, ruled_written}
-use Rattle.ordered.specs.Replies.{number_reply, ruled_call}
+use Rattle.ordered.specs.Replies.{number_reply}
 use Rattle.promises.specs.Examples.{Example, count_numbers, axis_from, sevens}
 use Rattle.promises.specs.ExcludedEnds.{before}
 
@@ -184,7 +184,7 @@ verdict_table =
 abbrev pub table_first : Example
 table_first =
     record {
-      answer = count_numbers (number_reply (ruled_call [] (axis_of (pos 0) (pos 1) (pos 0) (pos 5) (pos 0) (pos 0)) 6));
+      answer = count_numbers (number_reply (ruled_answer [] (axis_of (pos 0) (pos 1) (pos 0) (pos 5) (pos 0) (pos 0)) 6));
       settled = pos 12 ∷ (pos 0 ∷ []);
     }
 

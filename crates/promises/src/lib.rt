@@ -1,5 +1,6 @@
-// Claims about what the calls of C answer. Each function here makes such calls and ensures the claim: of the axis that the six
-// numbers make, and where question 1 refuses the numbers, that the call is refused and leaves the lent numbers as they were.
+// Claims about what the calls of C answer. Each function here makes such calls and ensures the claim, of the axis that any six
+// numbers make. Where it is of no kind, each call of a list or a pixel is refused by 1, by house rules after the table's own
+// questions, and the lent numbers stay.
 // C's interface has a call for each hint and each list, and an axis is six numbers there: so twins, as ticks_bold and
 // ticks_light, lists_bold and lists_light, map_days and map_ends, have a function each, and all functions take six numbers.
 //
@@ -7,10 +8,11 @@
 // specs/HowFarOff.antt, how it is drawn in specs/Hairlines.antt, house rules in specs/HouseRules.antt; theorems in proofs/.
 #![tactic(auto)]
 
-ghost use Rattle.std.specs.Prelude.{◌≡◌, [], Err};
-ghost use Rattle.std.specs.Result.{ForOk, ForErr};
+ghost use Rattle.std.specs.Prelude.{◌≡◌, false, [], Err};
+ghost use Rattle.asking.specs.declared.Refusal.TheVariants as refusal;
 ghost use Rattle.asking.specs.Asking.{asked};
 ghost use Rattle.axis.specs.Axes.{axis_of};
+ghost use Rattle.axis.specs.Questions.{known};
 ghost use Rattle.rules.specs.Table.{table_questions};
 ghost use Rattle.ordered.specs.Replies.{number_reply, pixel_reply};
 ghost use Rattle.promises.specs.Demand.{FineList, FinePart, DaysApart};
@@ -47,10 +49,10 @@ pub fn ticks_bold(
     n: i64,
     lent: &mut [i64],
 ) -> OrderedNumber
-    ensures listed { ForOk (axis_of kind start_head start_tail end_head end_tail end_excluded)
-        (λ a. FineList a (Hint.Bold (record { n = n })) result lent.new) }
-    ensures refused { ForErr (axis_of kind start_head start_tail end_head end_tail end_excluded)
-        (λ q. (result ≡ number_reply (Err q)) × (lent.new ≡ lent.old)) }
+    ensures listed { FineList (axis_of kind start_head start_tail end_head end_tail end_excluded)
+        (Hint.Bold (record { n = n })) result lent.new }
+    ensures refused { known (axis_of kind start_head start_tail end_head end_tail end_excluded) ≡ false →
+        (result ≡ number_reply (Err refusal.Kind)) × (lent.new ≡ lent.old) }
 {
     ordered::ordered_ticks_bold(
         kind,
@@ -75,10 +77,10 @@ pub fn ticks_light(
     n: i64,
     lent: &mut [i64],
 ) -> OrderedNumber
-    ensures listed { ForOk (axis_of kind start_head start_tail end_head end_tail end_excluded)
-        (λ a. FineList a (Hint.Light (record { bold = bold; n = n })) result lent.new) }
-    ensures refused { ForErr (axis_of kind start_head start_tail end_head end_tail end_excluded)
-        (λ q. (result ≡ number_reply (Err q)) × (lent.new ≡ lent.old)) }
+    ensures listed { FineList (axis_of kind start_head start_tail end_head end_tail end_excluded)
+        (Hint.Light (record { bold = bold; n = n })) result lent.new }
+    ensures refused { known (axis_of kind start_head start_tail end_head end_tail end_excluded) ≡ false →
+        (result ≡ number_reply (Err refusal.Kind)) × (lent.new ≡ lent.old) }
 {
     ordered::ordered_ticks_light(
         kind,
@@ -104,10 +106,10 @@ pub fn segment_ticks_bold(
     n: i64,
     lent: &mut [i64],
 ) -> OrderedNumber
-    ensures listed { ForOk (axis_of kind start_head start_tail end_head end_tail end_excluded)
-        (λ a. FineList a (Hint.Bold (record { n = n })) result lent.new) }
-    ensures refused { ForErr (axis_of kind start_head start_tail end_head end_tail end_excluded)
-        (λ q. (result ≡ number_reply (Err q)) × (lent.new ≡ lent.old)) }
+    ensures listed { FineList (axis_of kind start_head start_tail end_head end_tail end_excluded)
+        (Hint.Bold (record { n = n })) result lent.new }
+    ensures refused { known (axis_of kind start_head start_tail end_head end_tail end_excluded) ≡ false →
+        (result ≡ number_reply (Err refusal.Kind)) × (lent.new ≡ lent.old) }
 {
     ordered::ordered_segment_ticks_bold(
         kind,
@@ -133,10 +135,10 @@ pub fn segment_ticks_light(
     n: i64,
     lent: &mut [i64],
 ) -> OrderedNumber
-    ensures listed { ForOk (axis_of kind start_head start_tail end_head end_tail end_excluded)
-        (λ a. FineList a (Hint.Light (record { bold = bold; n = n })) result lent.new) }
-    ensures refused { ForErr (axis_of kind start_head start_tail end_head end_tail end_excluded)
-        (λ q. (result ≡ number_reply (Err q)) × (lent.new ≡ lent.old)) }
+    ensures listed { FineList (axis_of kind start_head start_tail end_head end_tail end_excluded)
+        (Hint.Light (record { bold = bold; n = n })) result lent.new }
+    ensures refused { known (axis_of kind start_head start_tail end_head end_tail end_excluded) ≡ false →
+        (result ≡ number_reply (Err refusal.Kind)) × (lent.new ≡ lent.old) }
 {
     ordered::ordered_segment_ticks_light(
         kind,
@@ -151,7 +153,7 @@ pub fn segment_ticks_light(
     )
 }
 
-// The part of the lent numbers that is handed back, with a bold or a light hint; empty where question 1 refuses the numbers.
+// The part of the lent numbers that is handed back, with a bold or a light hint; empty where the kind is none.
 pub fn key_points(
     kind: i64,
     start_head: i64,
@@ -162,13 +164,11 @@ pub fn key_points(
     h: Hint,
     lent: &mut [i64],
 ) -> &mut [i64]
-    ensures handed { ForOk (axis_of kind start_head start_tail end_head end_tail end_excluded)
-        (λ a. FinePart a h result.now) }
-    ensures refused { ForErr (axis_of kind start_head start_tail end_head end_tail end_excluded)
-        (λ q. result.now ≡ []) }
+    ensures handed { FinePart (axis_of kind start_head start_tail end_head end_tail end_excluded) h result.now }
+    ensures refused { known (axis_of kind start_head start_tail end_head end_tail end_excluded) ≡ false → result.now ≡ [] }
     ensures place { result.ref_ptr ≡ lent.entry.ref_ptr }
 {
-    let axis = axis::axis_of(
+    let a = axis::axis_of(
         kind,
         start_head,
         start_tail,
@@ -176,10 +176,7 @@ pub fn key_points(
         end_tail,
         end_excluded,
     );
-    match axis {
-        Ok(a) => ticks::key_points(a, h, lent),
-        Err(_) => &mut lent[..0],
-    }
+    ticks::key_points(a, h, lent)
 }
 
 // The pixels of two days.
@@ -195,11 +192,11 @@ pub fn map_days(
     first: i64,
     second: i64,
 ) -> TwoPixels
-    ensures apart { ForOk (axis_of kind start_head start_tail end_head end_tail end_excluded)
-        (λ a. DaysApart a (record { low = low; high = high }) first second
-        result.first result.second) }
-    ensures refused { ForErr (axis_of kind start_head start_tail end_head end_tail end_excluded)
-        (λ q. (result.first ≡ pixel_reply (Err q)) × (result.second ≡ pixel_reply (Err q))) }
+    ensures apart { DaysApart (axis_of kind start_head start_tail end_head end_tail end_excluded)
+        (record { low = low; high = high }) first second
+        result.first result.second }
+    ensures refused { known (axis_of kind start_head start_tail end_head end_tail end_excluded) ≡ false →
+        (result.first ≡ pixel_reply (Err refusal.Kind)) × (result.second ≡ pixel_reply (Err refusal.Kind)) }
 {
     TwoPixels {
         first: ordered::ordered_map(
@@ -242,14 +239,14 @@ pub fn map_value(
     head: i64,
     tail: i64,
 ) -> OrderedPixel
-    ensures off { ForOk (axis_of kind start_head start_tail end_head end_tail end_excluded)
-        (λ a. OffOf a (record { low = low; high = high }) (record { head = head; tail = tail })
-        result) }
-    ensures drawn { ForOk (axis_of kind start_head start_tail end_head end_tail end_excluded)
-        (λ a. DrawnOf a (record { low = low; high = high }) (record { head = head; tail = tail })
-        result) }
-    ensures refused { ForErr (axis_of kind start_head start_tail end_head end_tail end_excluded)
-        (λ q. result ≡ pixel_reply (Err q)) }
+    ensures off { OffOf (axis_of kind start_head start_tail end_head end_tail end_excluded)
+        (record { low = low; high = high }) (record { head = head; tail = tail })
+        result }
+    ensures drawn { DrawnOf (axis_of kind start_head start_tail end_head end_tail end_excluded)
+        (record { low = low; high = high }) (record { head = head; tail = tail })
+        result }
+    ensures refused { known (axis_of kind start_head start_tail end_head end_tail end_excluded) ≡ false →
+        result ≡ pixel_reply (Err refusal.Kind) }
 {
     ordered::ordered_map(
         kind,
@@ -276,12 +273,12 @@ pub fn map_ends(
     low: i64,
     high: i64,
 ) -> TwoPixels
-    ensures off { ForOk (axis_of kind start_head start_tail end_head end_tail end_excluded)
-        (λ a. AtEnds a (record { low = low; high = high }) result.first result.second) }
-    ensures drawn { ForOk (axis_of kind start_head start_tail end_head end_tail end_excluded)
-        (λ a. EndsDrawn a (record { low = low; high = high }) result.first result.second) }
-    ensures refused { ForErr (axis_of kind start_head start_tail end_head end_tail end_excluded)
-        (λ q. (result.first ≡ pixel_reply (Err q)) × (result.second ≡ pixel_reply (Err q))) }
+    ensures off { AtEnds (axis_of kind start_head start_tail end_head end_tail end_excluded)
+        (record { low = low; high = high }) result.first result.second }
+    ensures drawn { EndsDrawn (axis_of kind start_head start_tail end_head end_tail end_excluded)
+        (record { low = low; high = high }) result.first result.second }
+    ensures refused { known (axis_of kind start_head start_tail end_head end_tail end_excluded) ≡ false →
+        (result.first ≡ pixel_reply (Err refusal.Kind)) × (result.second ≡ pixel_reply (Err refusal.Kind)) }
 {
     TwoPixels {
         first: ordered::ordered_map(
@@ -325,9 +322,9 @@ pub fn lists_bold(
     lent: &mut [i64],
     beside: &mut [i64],
 ) -> Lists
-    ensures { ForOk (axis_of kind start_head start_tail end_head end_tail end_excluded)
-        (λ a. SameLists a (Hint.Bold (record { n = n })) from to lent.old beside.old
-        result lent.new beside.new) }
+    ensures { SameLists (axis_of kind start_head start_tail end_head end_tail end_excluded)
+        (Hint.Bold (record { n = n })) from to lent.old beside.old
+        result lent.new beside.new }
 {
     Lists {
         period: ordered::ordered_period_per_point(
@@ -368,9 +365,9 @@ pub fn lists_light(
     lent: &mut [i64],
     beside: &mut [i64],
 ) -> Lists
-    ensures { ForOk (axis_of kind start_head start_tail end_head end_tail end_excluded)
-        (λ a. SameLists a (Hint.Light (record { bold = bold; n = n })) from to
-        lent.old beside.old result lent.new beside.new) }
+    ensures { SameLists (axis_of kind start_head start_tail end_head end_tail end_excluded)
+        (Hint.Light (record { bold = bold; n = n })) from to
+        lent.old beside.old result lent.new beside.new }
 {
     Lists {
         period: ordered::ordered_period_per_point(
@@ -415,11 +412,10 @@ pub fn ticks_ruled(
     table: &[u8],
     lent: &mut [i64],
 ) -> OrderedNumber
-    ensures listed { ForOk (axis_of kind start_head start_tail end_head end_tail end_excluded)
-        (λ a. RuledList table.now a result lent.old lent.new) }
-    ensures refused { ForErr (axis_of kind start_head start_tail end_head end_tail end_excluded)
-        (λ q. (result ≡ number_reply (asked (table_questions table.now) (Err q)))
-        × (lent.new ≡ lent.old)) }
+    ensures listed { RuledList table.now (axis_of kind start_head start_tail end_head end_tail end_excluded)
+        result lent.old lent.new }
+    ensures refused { known (axis_of kind start_head start_tail end_head end_tail end_excluded) ≡ false →
+        (result ≡ number_reply (asked (table_questions table.now) (Err refusal.Kind))) × (lent.new ≡ lent.old) }
 {
     ordered::ordered_ticks_ruled(
         kind,

@@ -8,7 +8,7 @@ use Rattle.laws.specs.Numbers.{pos_part}
 use Rattle.axis.specs.declared.Axis.{Axis}
 use Rattle.axis.specs.declared.Limits.{Limits}
 use Rattle.axis.specs.Axes.{closed}
-use Rattle.axis.specs.Questions.{has_index, pixels, plain_questions, in_calendar}
+use Rattle.axis.specs.Questions.{known, has_index, pixels, plain_questions, in_calendar}
 use Rattle.mapping.specs.declared.Hairline.{Hairline}
 use Rattle.counting.specs.Counting.{size_of}
 use Rattle.discrete.specs.Indices.{value_at}
@@ -42,7 +42,7 @@ segment_map_questions a l s =
 
 -- ticks are asked for the kind's segments before all else; the rest are the questions of the axis' own ticks
 abbrev pub segment_kind_questions : Axis → List Question
-segment_kind_questions a = ask refusal.Operation (has_index a) ∷ []
+segment_kind_questions a = ask refusal.Kind (known a) ∷ (ask refusal.Operation (has_index a) ∷ [])
 
 -- ---- the answers
 unfoldable pub segment_map_answer : Axis → Limits → Segment → Result Hairline Refusal

@@ -55,7 +55,8 @@ struct Segments {
 }
 
 // The segment value of three numbers; none where they are of no case, or their value none of the kind. The numbers beside the
-// last are not read.
+// last are not read. Called apart it takes 45 instructions more, and with ask_segment apart 16 more.
+#[inline(always)]
 fn segment_of(a: Axis, s: Segment) -> Option<SegmentValue>
     ensures { result ≡ cond (segment_on a s) (Some (segment_of s)) None }
 {
@@ -86,6 +87,7 @@ fn even(z: i64) -> bool
 }
 
 // Question 8 of a segment value.
+#[inline(always)]
 fn ask_segment(a: Axis, s: Segment) -> Result<SegmentValue, Refusal>
     ensures { result ≡ asked (ask refusal.Value (segment_on a s) ∷ []) (Ok (segment_of s)) }
 {
@@ -271,6 +273,7 @@ pub fn map(a: Axis, l: Limits, s: Segment) -> Result<Hairline, Refusal>
 fn ask_kind(a: Axis) -> Result<(), Refusal>
     ensures { result ≡ asked (segment_kind_questions a) (Ok tt) }
 {
+    ask(Refusal::Kind, axis::known(a))?;
     ask(Refusal::Operation, axis::has_index(a))
 }
 

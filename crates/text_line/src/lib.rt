@@ -124,7 +124,9 @@ fn read_value(kind: Kind, s: &[u8]) -> Option<Value>
     match kind {
         Kind::Stamp | Kind::StampMonth | Kind::StampYear => Some(stamp_value(text_read::stamp(s)?)),
         Kind::Span => Some(span_value(text_read::span(s)?)),
-        Kind::Date | Kind::Month | Kind::Year | Kind::Week => Some(on_day(text_read::date(s)?, 0)),
+        Kind::Date | Kind::Month | Kind::Year | Kind::Week | Kind::Unknown => {
+            Some(on_day(text_read::date(s)?, 0))
+        }
     }
 }
 

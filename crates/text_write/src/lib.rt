@@ -151,7 +151,7 @@ fn tick<const CAP: usize>(out: &mut ArrayVec<u8, CAP>, shown: bool, kind: Kind, 
     ensures { Wrote 31 (tick_text shown kind v) out.old out.new }
 {
     match kind {
-        Kind::Date | Kind::Month | Kind::Year | Kind::Week => {
+        Kind::Date | Kind::Month | Kind::Year | Kind::Week | Kind::Unknown => {
             let d = calendar::date_of(v.head.unsigned_abs());
             date(out, d)
         }

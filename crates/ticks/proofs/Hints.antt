@@ -49,6 +49,7 @@ same_dates kind.StampMonth = refl
 same_dates kind.StampYear = refl
 same_dates kind.Span = refl
 same_dates kind.Week = refl
+same_dates kind.Unknown = refl
 
 same_times : (k : Kind) → over_date_times (finer_kind k) ≡ over_date_times k
 same_times kind.Date = refl
@@ -59,6 +60,7 @@ same_times kind.StampMonth = refl
 same_times kind.StampYear = refl
 same_times kind.Span = refl
 same_times kind.Week = refl
+same_times kind.Unknown = refl
 
 same_durations : (k : Kind) → is_duration (finer_kind k) ≡ is_duration k
 same_durations kind.Date = refl
@@ -69,6 +71,7 @@ same_durations kind.StampMonth = refl
 same_durations kind.StampYear = refl
 same_durations kind.Span = refl
 same_durations kind.Week = refl
+same_durations kind.Unknown = refl
 
 same_values : (k : Kind) (v : Value) → is_value (finer_kind k) v ≡ is_value k v
 unfolding is_value
@@ -177,6 +180,7 @@ period_no_dates a e =
     stamp_no_dates kind.StampYear e = absurd (true≢false (sym e))
     stamp_no_dates kind.Span e = absurd (true≢false (sym e))
     stamp_no_dates kind.Week e = absurd (true≢false (sym e))
+    stamp_no_dates kind.Unknown e = absurd (true≢false (sym e))
 
 pub limit_is : (h : Hint) → pos_part (points h) ≡ limit h
 limit_is (Bold h) = refl
@@ -184,8 +188,10 @@ limit_is (Light h) = refl
 
 module _ (a : Axis) where
   pub accepted : (h : Hint) → passes (tick_questions a h) ≡ true → Accepted a (limit h)
-  accepted (Bold h) e = row_accepted a true (hint_on a (Bold h)) h.n e (bold_range a h)
-  accepted (Light h) e = row_accepted a true (hint_on a (Light h)) h.n e (λ y. (light_range a h y).0)
+  accepted (Bold h) e =
+      row_accepted a true (hint_on a (Bold h)) h.n e (bold_range a h (told 1 (tick_questions a (Bold h)) e))
+  accepted (Light h) e =
+      row_accepted a true (hint_on a (Light h)) h.n e (λ y. (light_range a h (told 1 (tick_questions a (Light h)) e) y).0)
 
   -- the axis by which it lists passes what it passed
   pub same_hint : (h : Hint) → hint_on (closed a) h ≡ hint_on a h
@@ -201,11 +207,14 @@ module _ (a : Axis) where
 
   -- the hint's numbers
   pub bold_count : (h : BoldPoints) → passes (tick_questions a (Bold h)) ≡ true → neg_part h.n ≡ 0
-  bold_count h e = (bold_range a h (told 6 (tick_questions a (Bold h)) e)).none_below
+  bold_count h e = let row = tick_questions a (Bold h) in (bold_range a h (told 1 row e) (told 6 row e)).none_below
 
   pub light_counts : (h : LightPoints) → passes (tick_questions a (Light h)) ≡ true →
       (neg_part h.n ≡ 0) × (neg_part h.bold ≡ 0) × (pos_part h.bold ≤ 4096)
-  light_counts h e = let (r, z, m) = light_range a h (told 6 (tick_questions a (Light h)) e) in (r.none_below, z, m)
+  light_counts h e =
+      let row = tick_questions a (Light h) in
+      let (r, z, m) = light_range a h (told 1 row e) (told 6 row e) in
+      (r.none_below, z, m)
 
   -- N, which is the limit
   pub count_of_points : (h : Hint) → passes (tick_questions a h) ≡ true → neg_part (points h) ≡ 0
@@ -237,8 +246,8 @@ module _ (a : Axis) where
       Accepted a (pos_part h.n) × (1 ≤ pos_part h.n) × (neg_part h.n ≡ 0)
   period_accepted h e =
       let row = period_questions a h in
-      let q = row_accepted a (has_period a) (hint_on a (Bold h)) h.n e (bold_range a h) in
-      (q, q.some (period_no_dates a (told 2 row e)), (bold_range a h (told 6 row e)).none_below)
+      let q = row_accepted a (has_period a) (hint_on a (Bold h)) h.n e (bold_range a h (told 1 row e)) in
+      (q, q.some (period_no_dates a (told 2 row e)), (bold_range a h (told 1 row e) (told 6 row e)).none_below)
 
 -- what the code knows of the finer axis, and of the one that lists
 pub ruleset refining = (has_finer, none_finer, no_duration, stays_fine, stays_coarse, goes_finer)

@@ -48,6 +48,7 @@ month_finer a e = go a.kind e
     go kind.StampYear e = absurd (true≢false (sym e))
     go kind.Span e = refl
     go kind.Week e = refl
+    go kind.Unknown e = refl
 
 year_finer : (a : Axis) → yearly a ≡ true → monthly (finer a) ≡ true
 unfolding monthly yearly
@@ -62,6 +63,7 @@ year_finer a e = go a.kind e
     go kind.StampYear e = refl
     go kind.Span e = e
     go kind.Week e = e
+    go kind.Unknown e = e
 
 -- ---- the axis that lists
 module _ (turns b n : ℕ) where

@@ -27,7 +27,7 @@ fn finer_kind(kind: Kind) -> Option<Kind>
         Kind::Year => Some(Kind::Month),
         Kind::StampMonth => Some(Kind::Stamp),
         Kind::StampYear => Some(Kind::StampMonth),
-        Kind::Date | Kind::Stamp | Kind::Span | Kind::Week => None,
+        Kind::Date | Kind::Stamp | Kind::Span | Kind::Week | Kind::Unknown => None,
     }
 }
 

@@ -13,7 +13,8 @@ use Rattle.laws.proofs.Tests.{both_true}
 use Rattle.values.specs.declared.Kind.{Kind}
 use Rattle.values.specs.declared.Kind.TheVariants as kind
 use Rattle.values.specs.declared.Value.{Value}
-use Rattle.values.specs.Values.{over_dates, over_date_times, is_stamp, is_duration, a_date, a_date_time, a_duration, is_value}
+use Rattle.values.specs.Values.{is_kind, over_dates, over_date_times, is_stamp, is_duration}
+use Rattle.values.specs.Values.{a_date, a_date_time, a_duration, is_value}
 use Rattle.calendar.specs.Questions.{is_day}
 use Rattle.values.proofs.Numbers.{within_true, not_below, bounded, either_true, or_false}
 
@@ -28,6 +29,7 @@ dates_range kind.Stamp e = absurd (true≢false (sym e))
 dates_range kind.StampMonth e = absurd (true≢false (sym e))
 dates_range kind.StampYear e = absurd (true≢false (sym e))
 dates_range kind.Span e = absurd (true≢false (sym e))
+dates_range kind.Unknown e = absurd (true≢false (sym e))
 dates_range kind.Week e = inr (inr (inr refl))
 
 pub dates_no_times : (k : Kind) → over_dates k ≡ true → over_date_times k ≡ false
@@ -38,6 +40,7 @@ dates_no_times kind.Stamp e = absurd (true≢false (sym e))
 dates_no_times kind.StampMonth e = absurd (true≢false (sym e))
 dates_no_times kind.StampYear e = absurd (true≢false (sym e))
 dates_no_times kind.Span e = absurd (true≢false (sym e))
+dates_no_times kind.Unknown e = absurd (true≢false (sym e))
 dates_no_times kind.Week e = refl
 
 pub dates_no_duration : (k : Kind) → over_dates k ≡ true → is_duration k ≡ false
@@ -48,6 +51,7 @@ dates_no_duration kind.Stamp e = absurd (true≢false (sym e))
 dates_no_duration kind.StampMonth e = absurd (true≢false (sym e))
 dates_no_duration kind.StampYear e = absurd (true≢false (sym e))
 dates_no_duration kind.Span e = absurd (true≢false (sym e))
+dates_no_duration kind.Unknown e = absurd (true≢false (sym e))
 dates_no_duration kind.Week e = refl
 
 pub times_no_dates : (k : Kind) → over_date_times k ≡ true → over_dates k ≡ false
@@ -58,6 +62,7 @@ times_no_dates kind.Stamp e = refl
 times_no_dates kind.StampMonth e = refl
 times_no_dates kind.StampYear e = refl
 times_no_dates kind.Span e = absurd (true≢false (sym e))
+times_no_dates kind.Unknown e = absurd (true≢false (sym e))
 times_no_dates kind.Week e = absurd (true≢false (sym e))
 
 pub times_no_duration : (k : Kind) → over_date_times k ≡ true → is_duration k ≡ false
@@ -68,6 +73,7 @@ times_no_duration kind.Stamp e = refl
 times_no_duration kind.StampMonth e = refl
 times_no_duration kind.StampYear e = refl
 times_no_duration kind.Span e = absurd (true≢false (sym e))
+times_no_duration kind.Unknown e = absurd (true≢false (sym e))
 times_no_duration kind.Week e = absurd (true≢false (sym e))
 
 pub duration_no_dates : (k : Kind) → is_duration k ≡ true → over_dates k ≡ false
@@ -78,6 +84,7 @@ duration_no_dates kind.Stamp e = absurd (true≢false (sym e))
 duration_no_dates kind.StampMonth e = absurd (true≢false (sym e))
 duration_no_dates kind.StampYear e = absurd (true≢false (sym e))
 duration_no_dates kind.Span e = refl
+duration_no_dates kind.Unknown e = absurd (true≢false (sym e))
 duration_no_dates kind.Week e = absurd (true≢false (sym e))
 
 pub duration_no_times : (k : Kind) → is_duration k ≡ true → over_date_times k ≡ false
@@ -88,6 +95,7 @@ duration_no_times kind.Stamp e = absurd (true≢false (sym e))
 duration_no_times kind.StampMonth e = absurd (true≢false (sym e))
 duration_no_times kind.StampYear e = absurd (true≢false (sym e))
 duration_no_times kind.Span e = refl
+duration_no_times kind.Unknown e = absurd (true≢false (sym e))
 duration_no_times kind.Week e = absurd (true≢false (sym e))
 
 pub dates_no_stamp : (k : Kind) → over_dates k ≡ true → is_stamp k ≡ false
@@ -98,6 +106,7 @@ dates_no_stamp kind.Stamp e = absurd (true≢false (sym e))
 dates_no_stamp kind.StampMonth e = absurd (true≢false (sym e))
 dates_no_stamp kind.StampYear e = absurd (true≢false (sym e))
 dates_no_stamp kind.Span e = absurd (true≢false (sym e))
+dates_no_stamp kind.Unknown e = absurd (true≢false (sym e))
 dates_no_stamp kind.Week e = refl
 
 pub is_span : (k : Kind) → is_duration k ≡ true → k ≡ kind.Span
@@ -108,18 +117,23 @@ is_span kind.Stamp e = absurd (true≢false (sym e))
 is_span kind.StampMonth e = absurd (true≢false (sym e))
 is_span kind.StampYear e = absurd (true≢false (sym e))
 is_span kind.Span e = refl
+is_span kind.Unknown e = absurd (true≢false (sym e))
 is_span kind.Week e = absurd (true≢false (sym e))
 
--- what is left is over date-times
-pub times_left : (k : Kind) → is_duration k ≡ false → over_dates k ≡ false → over_date_times k ≡ true
-times_left kind.Date n d = absurd (true≢false d)
-times_left kind.Month n d = absurd (true≢false d)
-times_left kind.Year n d = absurd (true≢false d)
-times_left kind.Stamp n d = refl
-times_left kind.StampMonth n d = refl
-times_left kind.StampYear n d = refl
-times_left kind.Span n d = absurd (true≢false n)
-times_left kind.Week n d = absurd (true≢false d)
+pub duration_is_kind : (k : Kind) → is_duration k ≡ true → is_kind k ≡ true
+duration_is_kind k e = rw (is_span k e)
+
+-- what is left of the kinds is over date-times
+pub times_left : (k : Kind) → is_kind k ≡ true → is_duration k ≡ false → over_dates k ≡ false → over_date_times k ≡ true
+times_left kind.Date _ n d = absurd (true≢false d)
+times_left kind.Month _ n d = absurd (true≢false d)
+times_left kind.Year _ n d = absurd (true≢false d)
+times_left kind.Stamp _ n d = refl
+times_left kind.StampMonth _ n d = refl
+times_left kind.StampYear _ n d = refl
+times_left kind.Span _ n d = absurd (true≢false n)
+times_left kind.Unknown k n d = absurd (true≢false (sym k))
+times_left kind.Week _ n d = absurd (true≢false d)
 
 -- ---- what the arms of a match say
 pub in_dates : (k : Kind) → (k ≡ kind.Date) ⊎ ((k ≡ kind.Month) ⊎ ((k ≡ kind.Year) ⊎ (k ≡ kind.Week))) → over_dates k ≡ true
@@ -145,6 +159,31 @@ module _ (kind : Kind) (v : Value) where
   pub of_durations : is_duration kind ≡ true → is_value kind v ≡ a_duration v
   unfolding is_value
   of_durations e = rw (duration_no_dates kind e, duration_no_times kind e, e)
+
+-- what is of no kind has no values
+pub none_of_none : (k : Kind) (v : Value) → k ≡ kind.Unknown → is_value k v ≡ false
+unfolding is_value
+none_of_none k v e = rw e
+
+pub value_is_kind : (k : Kind) (v : Value) → is_value k v ≡ true → is_kind k ≡ true
+value_is_kind kind.Unknown v e = absurd (true≢false (sym e ∙ none_of_none kind.Unknown v refl))
+value_is_kind kind.Date v e = refl
+value_is_kind kind.Month v e = refl
+value_is_kind kind.Year v e = refl
+value_is_kind kind.Stamp v e = refl
+value_is_kind kind.StampMonth v e = refl
+value_is_kind kind.StampYear v e = refl
+value_is_kind kind.Span v e = refl
+value_is_kind kind.Week v e = refl
+
+-- the arm of dates, where what is of no kind goes with them
+pub in_dates_or_none : (k : Kind) (v : Value) → is_value k v ≡ true →
+    (k ≡ kind.Date) ⊎ ((k ≡ kind.Month) ⊎ ((k ≡ kind.Year) ⊎ ((k ≡ kind.Week) ⊎ (k ≡ kind.Unknown)))) → over_dates k ≡ true
+in_dates_or_none k v f (inl e) = rw e
+in_dates_or_none k v f (inr (inl e)) = rw e
+in_dates_or_none k v f (inr (inr (inl e))) = rw e
+in_dates_or_none k v f (inr (inr (inr (inl e)))) = rw e
+in_dates_or_none k v f (inr (inr (inr (inr e)))) = absurd (true≢false (sym f ∙ none_of_none k v e))
 
 -- a value of a kind is a date, a date-time or a duration
 pub by_form : {A : Type 0} (kind : Kind) (v : Value) → is_value kind v ≡ true → (over_dates kind ≡ true → a_date v ≡ true → A) →

@@ -1,6 +1,7 @@
 -- Values of the eight kinds (question 3, and question 8 of a value) and their order. Definitions only.
--- Kinds 1 to 3 and 8 are over dates, 4 to 6 over date-times, 7 over durations.
+-- Kinds 1 to 3 and 8 are over dates, 4 to 6 over date-times, 7 over durations. What is of no kind has no values.
 use Rattle.std.specs.Prelude.{◌≡◌, Bool, true, false, cond, ◌&&◌, ◌||◌, ℕ, eqb, ℤ, pos, negsuc, Result, Ok, Err}
+use Rattle.std.specs.Result.{result_unwrap_or}
 use Rattle.std.specs.Int.Signed.{lt_z, le_z}
 use Rattle.laws.specs.Numbers.{minus, within, is_number}
 use Rattle.calendar.specs.Questions.{is_day}
@@ -27,6 +28,15 @@ kind_numbered n =
 abbrev pub kind_of : ℤ → Result Kind Refusal
 kind_of (pos n) = kind_numbered n
 kind_of (negsuc n) = Err refusal.Kind
+
+-- the kind of any number: what question 1 refuses is of no kind
+unfoldable pub numbered : ℤ → Kind
+numbered n = result_unwrap_or (kind_of n) kind.Unknown
+
+-- one of the eight
+abbrev pub is_kind : Kind → Bool
+is_kind kind.Unknown = false
+is_kind k = true
 
 -- the kinds over dates
 abbrev pub over_dates : Kind → Bool

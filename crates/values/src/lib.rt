@@ -2,15 +2,16 @@
 #![tactic(auto)]
 
 ghost use Rattle.std.specs.Prelude.{◌≡◌};
-ghost use Rattle.values.specs.Values.{kind_of, over_dates, is_duration, is_value, Both};
+ghost use Rattle.values.specs.Values.{kind_of, numbered, over_dates, is_duration, is_value, Both};
 ghost use Rattle.values.specs.Differences.{unit, difference, nanoseconds_of, whole_days, Cut};
 
 use asking::Refusal;
 
 // What an axis is over, and how it counts: days, months and years of dates; the same of date-times, but that Stamp counts
-// nothing; durations; weeks of dates. The numbers are those of ordered_kinds in include/ordered.h.
+// nothing; durations; weeks of dates. The numbers are those of ordered_kinds in include/ordered.h; all others are no kind.
 #[derive(Clone, Copy, Debug, PartialEq, Eq)]
 pub enum Kind {
+    Unknown = 0,
     Date = 1,
     Month = 2,
     Year = 3,
@@ -21,7 +22,7 @@ pub enum Kind {
     Week = 8,
 }
 
-// Question 1.
+// Question 1 of a number; of a kind it is `axis::known`.
 impl TryFrom<i64> for Kind {
     type Error = Refusal;
 
@@ -50,6 +51,14 @@ pub struct Value {
 }
 
 impl Kind {
+    // The kind of any number. No `From<i64>`: with one, std's own `TryFrom` would never fail.
+    #[tactic(auto, unfolding(crate::specs::Values::numbered))]
+    pub fn numbered(number: i64) -> Kind
+        ensures { result ≡ numbered number }
+    {
+        Kind::try_from(number).unwrap_or(Kind::Unknown)
+    }
+
     // Is the kind over dates?
     pub fn over_dates(self) -> bool
         ensures { result ≡ over_dates self }
@@ -94,6 +103,7 @@ pub fn is_value(kind: Kind, v: Value) -> bool
                 & (v.head <= 315576000000)
                 & ((0 <= v.tail) & (v.tail <= 999999999))
         }
+        Kind::Unknown => false,
     }
 }
 

@@ -23,4 +23,4 @@ returns c = rw (
   to_z-of_z (end_range (goal.at.returns c).Start).tail,
   to_z-of_z {w = w64} {z = c.tail_most-most.result} (search rules),
   c.tail_most-most.ensures,
-) (day_ends_law c.args.a c.requires)
+) (day_ends_law c.args.a c.requires.0 c.requires.1)

@@ -26,6 +26,9 @@ returns-then-a c =
 pub returns : goal.returns
 returns c = let a = c.args.a in
     let e : lt_z a.start.head a.end.head ≡ false =
-    rw (to_z-of_z (start_range (goal.at.returns c).Start).head, to_z-of_z (end_range (goal.at.returns c).Start).head) at c.if-a.false in
+    rw (
+      to_z-of_z (start_range (goal.at.returns c).Start).head,
+      to_z-of_z (end_range (goal.at.returns c).Start).head,
+    ) at c.if-a.false in
     c.le.ensures
     ∙ rw (less_or_same a.start a.end, e) (heads_not_apart a e)

@@ -18,8 +18,10 @@ end_range c = search rules
 pub returns-then-a : goal.returns-then-a
 unfolding mappable earlier
 returns-then-a c =
-    rw (rw (to_z-of_z (start_range (goal.at.returns-then-a c).Start).head, to_z-of_z (end_range (goal.at.returns-then-a c).Start).head)
-    at c.if-a.true)
+    rw (rw (
+      to_z-of_z (start_range (goal.at.returns-then-a c).Start).head,
+      to_z-of_z (end_range (goal.at.returns-then-a c).Start).head,
+    ) at c.if-a.true)
 
 pub returns : goal.returns
 unfolding mappable

@@ -21,6 +21,7 @@ others kind.StampMonth n = refl
 others kind.StampYear n = refl
 others kind.Span n = refl
 others kind.Week n = refl
+others kind.Unknown n = refl
 
 pub returns-in-Stamp : goal.returns-in-Stamp
 unfolding value_under

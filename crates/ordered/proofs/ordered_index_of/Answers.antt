@@ -10,7 +10,7 @@ use Rattle.ordered.proofs.ordered_index_of.Goals as goal
 
 pub returns : goal.returns
 returns c = let v : Value = record { head = c.args.head; tail = c.args.tail } in
-    let said = index_on c.axis_of-axis.result index_reply (λ a. index_answer a v) c.from.ensures
-    (λ a n p. omega (arith, index_most a v n p))
+    let said = index_on index_reply (index_answer c.axis_of-a.result v) c.from.ensures
+    (λ n p. omega (arith, index_most _ v n p))
     (search rules) in
     search rules

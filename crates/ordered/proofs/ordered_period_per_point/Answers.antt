@@ -8,6 +8,6 @@ use Rattle.ordered.proofs.ordered_period_per_point.Goals as goal
 
 pub returns : goal.returns
 returns c = let h : BoldPoints = record { n = c.args.n } in
-    let said = index_on c.axis_of-axis.result period_reply (λ a. period_answer a h) c.from.ensures (λ a n. period_most a h n)
+    let said = index_on period_reply (period_answer c.axis_of-a.result h) c.from.ensures (λ n. period_most _ h n)
     (search rules) in
     search rules

@@ -10,7 +10,7 @@ use Rattle.ordered.proofs.ordered_segment_index_of.Goals as goal
 
 pub returns : goal.returns
 returns c = let s : Segment = record { case = c.args.segment; head = c.args.head; tail = c.args.tail } in
-    let said = index_on c.axis_of-axis.result index_reply (λ a. segment_index_answer a s) c.from.ensures
-    (λ a n p. omega (arith, segment_index_range a s n p))
+    let said = index_on index_reply (segment_index_answer c.axis_of-a.result s) c.from.ensures
+    (λ n p. omega (arith, segment_index_range _ s n p))
     (search rules) in
     search rules

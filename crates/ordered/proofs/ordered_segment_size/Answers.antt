@@ -7,7 +7,7 @@ use Rattle.ordered.proofs.Counts.{number_on}
 use Rattle.ordered.proofs.ordered_segment_size.Goals as goal
 
 pub returns : goal.returns
-returns c = let said = number_on c.axis_of-axis.result segment_size_answer c.from.ensures
-    (λ a n p. omega (arith, segment_size_range a n p))
+returns c = let said = number_on (segment_size_answer c.axis_of-a.result) c.from.ensures
+    (λ n p. omega (arith, segment_size_range _ n p))
     (search rules) in
     search rules

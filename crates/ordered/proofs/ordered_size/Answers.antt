@@ -7,6 +7,6 @@ use Rattle.ordered.proofs.Counts.{number_on}
 use Rattle.ordered.proofs.ordered_size.Goals as goal
 
 pub returns : goal.returns
-returns c = let said = number_on c.axis_of-axis.result size_answer c.from.ensures (λ a n p. omega (arith, size_range a n p))
+returns c = let said = number_on (size_answer c.axis_of-a.result) c.from.ensures (λ n p. omega (arith, size_range _ n p))
     (search rules) in
     search rules

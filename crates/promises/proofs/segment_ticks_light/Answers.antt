@@ -1,15 +1,33 @@
 -- `promises::segment_ticks_light` meets its contract: the theorem, of what the export answers and leaves. Assumes nothing.
-use Rattle.std.proofs.Common.{rules}
+use mathlib.Core.Path.{◌∙◌, ap}
+use lib.ListN.{length}
 use Rattle.axis.specs.declared.Hint.TheVariants.{Light}
+use Rattle.axis.specs.Axes.{axis_of}
+use Rattle.axis.proofs.Axes.{axis_read}
 use Rattle.segmented.specs.Answers.{segment_ticks_answer, segment_ticks_written}
+use Rattle.ordered.specs.Replies.{number_reply}
+use Rattle.ordered.proofs.Axes.{light_read}
 use Rattle.promises.proofs.Demand.{segments_fine}
-use Rattle.promises.proofs.Calls.{list_called}
+use Rattle.promises.proofs.Calls.{list_read, list_called}
+use Rattle.promises.proofs.UnknownKinds.{segment_ticks_refused, segment_ticks_kept}
 use Rattle.promises.proofs.segment_ticks_light.Goals as goal
 
 pub returns-clause-listed : goal.returns-clause-listed
-returns-clause-listed c a e = let is = c.ordered_segment_ticks_light.ensures in
-    let h = Light (record { bold = c.args.bold; n = c.args.n }) in
-    let d = c.args.lent.now in
-    list_called segment_ticks_answer segment_ticks_written segments_fine a h d is.value is.after_call
-    (search rules)
-    (search rules)
+returns-clause-listed c = let x = c.args in
+    let f = c.ranges in
+    let a = axis_of x.kind x.start_head x.start_tail x.end_head x.end_tail x.end_excluded in
+    let axis = axis_read f.kind f.start_head f.start_tail f.end_head f.end_tail f.end_excluded in
+    let is = c.ordered_segment_ticks_light.ensures in
+    list_called segment_ticks_answer segment_ticks_written segments_fine a (Light (record { bold = x.bold; n = x.n })) x.lent.now
+    is.value is.after_call axis (light_read f.bold f.n)
+
+pub returns-clause-refused : goal.returns-clause-refused
+returns-clause-refused c = λ none. let x = c.args in
+    let f = c.ranges in
+    let a = axis_of x.kind x.start_head x.start_tail x.end_head x.end_tail x.end_excluded in
+    let axis = axis_read f.kind f.start_head f.start_tail f.end_head f.end_tail f.end_excluded in
+    let h = Light (record { bold = x.bold; n = x.n }) in
+    let is = c.ordered_segment_ticks_light.ensures in
+    let (r, l) =
+    list_read segment_ticks_answer segment_ticks_written a h x.lent.now is.value is.after_call axis (light_read f.bold f.n) in
+    (r ∙ ap number_reply (segment_ticks_refused a none h (length x.lent.now)), l ∙ segment_ticks_kept a none h x.lent.now)

@@ -1,10 +1,10 @@
 -- `segmented::size` meets its contract. Assumes nothing.
-use borrow.Author.Rules.{rules}
 use mathlib.Core.Path.{◌≡◌, sym, ◌∙◌, ap}
 use native.Mathlib.Omega.{arith}
 use Prim.Native.Nat.{ℕ, ◌+◌}
 use Rattle.std.specs.Prelude.{Ok}
-use Rattle.asking.proofs.Asked.{answered_ok, passed}
+use Rattle.std.proofs.lemmas.Result.{err_from_is_err_and}
+use Rattle.asking.proofs.Asked.{answered_ok, passed, refused}
 use Rattle.axis.specs.Axes.{closed}
 use Rattle.counting.specs.Counting.{size_of}
 use Rattle.discrete.specs.Answers.{size_questions, size_answer}
@@ -15,7 +15,9 @@ use Rattle.segmented.proofs.size.Goals as goal
 
 pub returns-in_err-size : goal.returns-in_err-size
 unfolding segment_size_answer size_answer
-returns-in_err-size c = search rules
+returns-in_err-size c = let a = c.args.a in
+    let p = err_from_is_err_and c.from_residual.result c.from_residual.ensures.1 in
+    rw (p.1, p.2) (refused (size_questions a) (size_of (closed a)) (Ok (segments a + 1)) _ (sym c.in_err-size.ensures))
 
 pub overflow_add-result : goal.overflow_add-result
 overflow_add-result c = omega (arith, size_range c.args.a c.in_ok-size.field-0 (sym c.in_ok-size.ensures))

@@ -51,12 +51,13 @@ returns-in_ok-span-in-Span c =
     rw (c.span_value.ensures, c.in-Span.is, ← c.span.ensures.value, c.in_ok-span-in-Span.was)
 
 -- ---- dates
-dates : (k : Kind) → (k ≡ kind.Date) ⊎ ((k ≡ kind.Month) ⊎ ((k ≡ kind.Year) ⊎ (k ≡ kind.Week))) →
+dates : (k : Kind) → (k ≡ kind.Date) ⊎ ((k ≡ kind.Month) ⊎ ((k ≡ kind.Year) ⊎ ((k ≡ kind.Week) ⊎ (k ≡ kind.Unknown)))) →
     (over_date_times k ≡ false) × (is_duration k ≡ false)
 dates k (inl e) = (rw e, rw e)
 dates k (inr (inl e)) = (rw e, rw e)
 dates k (inr (inr (inl e))) = (rw e, rw e)
-dates k (inr (inr (inr e))) = (rw e, rw e)
+dates k (inr (inr (inr (inl e)))) = (rw e, rw e)
+dates k (inr (inr (inr (inr e)))) = (rw e, rw e)
 
 pub returns-in_err-date-in-Date : goal.returns-in_err-date-in-Date
 unfolding read_value

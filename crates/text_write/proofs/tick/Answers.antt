@@ -10,7 +10,7 @@ use mir.Facts.{to_z-of_z}
 use Rattle.laws.specs.Numbers.{pos_part, neg_part}
 use Rattle.laws.proofs.Signed.{abs}
 use Rattle.calendar.specs.Gregorian.{date_of}
-use Rattle.values.proofs.Values.{in_dates, in_times, dates_no_times, dates_no_duration, times_no_duration, day_value}
+use Rattle.values.proofs.Values.{in_dates_or_none, in_times, dates_no_times, dates_no_duration, times_no_duration, day_value}
 use Rattle.text_write.specs.Texts.{ymd_text}
 use Rattle.text_write.specs.Rows.{tick_text}
 use Rattle.text_write.proofs.Writing.{within, same_text}
@@ -29,14 +29,15 @@ tail_fits {g} c = search rules
 
 pub date_of-d-requires : goal.date_of-d-requires
 date_of-d-requires g c =
-    let d = day_value _ _ c.requires.0 (dates_no_duration c.args.kind (in_dates c.args.kind c.in-Date.is)) in
+    let over = in_dates_or_none c.args.kind c.args.v c.requires.0 c.in-Date.is in
+    let d = day_value _ _ c.requires.0 (dates_no_duration c.args.kind over) in
     let e = up (head_fits (goal.at.date_of-d-requires g c).Start) d.head_dn c.unsigned_abs.ensures.value in
     (omega (arith, e), omega (arith, e))
 
 pub returns-in-Date : goal.returns-in-Date
 unfolding tick_text
 returns-in-Date g c =
-    let k = in_dates c.args.kind c.in-Date.is in
+    let k = in_dates_or_none c.args.kind c.args.v c.requires.0 c.in-Date.is in
     let n = dates_no_duration c.args.kind k in
     let d = day_value _ _ c.requires.0 n in
     let e = up (head_fits (goal.at.returns-in-Date g c).Start) d.head_dn c.unsigned_abs.ensures.value in

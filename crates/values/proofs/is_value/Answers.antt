@@ -5,7 +5,7 @@ use native.Mathlib.Omega.{arith}
 use lib.IntN.{pos}
 use mir.Facts.{to_z-of_z}
 use Rattle.laws.proofs.Signed.{count_fits}
-use Rattle.values.proofs.Values.{InRange, in_dates, in_times, of_dates, of_date_times, of_durations}
+use Rattle.values.proofs.Values.{InRange, in_dates, in_times, of_dates, of_date_times, of_durations, none_of_none}
 use Rattle.values.proofs.Order.{tested_equal}
 use Rattle.values.proofs.is_value.Goals as goal
 
@@ -22,3 +22,6 @@ returns-in-Stamp c = let r : InRange c.args.v = search rules in
 pub returns-in-Span : goal.returns-in-Span
 returns-in-Span c = let r : InRange c.args.v = search rules in
     rw (to_z-of_z r.head, to_z-of_z r.tail) (sym (of_durations c.args.kind c.args.v (rw c.in-Span.is)))
+
+pub returns-in-Unknown : goal.returns-in-Unknown
+returns-in-Unknown c = sym (none_of_none c.args.kind c.args.v c.in-Unknown.is)
