@@ -78,6 +78,17 @@ impl Line {
         self.bytes[self.len..end].copy_from_slice(&part[..n]);
         self.len = end;
     }
+
+    // The line that the part ends, as far as 121 bytes go. Where nothing was kept, it stands in the part and is not copied.
+    pub fn ended_by<'a>(&'a mut self, part: &'a [u8]) -> &'a [u8]
+        ensures { result.now ≡ line_of self.old.items part.now }
+    {
+        if self.len == 0 {
+            return &part[..part.len().min(121)];
+        }
+        self.keep(part);
+        self.as_slice()
+    }
 }
 
 // The bytes of the chunk up to its first LF go to the line that was begun. Where there is a LF, the line has ended, and

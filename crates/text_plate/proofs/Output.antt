@@ -3,7 +3,7 @@
 use mathlib.Core.Path.{◌≡◌, refl, sym, ap, ◌∙◌}
 use mathlib.Core.Bool.{Bool, true, false, cond}
 use mathlib.Core.List.{List, [], ◌∷◌, ◌++◌, append_assoc, append-nil}
-use Prim.Native.Nat.{ℕ, zero, suc, ◌+◌, ◌≤◌, ◌<◌}
+use Prim.Native.Nat.{ℕ, zero, suc, ◌+◌, ◌-◌, ◌≤◌, ◌<◌}
 use native.Mathlib.Numerals.{add-one}
 use native.Mathlib.Omega.{arith}
 use lib.Dec.{eqb, ltb}
@@ -164,6 +164,16 @@ turned_end s chunk rest line clear {before} {out} {k} {n} g h goes e next w = by
       counted = omega (arith, less, next.1);
       output = λ l more. written more [] (rw (← q));
     }
+
+-- ---- turns
+-- over a chunk, or none yet: what holds after them, but that something is read. While nothing is, nothing is written
+pub record Going (s : State) (chunk rest : List ℕ) (after : State) (before out : ArrayVec ℕ) : Type 0 where
+  pub ending : rest ≡ drop (length chunk - length rest) chunk
+  pub counted : after.number + length rest ≤ s.number + length chunk
+  pub none_yet : length rest ≡ length chunk → out ≡ before
+  pub output : s.number + length chunk ≤ most → (more : List ℕ)
+      → before.items ++ to_come s.number s.line.items (chunk ++ more)
+      ≡ out.items ++ to_come after.number after.line.items (rest ++ more)
 
 -- ---- the whole output
 -- bytes before the first of the lines

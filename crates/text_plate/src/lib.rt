@@ -90,10 +90,13 @@ impl State {
         requires { Room CAP 307275 printer.old.out }
         ensures { Turned self.old chunk.now (option_copied result) self.new printer.old.out printer.new.out }
     {
-        let Some(rest) = feed::feed(&mut self.line, chunk) else {
+        // most lines stand whole in a chunk, and are read there
+        let k = text_read::until(chunk, b'\n');
+        let Some(rest) = chunk.get(k + 1..) else {
+            self.line.keep(chunk);
             return Some(&[]);
         };
-        let goes = finished(self.number, self.line.as_slice(), printer);
+        let goes = finished(self.number, self.line.ended_by(&chunk[..k]), printer);
         self.number = self.number.saturating_add(1);
         self.line.clear();
         goes.then_some(rest)
@@ -108,7 +111,7 @@ impl State {
         requires { Room CAP 307275 printer.old.out }
         ensures { Turned self.old chunk.now (option_copied result) self.new printer.old.out printer.new.out }
     {
-        let mut rest = self.turn(chunk, printer)?;
+        let mut rest = chunk;
         // a while: a turn says what is left, and goes on only where there is room, so no iterator over the chunk gives it
         while !rest.is_empty() && MOST <= printer.out.remaining_capacity() {
             rest = self.turn(rest, printer)?;

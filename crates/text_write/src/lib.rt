@@ -43,9 +43,10 @@ fn up_to<const CAP: usize>(out: &mut ArrayVec<u8, CAP>, k: usize, n: u64)
     if k == 0 {
         return;
     }
-    if 10 <= n {
-        up_to(out, k - 1, n / 10);
+    if n < 10 {
+        return out.push(b'0' + (n % 10) as u8);
     }
+    up_to(out, k - 1, n / 10);
     out.push(b'0' + (n % 10) as u8);
 }
 
