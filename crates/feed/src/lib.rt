@@ -79,7 +79,8 @@ impl Line {
         self.len = end;
     }
 
-    // The line that the part ends, as far as 121 bytes go. Where nothing was kept, it stands in the part and is not copied.
+    // The line that the part ends, as far as 121 bytes go. Where nothing was kept, it stands in the part and is not copied, so
+    // nothing is said of what is kept after it: who reads the line clears it then.
     pub fn ended_by<'a>(&'a mut self, part: &'a [u8]) -> &'a [u8]
         ensures { result.now ≡ line_of self.old.items part.now }
     {
@@ -92,7 +93,7 @@ impl Line {
 }
 
 // The bytes of the chunk up to its first LF go to the line that was begun. Where there is a LF, the line has ended, and
-// what stands behind it is left.
+// what stands behind it is left. Each line is kept by this; plate's turn takes the same steps and reads a line by `ended_by`.
 pub fn feed<'a>(line: &mut Line, chunk: &'a [u8]) -> Option<&'a [u8]>
     ensures { Ate line.old.items chunk.now (option_copied result) line.new.items }
 {
